@@ -1,0 +1,10 @@
+pub mod Primality
+pub mod Modular
+pub mod Elements
+pub mod ByResidues
+pub mod Laws
+pub mod Rounding
+pub mod Counting
+pub mod Signed
+pub mod Calls
+pub mod Table

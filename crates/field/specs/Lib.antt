@@ -1,0 +1,5 @@
+pub mod Prime
+pub mod Element
+pub mod Operations
+pub mod Counts
+pub mod Cases
