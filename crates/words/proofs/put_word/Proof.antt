@@ -1,9 +1,7 @@
+-- `words::put_word` meets its contract. Assumes nothing.
 use borrow.Author.Needs.{needs}
 use Rattle.words.proofs.put_word.Statement.{statement}
 use Rattle.words.proofs.put_word.Tie as tie
-use Rattle.words.proofs.put_word.Reads as reads
-use Rattle.words.proofs.put_word.Lts as lts
-use borrow.Author.Needs.{needs}
 use native.Mathlib.Omega.{arith}
 use Rattle.words.specs.Words.{setWord}
 use mathlib.Core.Path.{refl}

@@ -1,10 +1,7 @@
+-- `words::word_at` meets its contract. Assumes nothing.
 use borrow.Author.Needs.{needs}
 use Rattle.words.proofs.word_at.Statement.{statement}
 use Rattle.words.proofs.word_at.Tie as tie
-use Rattle.words.proofs.word_at.Reads as reads
-use Rattle.words.proofs.word_at.Lts as lts
-use Rattle.words.proofs.byte.Reads as byte-reads
-use borrow.Author.Needs.{needs}
 use native.Mathlib.Omega.{arith}
 use Rattle.words.specs.Words.{wordAt}
 
