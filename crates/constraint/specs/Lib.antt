@@ -1,0 +1,3 @@
+pub mod Trees
+pub mod Meaning
+pub mod Record

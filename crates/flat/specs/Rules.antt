@@ -1,0 +1,41 @@
+-- The rules of a lent record, on trees.
+use mathlib.Core.Path.{_≡_}
+use mathlib.Core.List.{List, [], _∷_}
+use mathlib.Core.Bool.{Bool, false, _||_}
+use Prim.Native.Nat.{ℕ, _<_}
+use lib.Dec.{eqb}
+use Rattle.flat.specs.Trees.{Flat, Definition, FlatModule}
+
+-- every item of a list; every variable of an expression
+abbrev pub All : {A : Type 0} → (A → Type 0) → List A → Type 0
+All Q [] = Unit {0}
+All Q (a ∷ rest) = Q a × All Q rest
+
+abbrev pub Every : (ℕ → Type 0) → Flat → Type 0
+Every Q (Flat.infixed o a b) = Every Q a × Every Q b
+Every Q (Flat.negate a) = Every Q a
+Every Q (Flat.constant c) = Unit {0}
+Every Q (Flat.variable v) = Q v
+
+-- whether a list of definitions defines an id
+unfoldable pub defines : List Definition → ℕ → Bool
+defines [] v = false
+defines (d ∷ ds) v = eqb v (d .id) || defines ds v
+
+-- "defines each id at most once, and no right side uses an id defined there or later"
+abbrev pub Ordered : List Definition → Type 0
+Ordered [] = Unit {0}
+Ordered (d ∷ ds) = (defines ds (d .id) ≡ false) × Every (λ v. defines (d ∷ ds) v ≡ false) (d .right) × Ordered ds
+
+abbrev pub Rising : List ℕ → Type 0
+Rising [] = Unit {0}
+Rising (v ∷ vs) = All (λ w. v < w) vs × Rising vs
+
+-- "its ids lie below its next id, its prover ids rise", and the rule on definitions
+pub record WellFormed (f : FlatModule) : Type 0 where
+  pub publics-below : All (λ v. v < f .next) (f .publics)
+  pub provers-below : All (λ v. v < f .next) (f .provers)
+  pub provers-rise : Rising (f .provers)
+  pub definitions-below : All (λ d. (d .id < f .next) × Every (λ v. v < f .next) (d .right)) (f .definitions)
+  pub equations-below : All (λ e. Every (λ v. v < f .next) (e .left) × Every (λ v. v < f .next) (e .right)) (f .equations)
+  pub ordered : Ordered (f .definitions)

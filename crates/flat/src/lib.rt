@@ -1,0 +1,2 @@
+// The flat record. Its definitions are in specs/.
+pub fn nothing() {}

@@ -1,0 +1,3 @@
+pub mod Passes
+pub mod Meaning
+pub mod Statements
