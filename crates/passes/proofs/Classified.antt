@@ -71,7 +71,7 @@ defines-later d ds v h = go (eqb v (d .id))
     go true = refl
     go false = h
 
-defines-here : (d : Definition) (ds : List Definition) (v : ℕ) → v ≡ d .id → defines (d ∷ ds) v ≡ true
+pub defines-here : (d : Definition) (ds : List Definition) (v : ℕ) → v ≡ d .id → defines (d ∷ ds) v ≡ true
 unfolding defines
 defines-here d ds v h = ap (λ (b : Bool). b || defines ds v) (eq-eqb v (d .id) h)
 

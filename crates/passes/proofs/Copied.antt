@@ -168,7 +168,7 @@ module _ (Q : ℕ → Type 0) where
   abbrev pub EntriesIn : Substitutions → Type 0
   EntriesIn = Entries (λ v t. Q v → InTerm Q t)
 
-  unflat : (t : Term) → Every Q (toExpr t) → InTerm Q t
+  pub unflat : (t : Term) → Every Q (toExpr t) → InTerm Q t
   unfolding toExpr
   unflat (Term.Variable v) h = h
   unflat (Term.Constant c) h = tt

@@ -8,10 +8,10 @@ use native.Mathlib.Omega.{arith}
 use borrow.Author.Tests.{not-true}
 use Rattle.flat.specs.Trees.{Flat, Definition, Equation, FlatModule}
 use Rattle.flat.specs.Meaning.{update}
-use Rattle.flat.specs.Rules.{All, Every, defines, WellFormed}
+use Rattle.flat.specs.Rules.{All, Every, defines}
 use Rattle.passes.specs.Passes.{member, those, Usage, Never, Witness, Constraint, most, isNever, markUsed, usedIn, override, classifyDef, classified, usage, classifyDefs, counted}
 use Rattle.passes.specs.Meaning.{Given}
-use Rattle.passes.specs.Statements.{Closed}
+use Rattle.passes.specs.Statements.{CountedIsLeast, IfDefinedCounted, CountedIsClosed}
 use Rattle.passes.proofs.Lists.{bool-not, update-all, all-map, every-map}
 use Rattle.passes.proofs.Classified.{those-all, constraint-left, no-prover, inputs-given}
 
@@ -59,36 +59,31 @@ module _ (R : ℕ → Type 0) where
       (λ e. let o = override-constraint (member (d .id) ps) (before (d .id)) e in h .0 (ih (d .id) (o .0)) (o .1))
       (update-all (λ v x. x ≡ Constraint → R v) before (d .id) u (λ e. ih (d .id) (override-constraint (member (d .id) ps) (before (d .id)) e .0)) ih)
 
-module _ (f : FlatModule) (w : WellFormed f) where
-  -- every counted definition's variable is in every such update, and no prover variable
-  pub counted-least : (R : ℕ → Type 0) → Closed f R → All (λ d. R (d .id) × (member (d .id) (f .provers) ≡ false)) (counted f)
-  unfolding counted classifyDefs usage
-  counted-least R c =
-      all-map
-      (λ d h.
-      let n : member (d .id) (classifyDefs f .provers) ≡ false = not-true _ (h .0) in
-      let t = no-prover f w (d .id) (h .1 .1 .0) n in (
-        classified-within R (f .provers) (f .definitions) (usedIn (f .equations) (λ _. Never)) (c .definitions)
-            (used-within R (f .equations) (λ _. Never) (c .equations) (λ v e. absurd (let z : _≡_ {A = ℕ} 0 1 = cc in omega arith)))
-            (d .id) (constraint-left (usage f (d .id)) (h .1 .0) (t .1)),
-        t .0,
-      ))
-      (counted f)
-      (those-all _ _ (those (λ v. not (isNever (usage f v))) (f .definitions)) (those-all _ (λ v. not (isNever (usage f v))) (f .definitions) (w .definitions-below)))
+pub counted-least : CountedIsLeast
+unfolding counted classifyDefs usage
+counted-least f w R c =
+    all-map
+    (λ d h.
+    let n : member (d .id) (classifyDefs f .provers) ≡ false = not-true _ (h .0) in
+    let t = no-prover f w (d .id) (h .1 .1 .0) n in (
+      classified-within R (f .provers) (f .definitions) (usedIn (f .equations) (λ _. Never)) (c .definitions)
+          (used-within R (f .equations) (λ _. Never) (c .equations) (λ v e. absurd (let z : _≡_ {A = ℕ} 0 1 = cc in omega arith)))
+          (d .id) (constraint-left (usage f (d .id)) (h .1 .0) (t .1)),
+      t .0,
+    ))
+    (counted f)
+    (those-all _ _ (those (λ v. not (isNever (usage f v))) (f .definitions)) (those-all _ (λ v. not (isNever (usage f v))) (f .definitions) (w .definitions-below)))
 
-  -- a variable that some definition defines, and that is no prover variable, has a counted one
-  abbrev pub IfDefinedCounted : ℕ → Type 0
-  IfDefinedCounted v = defines (f .definitions) v ≡ true → member v (f .provers) ≡ false → defines (counted f) v ≡ true
+-- a variable that some definition defines, and that is no prover variable, has a counted one
+known-counted : (f : FlatModule) (v : ℕ) → (defines (counted f) v ≡ false → Given f v) → IfDefinedCounted f v
+known-counted f v r d n = go (defines (counted f) v) refl
+  where
+    go : (b : Bool) → defines (counted f) v ≡ b → b ≡ true
+    go true e = refl
+    go false e = bool-not (sym (r e .1 d) ∙ n)
 
-  known-counted : (v : ℕ) → (defines (counted f) v ≡ false → Given f v) → IfDefinedCounted v
-  known-counted v r d n = go (defines (counted f) v) refl
-    where
-      go : (b : Bool) → defines (counted f) v ≡ b → b ≡ true
-      go true e = refl
-      go false e = bool-not (sym (r e .1 d) ∙ n)
-
-  pub counted-closed : All (λ e. Every IfDefinedCounted (e .left) × Every IfDefinedCounted (e .right)) (f .equations) × All (λ d. Every IfDefinedCounted (d .right)) (counted f)
-  counted-closed = (
-    all-map (λ e h. (every-map known-counted (e .left) (h .0), every-map known-counted (e .right) (h .1))) (f .equations) (inputs-given f w .equations),
-    all-map (λ d h. every-map known-counted (d .right) h) (counted f) (inputs-given f w .definitions),
-  )
+pub counted-closed : CountedIsClosed
+counted-closed f w = (
+  all-map (λ e h. (every-map (known-counted f) (e .left) (h .0), every-map (known-counted f) (e .right) (h .1))) (f .equations) (inputs-given f w .equations),
+  all-map (λ d h. every-map (known-counted f) (d .right) h) (counted f) (inputs-given f w .definitions),
+)

@@ -22,10 +22,10 @@ pub record Ranked (s : Substitutions) (n : ℕ) : Type 0 where
   pub rises : (v w : ℕ) (t : Term) → s v ≡ some (Term.Variable w) → s w ≡ some t → rank v < rank w
   pub below : (v : ℕ) (t : Term) → s v ≡ some t → rank v < n
 
-not-some : {A : Type 0} (t : Term) → none ≡ some t → A
+pub not-some : {A : Type 0} (t : Term) → none ≡ some t → A
 not-some t e = absurd (let z : _≡_ {A = ℕ} 0 1 = cc in omega arith)
 
-same-some : (t u : Term) → some t ≡ some u → t ≡ u
+pub same-some : (t u : Term) → some t ≡ some u → t ≡ u
 same-some t u e = cc
 
 same-flat : (t u : Term) → toExpr t ≡ toExpr u → t ≡ u
@@ -34,6 +34,17 @@ same-flat (Term.Variable v) (Term.Variable w) e = cc
 same-flat (Term.Variable v) (Term.Constant c) e = absurd (let z : _≡_ {A = ℕ} 0 1 = cc in omega arith)
 same-flat (Term.Constant d) (Term.Variable w) e = absurd (let z : _≡_ {A = ℕ} 0 1 = cc in omega arith)
 same-flat (Term.Constant d) (Term.Constant c) e = cc
+
+-- the copy of an expression, where it is a term, is the end of a walk
+pub copy-resolved : (s : Substitutions) (k : ℕ) → ((t : Term) → Resolved s (walk k s t)) → (e : Flat) (t : Term) → copyPropagateExpr k s e ≡ toExpr t → Resolved s t
+unfolding copyPropagateExpr toExpr
+copy-resolved s k ended (Flat.infixed o a b) (Term.Variable v) h = absurd (let z : _≡_ {A = ℕ} 0 1 = cc in omega arith)
+copy-resolved s k ended (Flat.infixed o a b) (Term.Constant c) h = tt
+copy-resolved s k ended (Flat.negate a) (Term.Variable v) h = absurd (let z : _≡_ {A = ℕ} 0 1 = cc in omega arith)
+copy-resolved s k ended (Flat.negate a) (Term.Constant c) h = tt
+copy-resolved s k ended (Flat.constant d) (Term.Variable v) h = absurd (let z : _≡_ {A = ℕ} 0 1 = cc in omega arith)
+copy-resolved s k ended (Flat.constant d) (Term.Constant c) h = tt
+copy-resolved s k ended (Flat.variable w) t h = subst (Resolved s) (same-flat (walk k s (Term.Variable w)) t h) (ended (Term.Variable w))
 
 module _ (s : Substitutions) (n : ℕ) (r : Ranked s n) where
   -- a walk with as many steps as ranks are left
@@ -101,24 +112,12 @@ module _ (s : Substitutions) (n : ℕ) (r : Ranked s n) where
       go true e = later
       go false e = entered v (Term.Variable w) (λ x i. let j : w ≡ x = cc in ((λ k. eqb-false w v e (j ∙ k)), ap s (sym j) ∙ h (Term.Variable w) refl))
 
-  -- the copy of an expression, where it is a term, is the end of a walk
-  copy-resolved : (k : ℕ) → n ≤ k → (e : Flat) (t : Term) → copyPropagateExpr k s e ≡ toExpr t → Resolved s t
-  unfolding copyPropagateExpr toExpr
-  copy-resolved k l (Flat.infixed o a b) (Term.Variable v) h = absurd (let z : _≡_ {A = ℕ} 0 1 = cc in omega arith)
-  copy-resolved k l (Flat.infixed o a b) (Term.Constant c) h = tt
-  copy-resolved k l (Flat.negate a) (Term.Variable v) h = absurd (let z : _≡_ {A = ℕ} 0 1 = cc in omega arith)
-  copy-resolved k l (Flat.negate a) (Term.Constant c) h = tt
-  copy-resolved k l (Flat.constant d) (Term.Variable v) h = absurd (let z : _≡_ {A = ℕ} 0 1 = cc in omega arith)
-  copy-resolved k l (Flat.constant d) (Term.Constant c) h = tt
-  copy-resolved k l (Flat.variable w) t h = subst (Resolved s) (same-flat (walk k s (Term.Variable w)) t h) (ends k (Term.Variable w) (λ v u p q. omega arith))
-
 pub walks-end : (ps : List ℕ) (k : ℕ) (ds : List Definition) (s : Substitutions) (n : ℕ) → Ranked s n → n + length ds ≤ k → WalksEnd ps k s ds
 unfolding afterDef
 walks-end ps k [] s n r l = λ t. ends s n r k t (λ v u p q. omega arith)
-walks-end ps k (d ∷ ds) s n r l = (
-  (λ t. ends s n r k t (λ v u p q. omega arith)),
-  walks-end ps k ds _ (suc n) (after s n r (member (d .id) ps) (d .id) _ (copy-resolved s n r k (omega arith) (d .right))) (omega arith),
-)
+walks-end ps k (d ∷ ds) s n r l =
+    let ended : (t : Term) → Resolved s (walk k s t) = λ t. ends s n r k t (λ v u p q. omega arith) in
+    (ended, walks-end ps k ds _ (suc n) (after s n r (member (d .id) ps) (d .id) _ (copy-resolved s k ended (d .right))) (omega arith))
 
 -- the fuel that copyPropagate gives suffices
 pub copy-propagation-ends : CopyPropagationEnds

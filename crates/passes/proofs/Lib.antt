@@ -9,3 +9,5 @@ pub mod Working
 pub mod Ending
 pub mod Agreement
 pub mod Loops
+pub mod Rust
+pub mod Example
