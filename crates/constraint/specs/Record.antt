@@ -1,10 +1,11 @@
 -- The constraint record: its words, and its bytes. For a reader with document 01, "Constraint record", beside it.
 use mathlib.Core.List.{List, [], _∷_, _++_}
-use Prim.Native.Nat.{ℕ, suc, _+_, _/_, _%_}
+use Prim.Native.Nat.{ℕ, suc, _+_}
 use lib.IntN.{ℤ}
 use lib.ListN.{length}
 use mir.Val.{ofZ}
 use mir.Syntax.{w32}
+use Rattle.words.specs.Words.{bytesOf}
 use Rattle.field.specs.declared.InfixOp.{InfixOp}
 use Rattle.flat.specs.Trees.{Flat, Definition}
 use Rattle.constraint.specs.declared.Operation.{Operation}
@@ -96,9 +97,5 @@ constraintWords m =
     headerWords m ++ (m .publics ++ (m .provers ++ (equalitiesWords (m .equalities) ++ (keptWords 0 (m .kept) ++ keptNodes 0 (m .kept)))))
 
 -- "little-endian 32-bit words"
-unfoldable pub bytesOf : List ℕ → List ℕ
-bytesOf [] = []
-bytesOf (w ∷ ws) = w % 256 ∷ w / 256 % 256 ∷ w / 65536 % 256 ∷ w / 16777216 ∷ bytesOf ws
-
 unfoldable pub constraintBytes : ConstraintModule → List ℕ
 constraintBytes m = bytesOf (constraintWords m)

@@ -1,10 +1,9 @@
 -- The rules of a lent record, on trees.
 use mathlib.Core.Path.{_≡_}
 use mathlib.Core.List.{List, [], _∷_}
-use mathlib.Core.Bool.{Bool, false, _||_}
+use mathlib.Core.Bool.{false}
 use Prim.Native.Nat.{ℕ, _<_}
-use lib.Dec.{eqb}
-use Rattle.flat.specs.Trees.{Flat, Definition, FlatModule}
+use Rattle.flat.specs.Trees.{Flat, Definition, FlatModule, defines}
 
 -- every item of a list; every variable of an expression
 abbrev pub All : {A : Type 0} → (A → Type 0) → List A → Type 0
@@ -16,11 +15,6 @@ Every Q (Flat.infixed o a b) = Every Q a × Every Q b
 Every Q (Flat.negate a) = Every Q a
 Every Q (Flat.constant c) = Unit {0}
 Every Q (Flat.variable v) = Q v
-
--- whether a list of definitions defines an id
-unfoldable pub defines : List Definition → ℕ → Bool
-defines [] v = false
-defines (d ∷ ds) v = eqb v (d .id) || defines ds v
 
 -- "defines each id at most once, and no right side uses an id defined there or later"
 abbrev pub Ordered : List Definition → Type 0

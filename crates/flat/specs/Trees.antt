@@ -1,6 +1,8 @@
 -- The flat list as trees.
-use mathlib.Core.List.{List}
+use mathlib.Core.List.{List, [], _∷_}
+use mathlib.Core.Bool.{Bool, false, _||_}
 use Prim.Native.Nat.{ℕ}
+use lib.Dec.{eqb}
 use lib.IntN.{ℤ}
 use Rattle.field.specs.declared.InfixOp.{InfixOp}
 
@@ -24,3 +26,8 @@ pub record FlatModule : Type 0 where
   pub provers : List ℕ
   pub definitions : List Definition
   pub equations : List Equation
+
+-- whether a list of definitions defines an id
+unfoldable pub defines : List Definition → ℕ → Bool
+defines [] v = false
+defines (d ∷ ds) v = eqb v (d .id) || defines ds v

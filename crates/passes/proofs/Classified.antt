@@ -7,9 +7,9 @@ use native.Mathlib.Omega.{arith}
 use native.Mathlib.Decide.{ℕ-discrete}
 use lib.Dec.{eqb}
 use borrow.Author.Tests.{not-true, eq-eqb, ne-eqb}
-use Rattle.flat.specs.Trees.{Flat, Definition, Equation, FlatModule}
+use Rattle.flat.specs.Trees.{Flat, Definition, Equation, FlatModule, defines}
 use Rattle.flat.specs.Meaning.{update}
-use Rattle.flat.specs.Rules.{All, Every, defines, Ordered, WellFormed}
+use Rattle.flat.specs.Rules.{All, Every, Ordered, WellFormed}
 use Rattle.passes.specs.Passes.{member, keepIf, those, Usage, Never, Witness, Constraint, most, isNever, isWitness, markUsed, usedIn, override, classifyDef, classified, usage, idsFrom, classifyDefs, counted}
 use Rattle.passes.specs.Meaning.{Known, Inputs, Given}
 use Rattle.passes.proofs.Lists.{bool-not, update-all, update-same, update-other, all-map, every-map, every-both, both-false, defines-cons, defines-those}

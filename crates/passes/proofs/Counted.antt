@@ -6,9 +6,9 @@ use mathlib.Core.Bool.{Bool, true, false, not}
 use Prim.Native.Nat.{ℕ}
 use native.Mathlib.Omega.{arith}
 use borrow.Author.Tests.{not-true}
-use Rattle.flat.specs.Trees.{Flat, Definition, Equation, FlatModule}
+use Rattle.flat.specs.Trees.{Flat, Definition, Equation, FlatModule, defines}
 use Rattle.flat.specs.Meaning.{update}
-use Rattle.flat.specs.Rules.{All, Every, defines}
+use Rattle.flat.specs.Rules.{All, Every}
 use Rattle.passes.specs.Passes.{member, those, Usage, Never, Witness, Constraint, most, isNever, markUsed, usedIn, override, classifyDef, classified, usage, classifyDefs, counted}
 use Rattle.passes.specs.Meaning.{Given}
 use Rattle.passes.specs.Statements.{CountedIsLeast, IfDefinedCounted, CountedIsClosed}

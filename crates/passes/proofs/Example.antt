@@ -1,8 +1,9 @@
 -- The theorem at case F: v0 and v1 are the inputs, and (v0 + 1) * v0 = v1 holds just if the three equalities have a solution with them.
 use mathlib.Core.Path.{refl}
 use native.Mathlib.Omega.{arith}
+use Rattle.flat.specs.Trees.{defines}
 use Rattle.flat.specs.Meaning.{update, Assignment, Elements, NoZeroInTurn}
-use Rattle.flat.specs.Rules.{defines, WellFormed}
+use Rattle.flat.specs.Rules.{WellFormed}
 use Rattle.passes.specs.Passes.{member, keepIf, those, most, isNever, isWitness, markUsed, usedIn, override, classifyDef, classified, usage, idsFrom, classifyDefs, counted}
 use Rattle.passes.specs.Meaning.{worked, Given}
 use Rattle.passes.specs.Statements.{KeepsMeaning}

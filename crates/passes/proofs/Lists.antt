@@ -9,9 +9,9 @@ use lib.IntN.{ℤ, pos, negsuc}
 use borrow.Author.Tests.{eqb-true, eqb-false, eq-eqb, ne-eqb}
 use Rattle.field.specs.declared.Answer.the-variants.{Value}
 use Rattle.field.specs.declared.InfixOp.{InfixOp}
-use Rattle.flat.specs.Trees.{Flat, Definition}
+use Rattle.flat.specs.Trees.{Flat, Definition, defines}
 use Rattle.flat.specs.Meaning.{update, Assignment, value, onValues, negated}
-use Rattle.flat.specs.Rules.{All, Every, defines}
+use Rattle.flat.specs.Rules.{All, Every}
 use Rattle.constraint.specs.declared.Term.{Term}
 use Rattle.constraint.specs.Trees.{Side}
 use Rattle.constraint.specs.Meaning.{InTerm, InSide, termValue, sideValue}

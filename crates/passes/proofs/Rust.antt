@@ -9,8 +9,8 @@ use native.Mathlib.Decide.{ℕ-discrete}
 use lib.Dec.{eqb}
 use lib.ListN.{length}
 use borrow.Author.Tests.{eqb-true, ne-eqb}
-use Rattle.flat.specs.Trees.{Flat, Definition, Equation}
-use Rattle.flat.specs.Rules.{All, Every, defines, Ordered}
+use Rattle.flat.specs.Trees.{Flat, Definition, Equation, defines}
+use Rattle.flat.specs.Rules.{All, Every, Ordered}
 use Rattle.flat.specs.Meaning.{update}
 use Rattle.constraint.specs.declared.Term.{Term}
 use Rattle.constraint.specs.Meaning.{InTerm}

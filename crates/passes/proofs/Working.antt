@@ -13,9 +13,9 @@ use Rattle.field.specs.Prime.{P}
 use Rattle.field.specs.Element.{elem}
 use Rattle.field.proofs.Elements.{elem-elem}
 use Rattle.field.specs.Operations.{opposite}
-use Rattle.flat.specs.Trees.{Flat, Definition}
+use Rattle.flat.specs.Trees.{Flat, Definition, defines}
 use Rattle.flat.specs.Meaning.{update, Assignment, Elements, onValues, negated, value, DivisorNotZero, NoZeroDivisor, DefinitionHolds, orZero, workedOut}
-use Rattle.flat.specs.Rules.{All, Every, defines, Ordered}
+use Rattle.flat.specs.Rules.{All, Every, Ordered}
 use Rattle.passes.specs.Passes.{keepIf, those, cuttable, cuttableExpr, cuttableDefs}
 use Rattle.passes.specs.Statements.{InTurnIsAtEnd}
 use Rattle.passes.proofs.Lists.{update-all, update-same, update-other, both-true, both-false, defines-cons, every-map, every-both, or-false, defines-those, value-agrees}

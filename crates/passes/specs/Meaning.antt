@@ -2,8 +2,8 @@
 use mathlib.Core.Path.{_≡_}
 use mathlib.Core.Bool.{true, false}
 use Prim.Native.Nat.{ℕ, _<_}
-use Rattle.flat.specs.Trees.{FlatModule}
-use Rattle.flat.specs.Rules.{All, Every, defines}
+use Rattle.flat.specs.Trees.{FlatModule, defines}
+use Rattle.flat.specs.Rules.{All, Every}
 use Rattle.flat.specs.Meaning.{Assignment, workedOut}
 use Rattle.passes.specs.Passes.{member, counted}
 

@@ -6,8 +6,8 @@ use mathlib.Core.Logic.{_↔_}
 use mathlib.Core.Option.{none, some}
 use Prim.Native.Nat.{ℕ, _<_}
 use lib.ListN.{length}
-use Rattle.flat.specs.Trees.{Flat, Definition, Equation, FlatModule}
-use Rattle.flat.specs.Rules.{All, Every, defines, Ordered, WellFormed}
+use Rattle.flat.specs.Trees.{Flat, Definition, Equation, FlatModule, defines}
+use Rattle.flat.specs.Rules.{All, Every, Ordered, WellFormed}
 use Rattle.flat.specs.Meaning.{update, Assignment, Elements, DefinitionHolds, EquationHolds, NoZeroDivisor, workedOut, NoZeroInTurn}
 use Rattle.constraint.specs.declared.Term.{Term}
 use Rattle.constraint.specs.Trees.{Equality, ConstraintModule}
