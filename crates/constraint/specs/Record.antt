@@ -76,9 +76,12 @@ nodesFrom base (Flat.constant c) = nodeWords 7 (numberWord c) 0 0
 nodesFrom base (Flat.variable v) = nodeWords 8 v 0 0
 
 -- kept definitions (id, node), "in definition order", and their nodes
+unfoldable pub definitionWords : ℕ → ℕ → List ℕ
+definitionWords id node = id ∷ node ∷ []
+
 unfoldable pub keptWords : ℕ → List Definition → List ℕ
 keptWords base [] = []
-keptWords base (d ∷ ds) = d .id ∷ rootFrom base (d .right) ∷ keptWords (nextFrom base (d .right)) ds
+keptWords base (d ∷ ds) = definitionWords (d .id) (rootFrom base (d .right)) ++ keptWords (nextFrom base (d .right)) ds
 
 unfoldable pub keptNodes : ℕ → List Definition → List ℕ
 keptNodes base [] = []
@@ -89,12 +92,13 @@ nodeCount [] = 0
 nodeCount (d ∷ ds) = suc (nodesBelow (d .right)) + nodeCount ds
 
 -- "words: next id, counts of publics, prover ids, equalities, kept definitions, nodes; then the lists"
-unfoldable pub headerWords : ConstraintModule → List ℕ
-headerWords m = m .next ∷ length (m .publics) ∷ length (m .provers) ∷ length (m .equalities) ∷ length (m .kept) ∷ nodeCount (m .kept) ∷ []
+unfoldable pub headerWords : ℕ → ℕ → ℕ → ℕ → ℕ → ℕ → List ℕ
+headerWords next publics provers equalities kept nodes = next ∷ publics ∷ provers ∷ equalities ∷ kept ∷ nodes ∷ []
 
 unfoldable pub constraintWords : ConstraintModule → List ℕ
 constraintWords m =
-    headerWords m ++ (m .publics ++ (m .provers ++ (equalitiesWords (m .equalities) ++ (keptWords 0 (m .kept) ++ keptNodes 0 (m .kept)))))
+    headerWords (m .next) (length (m .publics)) (length (m .provers)) (length (m .equalities)) (length (m .kept)) (nodeCount (m .kept))
+    ++ (m .publics ++ (m .provers ++ (equalitiesWords (m .equalities) ++ (keptWords 0 (m .kept) ++ keptNodes 0 (m .kept)))))
 
 -- "little-endian 32-bit words"
 unfoldable pub constraintBytes : ConstraintModule → List ℕ
