@@ -3,3 +3,4 @@ pub mod Record
 pub mod Rules
 pub mod Readable
 pub mod Marks
+pub mod Meaning
