@@ -1,11 +1,11 @@
--- The rules of a lent record, on trees.
+-- What holds of the module of a lent flat record, said of its trees. That each accepted record has it: `accepted-well-formed` in proofs/Wellformed.antt.
 use mathlib.Core.Path.{_≡_}
 use mathlib.Core.List.{List, [], _∷_}
-use mathlib.Core.Bool.{false}
+use mathlib.Core.Bool.{Bool, true, false}
 use Prim.Native.Nat.{ℕ, _<_}
-use Rattle.flat.specs.Trees.{Flat, Definition, FlatModule, defines}
+use Rattle.flat.specs.Trees.{Flat, Definition, Equation, FlatModule, defines}
 
--- every item of a list; every variable of an expression
+-- of every element of a list, of every variable of a tree
 abbrev pub All : {A : Type 0} → (A → Type 0) → List A → Type 0
 All Q [] = Unit {0}
 All Q (a ∷ rest) = Q a × All Q rest
@@ -25,7 +25,6 @@ abbrev pub Rising : List ℕ → Type 0
 Rising [] = Unit {0}
 Rising (v ∷ vs) = All (λ w. v < w) vs × Rising vs
 
--- "its ids lie below its next id, its prover ids rise", and the rule on definitions
 pub record WellFormed (f : FlatModule) : Type 0 where
   pub publics-below : All (λ v. v < f .next) (f .publics)
   pub provers-below : All (λ v. v < f .next) (f .provers)

@@ -1,11 +1,12 @@
--- The flat list as trees.
+-- A flat module: its lists, with the right sides and equations as trees.
 use mathlib.Core.List.{List, [], _∷_}
-use mathlib.Core.Bool.{Bool, false, _||_}
+use mathlib.Core.Bool.{Bool, true, false, _&&_, _||_}
 use Prim.Native.Nat.{ℕ}
 use lib.Dec.{eqb}
 use lib.IntN.{ℤ}
 use Rattle.field.specs.declared.InfixOp.{InfixOp}
 
+-- the expressions of a flat record: "kinds 4, 5, 7, 8, where 8 holds an id"
 pub data Flat : Type 0 where
   infixed : InfixOp → Flat → Flat → Flat
   negate : Flat → Flat
@@ -31,3 +32,10 @@ pub record FlatModule : Type 0 where
 unfoldable pub defines : List Definition → ℕ → Bool
 defines [] v = false
 defines (d ∷ ds) v = eqb v (d .id) || defines ds v
+
+-- whether every variable of a tree passes a test
+unfoldable pub everyId : (ℕ → Bool) → Flat → Bool
+everyId p (Flat.infixed o x y) = everyId p x && everyId p y
+everyId p (Flat.negate x) = everyId p x
+everyId p (Flat.constant c) = true
+everyId p (Flat.variable v) = p v

@@ -1,0 +1,95 @@
+-- `flat::measures` meets its contract. Assumes nothing.
+use borrow.Author.Needs.{needs}
+use Rattle.flat.proofs.measures.Statement.{statement}
+use Rattle.flat.proofs.measures.Tie as tie
+use native.Mathlib.Omega.{arith}
+use Rattle.flat.proofs.Ways.{measured-1, measured-2, measured-3, measured-4, measured-5, measured-6, measured-7}
+
+returns : tie.Need-returns
+returns c = measured-1 (c .before .before .args .s .now) (omega arith)
+
+count-requires : tie.Need-count-requires
+count-requires c κs = search needs
+
+returns-2 : tie.Need-returns-2
+returns-2 c = measured-2 (c .before .before .before .before .args .s .now) (omega arith) (omega arith)
+
+count-requires-2 : tie.Need-count-requires-2
+count-requires-2 c κs = search needs
+
+returns-3 : tie.Need-returns-3
+returns-3 c = measured-3 (c .before .before .before .before .before .before .args .s .now) (omega arith) (omega arith) (omega arith)
+
+count-requires-3 : tie.Need-count-requires-3
+count-requires-3 c κs = search needs
+
+returns-4 : tie.Need-returns-4
+returns-4 c = measured-4 (c .before .before .before .before .before .before .before .before .args .s .now) (omega arith) (omega arith) (omega arith) (omega arith)
+
+count-requires-4 : tie.Need-count-requires-4
+count-requires-4 c κs = search needs
+
+returns-5 : tie.Need-returns-5
+returns-5 c = measured-5 (c .before .before .before .before .before .before .before .before .before .before .args .s .now) (omega arith) (omega arith) (omega arith) (omega arith) (omega arith)
+
+count-requires-5 : tie.Need-count-requires-5
+count-requires-5 c κs = search needs
+
+returns-6 : tie.Need-returns-6
+returns-6 c = measured-6 (c .before .before .before .before .before .before .before .before .before .before .before .before .args .s .now) (omega arith) (omega arith) (omega arith) (omega arith) (omega arith) (omega arith)
+
+add-result : tie.Need-add-result
+add-result c = search needs
+
+add-result-2 : tie.Need-add-result-2
+add-result-2 c = search needs
+
+mul-result : tie.Need-mul-result
+mul-result c = search needs
+
+add-result-3 : tie.Need-add-result-3
+add-result-3 c = search needs
+
+mul-result-2 : tie.Need-mul-result-2
+mul-result-2 c = search needs
+
+add-result-4 : tie.Need-add-result-4
+add-result-4 c = search needs
+
+mul-result-3 : tie.Need-mul-result-3
+mul-result-3 c = search needs
+
+add-result-5 : tie.Need-add-result-5
+add-result-5 c = search needs
+
+mul-result-4 : tie.Need-mul-result-4
+mul-result-4 c = search needs
+
+returns-7 : tie.Need-returns-7
+returns-7 c = measured-7 (c .before .before .before .before .before .before .before .before .before .before .before .before .args .s .now) _ (omega arith) (omega arith) (omega arith) (omega arith) (omega arith) (omega arith) (omega arith)
+
+pub measures-spec : {M : Type 1} → statement M
+measures-spec =
+    tie.close
+    (tie.spec
+    returns
+    count-requires
+    returns-2
+    count-requires-2
+    returns-3
+    count-requires-3
+    returns-4
+    count-requires-4
+    returns-5
+    count-requires-5
+    returns-6
+    add-result
+    add-result-2
+    mul-result
+    add-result-3
+    mul-result-2
+    add-result-4
+    mul-result-3
+    add-result-5
+    mul-result-4
+    returns-7)
