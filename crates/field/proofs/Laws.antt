@@ -8,8 +8,8 @@ use lib.IntN.{pow, one, pow-succ', ℤ, pos, negℤ, _+ℤ_, _*ℤ_, +ℤ-comm, 
 use Rattle.field.specs.Prime.{Prime}
 use Rattle.field.specs.Element.{res, centre, elem}
 use Rattle.field.specs.Operations.{sum, product, opposite, inverse, quotient, power}
-use Rattle.field.proofs.Modular.{inv-right, mod-mul-mod, mul-mod-mod, quotient-unique, quotient-right, product-pos}
-use Rattle.field.proofs.Elements.{res-lt, res-elem, res-add, res-mul, res-opp, res-centre, elem-elem, elem-of-res, elem-zero, add-elem, mul-elem}
+use Rattle.field.proofs.Modular.{inv-right, mod-mul-mod, mul-mod-mod, quotient-unique, quotient-right, product-pos, inv-unique}
+use Rattle.field.proofs.Elements.{res-lt, res-elem, res-add, res-mul, res-opp, res-centre, elem-elem, elem-of-res, elem-zero, zero-elem, add-elem, mul-elem}
 use Rattle.field.proofs.ByResidues.{quotient-res, res-inverse}
 
 module _ (p : ℕ) (prime : Prime p) where
@@ -146,6 +146,12 @@ module _ (p : ℕ) (prime : Prime p) where
         sym (res-mul p above a b) ∙ e,
       )
 
+  -- so of elements: a product is 0 only where a factor is
+  pub no-zero-divisors : (a b : ℤ) → (elem p a ≡ pos 0 → ⊥) → (elem p b ≡ pos 0 → ⊥) → product p a b ≡ pos 0 → ⊥
+  unfolding product
+  no-zero-divisors a b ha hb e =
+      no-zero-product a b (λ z. ha (elem-zero p above a z)) (λ z. hb (elem-zero p above b z)) (zero-elem p above (a *ℤ b) e)
+
   -- a power is the element of the integers' power
   res-pow : (a : ℤ) (n : ℕ) → res p (pow a n) ≡ res p a ^ n % p
   unfolding pow one res
@@ -170,3 +176,11 @@ module _ (p : ℕ) (prime : Prime p) where
       ∙ ap (λ (n : ℕ). (res p b * n) % p) (res-inverse p prime b)
       ∙ inv-right p prime (res p b) (pos-of-ne-zero k) (res-lt p above b)
       ∙ sym (mod-eq-of-lt (prime .above)))
+
+  -- and no other element has this
+  pub inverse-only : (b y : ℤ) → (res p b ≡ 0 → ⊥) → product p y b ≡ elem p (pos 1) → elem p y ≡ inverse p b
+  unfolding elem inverse product res
+  inverse-only b y k e =
+      ap (centre p)
+      (inv-unique p prime (res p b) (res p y) (pos-of-ne-zero k) (res-lt p above b) (res-lt p above y)
+      (sym (res-mul p above y b) ∙ sym (res-elem p above (y *ℤ b)) ∙ ap (res p) e ∙ res-elem p above (pos 1) ∙ mod-eq-of-lt (prime .above)))

@@ -3,6 +3,8 @@ pub mod Modular
 pub mod Elements
 pub mod ByResidues
 pub mod Laws
+pub mod Answers
+pub mod Units
 pub mod Rounding
 pub mod Counting
 pub mod Signed

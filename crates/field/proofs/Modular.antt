@@ -5,7 +5,6 @@ use Prim.Native.Nat.{ℕ, zero, suc, _+_, _*_, _/_, _%_, _-_, _^_, _<_, _≤_}
 use native.Mathlib.Nat.{zero-mul, zero-mod, pow-zero, pow-suc, pow-succ', mul-one, one-mul, mul-comm, mul-assoc, mod-lt, mod-eq-of-lt, mod-add-div, div-add-mod, add-mul-mod-self-left, div-le-self, pos-of-ne-zero, le-trans, le-refl, lt-trans, not-suc-le-zero}
 use native.Mathlib.Omega.{arith}
 use native.Mathlib.Decide.{decLt}
-use lib.Dec.{leb}
 use borrow.Author.Tests.{le-leb, lt-leb}
 use Rattle.field.specs.Prime.{Prime}
 use Rattle.field.specs.Element.{inv, invFrom}

@@ -1,0 +1,106 @@
+// Runs the field on vectors that another program made, and writes how many there were and how many answers differ.
+mod vectors;
+
+ghost use Prim.Native.Nat.{_≤_};
+use field::Answer;
+use field::InfixOp;
+use vectors::COUNTS;
+use vectors::POWERS;
+use vectors::ROWS;
+use vectors::VECTORS;
+
+fn operation(number: i64) -> InfixOp {
+    match number {
+        0 => InfixOp::Divide,
+        1 => InfixOp::DivideZ,
+        2 => InfixOp::Multiply,
+        3 => InfixOp::Add,
+        4 => InfixOp::Subtract,
+        5 => InfixOp::Equal,
+        6 => InfixOp::Exponentiate,
+        7 => InfixOp::IntDivide,
+        _ => InfixOp::Modulo,
+    }
+}
+
+fn worked(number: i64, a: i64, b: i64) -> Answer {
+    if number == 9 {
+        let c = field::canonical(a);
+        return Answer::Value(c);
+    }
+    if number == 10 {
+        let n = field::negate(a);
+        return Answer::Value(n);
+    }
+    if number == 11 {
+        return field::inverse(a);
+    }
+    field::infix(operation(number), a, b)
+}
+
+// 0 where an answer is the one given, else 1.
+fn differs(answer: Answer, there: i64, value: i64) -> u64
+    ensures { λ r. ⌜ r ≤ 1 ⌝ }
+{
+    match answer {
+        Answer::Value(z) => {
+            if there == 1 {
+                if z == value {
+                    return 0;
+                }
+            }
+            1
+        }
+        Answer::Nothing => {
+            if there == 0 {
+                return 0;
+            }
+            1
+        }
+    }
+}
+
+fn unequal(a: u64, b: u64) -> u64
+    ensures { λ r. ⌜ r ≤ 1 ⌝ }
+{
+    if a == b {
+        return 0;
+    }
+    1
+}
+
+fn differing_vectors() -> u64 {
+    let mut wrong: u64 = 0;
+    let mut i: usize = 0;
+    while i < ROWS {
+        let row = 5 * i;
+        let answer = worked(VECTORS[row], VECTORS[row + 1], VECTORS[row + 2]);
+        wrong += differs(answer, VECTORS[row + 3], VECTORS[row + 4]);
+        i += 1;
+    }
+    wrong
+}
+
+fn differing_counts() -> u64 {
+    let mut wrong: u64 = 0;
+    let mut i: usize = 0;
+    while i < COUNTS {
+        wrong += unequal(field::counts::power_count(POWERS[2 * i]), POWERS[2 * i + 1]);
+        i += 1;
+    }
+    wrong
+}
+
+fn report(what: &[u8], n: u64, wrong: u64) {
+    io::print_decimal(1, n);
+    io::write_all(1, what);
+    io::print_decimal(1, wrong);
+    io::write_all(1, b" differ\n");
+}
+
+fn main() {
+    let vectors = differing_vectors();
+    report(b" vectors, ", ROWS as u64, vectors);
+    let counts = differing_counts();
+    report(b" power counts, ", COUNTS as u64, counts);
+}

@@ -1,0 +1,1 @@
+// The source record: its layout and its reader (refusals 1 to 6).
