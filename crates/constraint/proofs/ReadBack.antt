@@ -3,15 +3,14 @@ use mathlib.Core.Path.{_≡_, refl, sym, ap, ap₂, subst, _∙_}
 use mathlib.Core.List.{List, [], _∷_, _++_}
 use Prim.Native.Nat.{ℕ, suc, _+_, _*_, _≤_, _<_}
 use native.Mathlib.Omega.{arith}
-use lib.Dec.{eqb}
 use lib.IntN.{ℤ}
 use lib.ListN.{length, getD, length-append, List·getD-append}
 use lib.Seq.{getD-append-add}
-use mir.Val.{toZ, SFits}
+use mir.Val.{toZ}
 use mir.Syntax.{w32}
 use mir.Facts.{toZ-ofZ}
 use borrow.Author.Tests.{eq-eqb, ne-eqb}
-use Rattle.words.specs.Words.{wordAt, bytesOf}
+use Rattle.words.specs.Words.{wordAt}
 use Rattle.words.proofs.Laws.{wordAt-bytesOf}
 use Rattle.field.specs.declared.InfixOp.{InfixOp}
 use Rattle.flat.specs.Trees.{Flat, Definition}
