@@ -3,7 +3,7 @@
 use mathlib.Core.Path.{_≡_}
 use mathlib.Core.List.{List}
 use mathlib.Core.Bool.{true}
-use Prim.Native.Nat.{ℕ, _*_, _≤_}
+use Prim.Native.Nat.{ℕ, _*_, _≤_, _<_}
 use lib.ListN.{length}
 use Rattle.flat.specs.Record.{next, publics, provers, definitions, equations, nodes, proversAt, definitionsAt, equationsAt, nodesAt, size, allBelow, rising, definitionsFit, nodesFit}
 
@@ -21,3 +21,9 @@ pub record Readable (b : List ℕ) : Type 0 where
   pub definitions-fit : definitionsFit b (definitionsAt b) (definitions b) (next b) (nodes b) ≡ true
   pub sides-below : allBelow b (equationsAt b) (2 * equations b) (nodes b) ≡ true
   pub nodes-fit : nodesFit b (nodesAt b) (nodes b) (next b) ≡ true
+
+-- node k of a readable record, whose nodes start at word `at`
+pub record Inside (b : List ℕ) (at k : ℕ) : Type 0 where
+  pub readable : Readable b
+  pub place : at ≡ nodesAt b
+  pub below : k < nodes b

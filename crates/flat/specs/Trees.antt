@@ -1,7 +1,7 @@
 -- A flat module: its lists, with the right sides and equations as trees.
 use mathlib.Core.List.{List, [], _∷_}
 use mathlib.Core.Bool.{Bool, true, false, _&&_, _||_}
-use Prim.Native.Nat.{ℕ}
+use Prim.Native.Nat.{ℕ, suc, _+_}
 use lib.Dec.{eqb}
 use lib.IntN.{ℤ}
 use Rattle.field.specs.declared.InfixOp.{InfixOp}
@@ -39,3 +39,21 @@ everyId p (Flat.infixed o x y) = everyId p x && everyId p y
 everyId p (Flat.negate x) = everyId p x
 everyId p (Flat.constant c) = true
 everyId p (Flat.variable v) = p v
+
+-- the nodes of a tree, and of all trees of a module
+unfoldable pub treeNodes : Flat → ℕ
+treeNodes (Flat.infixed o x y) = suc (treeNodes x + treeNodes y)
+treeNodes (Flat.negate x) = suc (treeNodes x)
+treeNodes (Flat.constant c) = 1
+treeNodes (Flat.variable v) = 1
+
+unfoldable pub definitionsNodes : List Definition → ℕ
+definitionsNodes [] = 0
+definitionsNodes (d ∷ ds) = treeNodes (d .right) + definitionsNodes ds
+
+unfoldable pub equationsNodes : List Equation → ℕ
+equationsNodes [] = 0
+equationsNodes (e ∷ es) = treeNodes (e .left) + treeNodes (e .right) + equationsNodes es
+
+unfoldable pub moduleNodes : FlatModule → ℕ
+moduleNodes f = definitionsNodes (f .definitions) + equationsNodes (f .equations)
