@@ -1,9 +1,9 @@
 -- What holds of the module of a lent flat record, said of its trees. That each accepted record has it: `accepted-well-formed` in proofs/Wellformed.antt.
 use mathlib.Core.Path.{_≡_}
 use mathlib.Core.List.{List, [], _∷_}
-use mathlib.Core.Bool.{Bool, true, false}
+use mathlib.Core.Bool.{false}
 use Prim.Native.Nat.{ℕ, _<_}
-use Rattle.flat.specs.Trees.{Flat, Definition, Equation, FlatModule, defines}
+use Rattle.flat.specs.Trees.{Flat, Definition, FlatModule, defines}
 
 -- of every element of a list, of every variable of a tree
 abbrev pub All : {A : Type 0} → (A → Type 0) → List A → Type 0
