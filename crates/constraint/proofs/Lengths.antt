@@ -1,6 +1,6 @@
 -- How many words each part of the record has, and lists of parts in two pieces.
 use mathlib.Core.Path.{_≡_, refl, sym, ap, _∙_}
-use mathlib.Core.List.{List, [], _∷_, _++_, append-assoc}
+use mathlib.Core.List.{List, [], _∷_, _++_, append-assoc, append-nil}
 use Prim.Native.Nat.{ℕ, _+_, _*_, _<_}
 use native.Mathlib.Omega.{arith}
 use lib.ListN.{length, length-append}
@@ -68,6 +68,11 @@ pub equalities-append : (xs ys : List Equality) → equalitiesWords (xs ++ ys) �
 unfolding equalitiesWords
 equalities-append [] ys = refl
 equalities-append (q ∷ xs) ys = ap (λ (l : List ℕ). equalityWords q ++ l) (equalities-append xs ys) ∙ sym (append-assoc (equalityWords q) (equalitiesWords xs) (equalitiesWords ys))
+
+-- one equality more
+pub equalities-more : (qs : List Equality) (q : Equality) → equalitiesWords (qs ++ (q ∷ [])) ≡ equalitiesWords qs ++ equalityWords q
+unfolding equalitiesWords
+equalities-more qs q = equalities-append qs (q ∷ []) ∙ ap (λ (l : List ℕ). equalitiesWords qs ++ l) (append-nil (equalityWords q))
 
 next-plus : (base : ℕ) (d : Definition) (n : ℕ) → nextFrom base (d .right) + n ≡ base + (treeNodes (d .right) + n)
 unfolding nextFrom
