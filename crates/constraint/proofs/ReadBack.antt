@@ -1,7 +1,7 @@
 -- A constraint record says the module that was written. Words that stand in the bytes are read again, part by part.
 use mathlib.Core.Path.{_≡_, refl, sym, ap, ap₂, subst, _∙_}
 use mathlib.Core.List.{List, [], _∷_, _++_}
-use Prim.Native.Nat.{ℕ, suc, _+_, _*_, _≤_, _<_}
+use Prim.Native.Nat.{ℕ, suc, _+_, _-_, _*_, _≤_, _<_}
 use native.Mathlib.Omega.{arith}
 use lib.IntN.{ℤ}
 use lib.ListN.{length, getD, length-append, List·getD-append}
@@ -13,16 +13,16 @@ use borrow.Author.Tests.{eq-eqb, ne-eqb}
 use Rattle.words.specs.Words.{wordAt}
 use Rattle.words.proofs.Laws.{wordAt-bytesOf}
 use Rattle.field.specs.declared.InfixOp.{InfixOp}
-use Rattle.flat.specs.Trees.{Flat, Definition}
+use Rattle.flat.specs.Trees.{Flat, Definition, treeNodes, definitionsNodes}
 use Rattle.flat.specs.Rules.{All}
 use Rattle.flat.specs.Record.{rows, pick, operatorOf, nodeOf, tree, definitionAt}
 use Rattle.flat.specs.declared.Node.{Node}
 use Rattle.flat.proofs.Nodes.{read-4, read-5, read-7, read-8, tree-infix, tree-negate, tree-constant, tree-variable, settled}
 use Rattle.constraint.specs.declared.Term.{Term}
 use Rattle.constraint.specs.Trees.{Side, Equality, ConstraintModule, operation, first, second, written}
-use Rattle.constraint.specs.Record.{numberWord, termWords, operatorWord, operationWord, writtenWords, equalityWords, equalitiesWords, nodesBelow, rootFrom, nextFrom, nodeWords, nodesFrom, definitionWords, keptWords, keptNodes, nodeCount, headerWords, constraintWords, constraintBytes}
+use Rattle.constraint.specs.Record.{numberWord, termWords, operatorWord, operationWord, writtenWords, equalityWords, equalitiesWords, rootFrom, nextFrom, nodeWords, nodesFrom, definitionWords, keptWords, keptNodes, headerWords, constraintWords, constraintBytes}
 use Rattle.constraint.specs.Reading.{termAt, sideFor, equalityAt, constraintWith, constraintOf, SignedTerm, SignedSide, SignedTree, Signed, ReadBack}
-use Rattle.constraint.proofs.Lengths.{length-term, length-equality, length-equalities, length-nodes, length-kept}
+use Rattle.constraint.proofs.Lengths.{tree-positive, length-term, length-equality, length-equalities, length-nodes, length-kept}
 
 -- the words ws stand in b from word i on
 abbrev pub Stands : List ℕ → ℕ → List ℕ → Type 0
@@ -100,16 +100,16 @@ signed-second (Side.negate x) h = tt
 signed-second (Side.copy x) h = tt
 
 -- where a definition's tree ends
-root-below : (base : ℕ) (d : Definition) (n count : ℕ) → base + (suc (nodesBelow (d .right)) + n) ≤ count → rootFrom base (d .right) < count
-unfolding rootFrom
-root-below base d n count l = omega arith
+root-below : (base : ℕ) (d : Definition) (n count : ℕ) → base + (treeNodes (d .right) + n) ≤ count → rootFrom base (d .right) < count
+unfolding rootFrom nextFrom
+root-below base d n count l = let p = tree-positive (d .right) in omega arith
 
-next-below : (base : ℕ) (d : Definition) (n count : ℕ) → base + (suc (nodesBelow (d .right)) + n) ≤ count → nextFrom base (d .right) + n ≤ count
-unfolding nextFrom rootFrom
+next-below : (base : ℕ) (d : Definition) (n count : ℕ) → base + (treeNodes (d .right) + n) ≤ count → nextFrom base (d .right) + n ≤ count
+unfolding nextFrom
 next-below base d n count l = omega arith
 
 next-words : (trees base : ℕ) (d : Definition) → trees + 4 * base + length (nodesFrom base (d .right)) ≡ trees + 4 * nextFrom base (d .right)
-unfolding nextFrom rootFrom
+unfolding nextFrom
 next-words trees base d = omega (arith, length-nodes (d .right) base)
 
 module _ (b : List ℕ) where
@@ -175,24 +175,29 @@ module _ (b : List ℕ) where
 
   -- a tree, from the node with the index `base` on
   pub tree-reads : (e : Flat) (at base : ℕ) → SignedTree e → Stands b (at + 4 * base) (nodesFrom base e) → tree b at (rootFrom base e + 1) (rootFrom base e) ≡ e
-  unfolding nodesFrom rootFrom nextFrom nodesBelow numberWord
+  unfolding nodesFrom rootFrom nextFrom treeNodes numberWord
   tree-reads (Flat.constant c) at base s h =
-      let g = moved (nodeWords 7 (numberWord c) 0 0) (at + 4 * base) (at + 4 * (base + 0)) (omega arith) h in
-      tree-constant b at (base + 0) (constant-stands at (base + 0) 7 (numberWord c) 0 0 g c refl (sym (toZ-ofZ s)))
+      let r = base + 1 - 1 in
+      let g = moved (nodeWords 7 (numberWord c) 0 0) (at + 4 * base) (at + 4 * r) (omega arith) h in
+      tree-constant b at r (constant-stands at r 7 (numberWord c) 0 0 g c refl (sym (toZ-ofZ s)))
   tree-reads (Flat.variable v) at base s h =
-      let g = moved (nodeWords 8 v 0 0) (at + 4 * base) (at + 4 * (base + 0)) (omega arith) h in
-      tree-variable b at (base + 0) (variable-stands at (base + 0) 8 v 0 0 g refl)
+      let r = base + 1 - 1 in
+      let g = moved (nodeWords 8 v 0 0) (at + 4 * base) (at + 4 * r) (omega arith) h in
+      tree-variable b at r (variable-stands at r 8 v 0 0 g refl)
   tree-reads (Flat.negate x) at base s h =
-      let r = base + suc (nodesBelow x) in
-      let u = base + nodesBelow x in
+      let p = tree-positive x in
+      let u = base + treeNodes x - 1 in
+      let r = base + suc (treeNodes x) - 1 in
       let g = stands-right b (nodesFrom base x) (nodeWords 5 u 0 0) (at + 4 * base) (at + 4 * r) (omega (arith, length-nodes x base)) h in
       tree-negate b at r (negate-stands at r 5 u 0 0 g refl) (omega arith)
       ∙ ap Flat.negate (tree-reads x at base s (stands-left b (nodesFrom base x) (nodeWords 5 u 0 0) (at + 4 * base) h))
   tree-reads (Flat.infixed o x y) at base s h =
-      let u = base + nodesBelow x in
-      let n = suc u in
-      let v = n + nodesBelow y in
-      let r = base + (suc (nodesBelow x) + suc (nodesBelow y)) in
+      let p = tree-positive x in
+      let q = tree-positive y in
+      let u = base + treeNodes x - 1 in
+      let n = base + treeNodes x in
+      let v = n + treeNodes y - 1 in
+      let r = base + suc (treeNodes x + treeNodes y) - 1 in
       let w = nodeWords 4 u v (operatorWord o) in
       let g = stands-right b (nodesFrom base x) (nodesFrom n y ++ w) (at + 4 * base) (at + 4 * n) (omega (arith, length-nodes x base)) h in
       let k = stands-right b (nodesFrom n y) w (at + 4 * n) (at + 4 * r) (omega (arith, length-nodes y n)) g in
@@ -200,19 +205,19 @@ module _ (b : List ℕ) where
       ∙ ap₂ (Flat.infixed o) (tree-reads x at base (s .0) (stands-left b (nodesFrom base x) (nodesFrom n y ++ w) (at + 4 * base) h)) (tree-reads y at n (s .1) (stands-left b (nodesFrom n y) w (at + 4 * n) g))
 
   -- the kept definitions and their trees
-  kept-read : (ds : List Definition) (at j trees base count : ℕ) → All (λ d. SignedTree (d .right)) ds → Stands b (at + 2 * j) (keptWords base ds) → Stands b (trees + 4 * base) (keptNodes base ds) → base + nodeCount ds ≤ count → rows (length ds) j (definitionAt b at trees count) ≡ ds
-  unfolding rows keptWords keptNodes nodeCount definitionAt definitionWords
+  kept-read : (ds : List Definition) (at j trees base count : ℕ) → All (λ d. SignedTree (d .right)) ds → Stands b (at + 2 * j) (keptWords base ds) → Stands b (trees + 4 * base) (keptNodes base ds) → base + definitionsNodes ds ≤ count → rows (length ds) j (definitionAt b at trees count) ≡ ds
+  unfolding rows keptWords keptNodes definitionsNodes definitionAt definitionWords
   kept-read [] at j trees base count s h g l = refl
   kept-read (d ∷ ds) at j trees base count s h g l =
       let r = rootFrom base (d .right) in
       let n = nextFrom base (d .right) in
       let e0 : wordAt b (at + 2 * j) ≡ d .id = at-place b (d .id ∷ r ∷ keptWords n ds) (at + 2 * j) (at + 2 * j) 0 (omega arith) (omega arith) h in
       let e1 : wordAt b (at + 2 * j + 1) ≡ r = h 1 (omega arith) in
-      let t : tree b trees count r ≡ d .right = settled b trees count r (root-below base d (nodeCount ds) count l) ∙ tree-reads (d .right) trees base (s .0) (stands-left b (nodesFrom base (d .right)) (keptNodes n ds) (trees + 4 * base) g) in
+      let t : tree b trees count r ≡ d .right = settled b trees count r (root-below base d (definitionsNodes ds) count l) ∙ tree-reads (d .right) trees base (s .0) (stands-left b (nodesFrom base (d .right)) (keptNodes n ds) (trees + 4 * base) g) in
       let u : tree b trees count (wordAt b (at + 2 * j + 1)) ≡ d .right = ap (tree b trees count) e1 ∙ t in
       ap₂ _∷_ (λ i. record { id = e0 i; right = u i })
       (kept-read ds at (suc j) trees n count (s .1) (stands-right b (d .id ∷ r ∷ []) (keptWords n ds) (at + 2 * j) (at + 2 * suc j) (omega arith) h)
-      (stands-right b (nodesFrom base (d .right)) (keptNodes n ds) (trees + 4 * base) (trees + 4 * n) (next-words trees base d) g) (next-below base d (nodeCount ds) count l))
+      (stands-right b (nodesFrom base (d .right)) (keptNodes n ds) (trees + 4 * base) (trees + 4 * n) (next-words trees base d) g) (next-below base d (definitionsNodes ds) count l))
 
 -- the whole record
 module _ (m : ConstraintModule) (signed : Signed m) where
@@ -232,7 +237,7 @@ module _ (m : ConstraintModule) (signed : Signed m) where
   N = keptNodes 0 (m .kept)
 
   H : List ℕ
-  H = headerWords (m .next) (length (m .publics)) (length (m .provers)) (length (m .equalities)) (length (m .kept)) (nodeCount (m .kept))
+  H = headerWords (m .next) (length (m .publics)) (length (m .provers)) (length (m .equalities)) (length (m .kept)) (definitionsNodes (m .kept))
 
   b : List ℕ
   b = constraintBytes m
@@ -241,7 +246,7 @@ module _ (m : ConstraintModule) (signed : Signed m) where
   unfolding b constraintBytes constraintWords H P Q E K N
   stands k l = let e : 0 + k ≡ k = omega arith in ap (wordAt b) e ∙ wordAt-bytesOf (constraintWords m) k
 
-  header-reads : constraintOf b ≡ constraintWith b (m .next) (length (m .publics)) (length (m .provers)) (length (m .equalities)) (length (m .kept)) (nodeCount (m .kept))
+  header-reads : constraintOf b ≡ constraintWith b (m .next) (length (m .publics)) (length (m .provers)) (length (m .equalities)) (length (m .kept)) (definitionsNodes (m .kept))
   unfolding constraintOf headerWords H
   header-reads =
       let h : Stands b 0 H = stands-left b H (P ++ (Q ++ (E ++ (K ++ N)))) 0 stands in
@@ -250,10 +255,10 @@ module _ (m : ConstraintModule) (signed : Signed m) where
       let e2 : wordAt b 2 ≡ length (m .provers) = h 2 (omega arith) in
       let e3 : wordAt b 3 ≡ length (m .equalities) = h 3 (omega arith) in
       let e4 : wordAt b 4 ≡ length (m .kept) = h 4 (omega arith) in
-      let e5 : wordAt b 5 ≡ nodeCount (m .kept) = h 5 (omega arith) in
+      let e5 : wordAt b 5 ≡ definitionsNodes (m .kept) = h 5 (omega arith) in
       rw (e0, e1, e2, e3, e4, e5)
 
-  lists-read : constraintWith b (m .next) (length (m .publics)) (length (m .provers)) (length (m .equalities)) (length (m .kept)) (nodeCount (m .kept)) ≡ m
+  lists-read : constraintWith b (m .next) (length (m .publics)) (length (m .provers)) (length (m .equalities)) (length (m .kept)) (definitionsNodes (m .kept)) ≡ m
   unfolding constraintWith headerWords H P Q E K N
   lists-read =
       let i1 = 6 + length P in
@@ -268,7 +273,7 @@ module _ (m : ConstraintModule) (signed : Signed m) where
       let p1 : rows (length P) 0 (λ k. wordAt b (6 + k)) ≡ P = ids-read b P 6 0 (moved b P 6 (6 + 0) (omega arith) (stands-left b P _ 6 s0)) in
       let p2 : rows (length Q) 0 (λ k. wordAt b (i1 + k)) ≡ Q = ids-read b Q i1 0 (moved b Q i1 (i1 + 0) (omega arith) (stands-left b Q _ i1 s1)) in
       let p3 : rows (length (m .equalities)) 0 (equalityAt b i2) ≡ m .equalities = equalities-read b (m .equalities) i2 0 (signed .equalities) (moved b E i2 (i2 + 7 * 0) (omega arith) (stands-left b E _ i2 s2)) in
-      let p4 : rows (length (m .kept)) 0 (definitionAt b i3 i4 (nodeCount (m .kept))) ≡ m .kept = kept-read b (m .kept) i3 0 i4 0 (nodeCount (m .kept)) (signed .kept) (moved b K i3 (i3 + 2 * 0) (omega arith) (stands-left b K N i3 s3)) s4 (omega arith) in
+      let p4 : rows (length (m .kept)) 0 (definitionAt b i3 i4 (definitionsNodes (m .kept))) ≡ m .kept = kept-read b (m .kept) i3 0 i4 0 (definitionsNodes (m .kept)) (signed .kept) (moved b K i3 (i3 + 2 * 0) (omega arith) (stands-left b K N i3 s3)) s4 (omega arith) in
       λ i. record { next = m .next; publics = p1 i; provers = p2 i; equalities = p3 i; kept = p4 i }
 
 pub read-back : ReadBack
