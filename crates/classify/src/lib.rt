@@ -160,9 +160,15 @@ fn cuttable_operator(op: InfixOp) -> bool
     ensures { λ r. ⌜ r ≡ cuttable op ⌝ }
 {
     match op {
+        InfixOp::Divide => true,
+        InfixOp::DivideZ => true,
+        InfixOp::Multiply => true,
+        InfixOp::Add => true,
+        InfixOp::Subtract => true,
         InfixOp::Equal => false,
         InfixOp::Exponentiate => false,
-        _ => true,
+        InfixOp::IntDivide => true,
+        InfixOp::Modulo => true,
     }
 }
 
