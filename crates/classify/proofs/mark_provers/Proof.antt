@@ -57,7 +57,7 @@ loop-less : tie.Need-loop-less Inv-loop μ-loop
 loop-less c = search needs
 
 loop-again : tie.Need-loop-again Inv-loop μ-loop
-loop-again c = (record { count = c .before .before .loop .inv .0 .count; place = c .before .before .loop .inv .0 .place; within = omega arith }, (length-set _ _ _ ∙ c .before .before .loop .inv .1 .0, marked-turn _ _ (c .before .before .before .before .before .pre .0) (c .before .before .loop .inv .0) (c .before .loop-test .taken) (c .word-at .ensures) (c .before .before .loop .inv .1 .0) (c .before .before .loop .inv .1 .1)))
+loop-again c = (record { count = c .before .before .loop .inv .0 .count; place = c .before .before .loop .inv .0 .place; within = omega arith }, (simp length-set (c .before .before .loop .inv .1 .0), marked-turn _ _ (c .before .before .before .before .before .pre .0) (c .before .before .loop .inv .0) (c .before .loop-test .taken) (c .word-at .ensures) (c .before .before .loop .inv .1 .0) (c .before .before .loop .inv .1 .1)))
 
 returns : tie.Need-returns Inv-loop μ-loop
 returns c = marked-end _ _ (c .before .loop .inv .0) (c .loop-test .left) (c .before .loop .inv .1 .1) (c .before .loop .inv .1 .0)
