@@ -1,18 +1,17 @@
 -- The arrays by id: what a store changes, how usages compare, and an array with no marks. Assumes nothing.
-use Prim.Native.Nat.{ℕ, zero, suc, _+_, _≤_, _<_}
+use Prim.Native.Nat.{ℕ, zero, suc, _≤_, _<_}
 use mathlib.Core.Path.{_≡_, refl, sym, ap, _∙_, fun-ext}
 use mathlib.Core.List.{List}
-use mathlib.Core.Bool.{Bool, true, false, not, _&&_, _||_, or-false, or-true}
+use mathlib.Core.Bool.{Bool, true, false, _&&_, _||_, or-false, or-true}
 use mathlib.Core.Logic.{⊎-elim}
-use native.Mathlib.Numerals.{add-one}
 use native.Mathlib.Omega.{arith}
 use lib.ListN.{length, getD, set, length-set, replicate, length-replicate}
 use lib.Seq.{getD-set-same, getD-set-other}
-use lib.Dec.{eqb, ltb}
-use borrow.Author.Tests.{eq-eqb, ne-eqb, lt-ltb, le-ltb}
+use lib.Dec.{eqb}
+use borrow.Author.Tests.{eq-eqb, ne-eqb}
 use Rattle.flat.specs.Meaning.{update}
-use Rattle.flat.proofs.Laws.{split, alike}
-use Rattle.passes.specs.Passes.{Usage, Never, Witness, Constraint, most, isNever, isWitness, override}
+use Rattle.flat.proofs.Laws.{alike}
+use Rattle.passes.specs.Passes.{Never, Constraint, most, isWitness, override}
 use Rattle.passes.proofs.Lists.{update-same, update-other}
 use Rattle.classify.specs.Arrays.{usageAt, usageOf, marked, Uses, Marks, noMarks, Clear}
 
@@ -112,9 +111,9 @@ pub witness-yes : (m p : List ℕ) (v : ℕ) → v < 65536 → length p ≡ 6553
 unfolding usageOf
 witness-yes m p v l e h = record {
   says = fun-ext (λ w. marked-set p v (omega arith) w ∙ ⊎-elim
-    (λ (q : w ≡ v). rw (eq-eqb w v q, q, witness-at (getD m v 0) h, or-true))
-    (λ (n : w ≡ v → ⊥). rw (ne-eqb w v n, or-false))
-    (alike w v));
+      (λ (q : w ≡ v). rw (eq-eqb w v q, q, witness-at (getD m v 0) h, or-true))
+      (λ (n : w ≡ v → ⊥). rw (ne-eqb w v n, or-false))
+      (alike w v));
   long = length-set p v 1 ∙ e;
 }
 
@@ -122,9 +121,9 @@ pub witness-no : (m p : List ℕ) (v : ℕ) → length p ≡ 65536 → (getD m v
 unfolding usageOf
 witness-no m p v e h = record {
   says = fun-ext (λ w. ⊎-elim
-    (λ (q : w ≡ v). rw (eq-eqb w v q, q, no-witness-at (getD m v 0) h, or-false))
-    (λ (n : w ≡ v → ⊥). rw (ne-eqb w v n, or-false))
-    (alike w v));
+      (λ (q : w ≡ v). rw (eq-eqb w v q, q, no-witness-at (getD m v 0) h, or-false))
+      (λ (n : w ≡ v → ⊥). rw (ne-eqb w v n, or-false))
+      (alike w v));
   long = e;
 }
 

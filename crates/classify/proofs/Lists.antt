@@ -1,12 +1,12 @@
 -- Loops over the lists of a readable record: what is left of a list from an index on, and what the code knows at each index. Assumes nothing.
-use Prim.Native.Nat.{ℕ, zero, suc, _+_, _-_, _*_, _≤_, _<_}
-use mathlib.Core.Path.{_≡_, refl, sym, ap, _∙_}
+use Prim.Native.Nat.{ℕ, suc, _+_, _-_, _*_, _≤_, _<_}
+use mathlib.Core.Path.{_≡_, sym, ap, _∙_}
 use mathlib.Core.List.{List, [], _∷_}
 use native.Mathlib.Numerals.{add-one}
 use native.Mathlib.Omega.{arith}
 use Rattle.words.specs.Words.{wordAt}
 use Rattle.flat.specs.declared.Layout.{Layout}
-use Rattle.flat.specs.Trees.{Flat, Definition, Equation}
+use Rattle.flat.specs.Trees.{Definition, Equation}
 use Rattle.flat.specs.Record.{rows, next, provers, definitions, equations, nodes, proversAt, definitionsAt, equationsAt, nodesAt, layoutOf, tree, definitionAt, equationAt, moduleOf}
 use Rattle.flat.specs.Readable.{Readable, Inside}
 use Rattle.flat.proofs.Nodes.{settled}
@@ -103,7 +103,6 @@ module _ {b : List ℕ} {l : Layout} (e : l ≡ layoutOf b) where
     trees = ap (λ (x : Layout). x .«nodes_at») e;
     within = omega arith;
   }
-
 
 pub layout-next : (b : List ℕ) {l : Layout} → l ≡ layoutOf b → l .next ≡ next b
 unfolding layoutOf

@@ -1,8 +1,8 @@
 -- The turns and the ends of the loops. Assumes nothing.
 use Prim.Native.Nat.{ℕ, zero, suc, _+_, _-_, _*_, _≤_, _<_}
 use mathlib.Core.Path.{_≡_, refl, sym, ap, _∙_, fun-ext}
-use mathlib.Core.List.{List, [], _∷_}
-use mathlib.Core.Bool.{Bool, true, false, not, _&&_, _||_, or-false, false-and}
+use mathlib.Core.List.{List, _∷_}
+use mathlib.Core.Bool.{Bool, true, false, not, _&&_, _||_, or-false}
 use mathlib.Core.Logic.{⊎-elim}
 use native.Mathlib.Omega.{arith}
 use lib.ListN.{length, getD, set}
@@ -12,7 +12,7 @@ use Rattle.words.specs.Words.{wordAt}
 use Rattle.flat.specs.Meaning.{update}
 use Rattle.flat.specs.Trees.{Flat, Definition, Equation}
 use Rattle.flat.specs.Record.{provers, definitions, equations, tree, moduleOf}
-use Rattle.flat.specs.Readable.{Readable, Inside}
+use Rattle.flat.specs.Readable.{Readable}
 use Rattle.flat.proofs.Laws.{split, alike}
 use Rattle.passes.specs.Passes.{member, keepIf, those, Usage, isNever, isWitness, markUsed, usedIn, override, classifyDef, classified, usage, classifyDefs, cuttableExpr, cuttableDefs, cuttableEquations, counted}
 use Rattle.classify.specs.Arrays.{usageAt, usageOf, marked, Uses, Marks, Classified}
@@ -110,9 +110,9 @@ below-next : (w n : ℕ) → ltb w (n + 1) ≡ (ltb w n || eqb w n)
 below-next w n = ⊎-elim
     (λ (l : w < n). rw (lt-ltb w n l) (lt-ltb w (n + 1) (omega arith)))
     (λ (l : n ≤ w). ⊎-elim
-        (λ (e : w ≡ n). rw (le-ltb w n l, eq-eqb w n e) (lt-ltb w (n + 1) (omega arith)))
-        (λ (f : w ≡ n → ⊥). rw (le-ltb w n l, ne-eqb w n f) (le-ltb w (n + 1) (omega arith)))
-        (alike w n))
+    (λ (e : w ≡ n). rw (le-ltb w n l, eq-eqb w n e) (lt-ltb w (n + 1) (omega arith)))
+    (λ (f : w ≡ n → ⊥). rw (le-ltb w n l, ne-eqb w n f) (le-ltb w (n + 1) (omega arith)))
+    (alike w n))
     (split w n)
 
 either : (a x y z : Bool) → (a || (x && z) || (y && z)) ≡ (a || ((x || y) && z))

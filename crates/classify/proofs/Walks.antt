@@ -1,8 +1,8 @@
 -- Walks over the nodes of a readable record, by a falling node index: at each kind of node, what its children's walks say of it. Assumes nothing.
 use Prim.Native.Nat.{ℕ, _+_, _<_}
-use mathlib.Core.Path.{_≡_, refl, sym, ap, _∙_}
+use mathlib.Core.Path.{_≡_, sym, ap, _∙_}
 use mathlib.Core.List.{List}
-use mathlib.Core.Bool.{Bool, true, false, _&&_}
+use mathlib.Core.Bool.{Bool, true, false}
 use native.Mathlib.Omega.{arith}
 use lib.ListN.{length}
 use lib.IntN.{ℤ}
@@ -11,10 +11,10 @@ use Rattle.flat.specs.declared.Node.the-variants.{Infix, Negate, Constant, Vari
 use Rattle.flat.specs.Meaning.{update}
 use Rattle.flat.specs.Trees.{Flat}
 use Rattle.flat.specs.Record.{nodeOf, tree, nodes, next}
-use Rattle.flat.specs.Readable.{Readable, Inside}
+use Rattle.flat.specs.Readable.{Inside}
 use Rattle.flat.proofs.Nodes.{infix-below, negate-below, variable-below, tree-infix, tree-negate, tree-constant, tree-variable}
 use Rattle.passes.specs.Passes.{Usage, most, markUsed, cuttable, cuttableExpr}
-use Rattle.classify.specs.Arrays.{usageAt, usageOf, Uses}
+use Rattle.classify.specs.Arrays.{usageOf, Uses}
 
 module _ {b : List ℕ} {at k : ℕ} (i : Inside b at k) where
   -- the children are nodes of the record, with smaller indices

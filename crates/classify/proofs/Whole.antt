@@ -12,7 +12,7 @@ use Rattle.flat.specs.Record.{next, moduleOf}
 use Rattle.flat.specs.Readable.{Readable}
 use Rattle.flat.proofs.Laws.{split, alike}
 use Rattle.flat.proofs.Wellformed.{readable-provers}
-use Rattle.passes.specs.Passes.{member, keepIf, Usage, Never, isWitness, usedIn, classified, usage, idsFrom, classifyDefs}
+use Rattle.passes.specs.Passes.{member, keepIf, Never, isWitness, usedIn, classified, usage, idsFrom, classifyDefs}
 use Rattle.classify.specs.Arrays.{usageOf, marked, Uses, Marks, Clear, Classified}
 
 -- ---- an id among those that pass a test

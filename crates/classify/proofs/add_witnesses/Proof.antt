@@ -1,29 +1,12 @@
+-- `classify::add_witnesses` meets its contract. Assumes nothing.
 use Rattle.classify.proofs.add_witnesses.Statement.{statement}
 use Rattle.classify.proofs.add_witnesses.Tie as tie
-use Rattle.classify.proofs.add_witnesses.Reads as reads
-use Rattle.classify.proofs.add_witnesses.Lts as lts
-use Rattle.classify.proofs.add_witness.Reads as add-witness-reads
 use borrow.Author.Needs.{needs}
 use native.Mathlib.Omega.{arith}
-use Prim.Native.Nat.{ℕ, _-_, _+_, _*_, _≤_, _<_}
-use mathlib.Core.Path.{_≡_, refl, _∙_, ap, sym}
-use mathlib.Core.Bool.{Bool, true, false, _&&_, _||_}
-use mathlib.Core.List.{List}
+use Prim.Native.Nat.{_-_, _≤_}
+use mathlib.Core.Path.{_≡_}
 use lib.ListN.{length}
-use lib.Dec.{ltb}
-use borrow.Author.Tests.{not-true, not-false}
-use Rattle.passes.specs.Passes.{cuttable, isWitness, isNever, usedIn, classified, cuttableDefs, cuttableEquations, counted, those}
-use Rattle.flat.specs.Record.{rows, equationAt, definitionAt, moduleOf}
-use Rattle.classify.specs.Arrays.{usageAt, usageOf, marked, noMarks, Marks, Uses}
-use Rattle.classify.proofs.Arrays.{mark-more, mark-none, override-low, override-no, override-yes, witness-yes, witness-no}
-use Rattle.classify.proofs.Walks.{left-inside, right-inside, child-inside, id-small, used-infix, used-negate, used-constant, used-variable, cuttable-operator-no, cuttable-left-no, cuttable-infix, cuttable-negate, cuttable-constant, cuttable-variable}
-use Rattle.flat.specs.Record.{equations}
-use Rattle.passes.specs.Passes.{member}
-use Rattle.classify.proofs.Lists.{OverProvers, OverDefinitions, OverEquations, over-provers, over-definitions, over-equations, layout-next, prover-small, definition-small, definition-inside, left-side, right-side}
-use Rattle.classify.proofs.Turns.{UsedFrom, used-start, used-turn, used-end, ClassifiedFrom, classified-start, classified-turn, classified-end, MarkedFrom, marked-start, marked-turn, marked-end, WitnessesTo, witnesses-start, witnesses-turn, witnesses-end, CuttableFrom, cuttable-start, left-fails, right-fails, cuttable-turn, cuttable-end, CountedFrom, counted-start, counted-fails, counted-turn, counted-end, def-unused, def-prover, def-counted}
-use Rattle.classify.proofs.Whole.{provers-marked, classified-whole}
-use lib.ListN.{length-set}
-
+use Rattle.classify.proofs.Turns.{WitnessesTo, witnesses-start, witnesses-turn, witnesses-end}
 
 abbrev Inv-loop : tie.InvT-loop
 Inv-loop usage next provers₀ v₀ provers v = (v ≤ next) × ((length provers ≡ 65536) × WitnessesTo usage provers₀ provers v)
