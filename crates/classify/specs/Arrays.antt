@@ -22,7 +22,16 @@ usageOf m v = usageAt (getD m v 0)
 unfoldable pub marked : List ℕ → ℕ → Bool
 marked m v = not (eqb (getD m v 0) 0)
 
--- an array of 65,536 ids, none used or marked
+-- an array by the 65,536 ids that says how each is used, and one that marks those of a set
+pub record Uses (m : List ℕ) (f : ℕ → Usage) : Type 0 where
+  pub says : usageOf m ≡ f
+  pub long : length m ≡ 65536
+
+pub record Marks (m : List ℕ) (f : ℕ → Bool) : Type 0 where
+  pub says : marked m ≡ f
+  pub long : length m ≡ 65536
+
+-- none used or marked
 unfoldable pub noMarks : List ℕ
 noMarks = replicate 65536 0
 

@@ -3,9 +3,22 @@
 use field::InfixOp;
 use flat::Node;
 use words::word_at;
+ghost use mathlib.Core.Path.{_≡_};
+ghost use mathlib.Core.Bool.{_&&_, _||_};
+ghost use Prim.Native.Nat.{_+_, _<_, _≤_};
+ghost use lib.ListN.{length};
+ghost use lib.Dec.{eqb, ltb};
+ghost use Rattle.flat.specs.Meaning.{update};
+ghost use Rattle.flat.specs.Record.{tree, moduleOf};
+ghost use Rattle.flat.specs.Readable.{Readable, Inside};
+ghost use Rattle.passes.specs.Passes.{member, most, isNever, isWitness, markUsed, usedIn, override, classified, cuttable, cuttableExpr, cuttableDefs, cuttableEquations, counted};
+ghost use Rattle.classify.specs.Arrays.{usageAt, usageOf, marked, Uses, Marks, noMarks, Clear, Classified};
 
 // Id v is used at least so.
-fn mark(usage: &mut [u8; 65536], v: u32, u: u8) {
+fn mark(usage: &mut [u8; 65536], v: u32, u: u8)
+    requires { ⌜ (v < 65536) × (length (now usage) ≡ 65536) ⌝ }
+    ensures { λ _. ⌜ Uses (now (usage .exit)) (update (usageOf (now (usage .entry))) v (most (usageOf (now (usage .entry)) v) (usageAt u))) ⌝ }
+{
     let i = v as usize;
     if usage[i] < u {
         usage[i] = u;
@@ -13,7 +26,10 @@ fn mark(usage: &mut [u8; 65536], v: u32, u: u8) {
 }
 
 // Every variable of node k's tree is used at least so. The node index falls at each call.
-fn mark_used(s: &[u8], at: usize, k: usize, u: u8, usage: &mut [u8; 65536]) {
+fn mark_used(s: &[u8], at: usize, k: usize, u: u8, usage: &mut [u8; 65536])
+    requires { ⌜ Inside (now s) at k × (length (now usage) ≡ 65536) ⌝ }
+    ensures { λ _. ⌜ Uses (now (usage .exit)) (markUsed (usageAt u) (tree (now (s .entry)) at (k + 1) k) (usageOf (now (usage .entry)))) ⌝ }
+{
     let node = flat::node_at(s, at, k);
     match node {
         Node::Infix(_, x, y) => {
@@ -30,8 +46,15 @@ fn mark_used(s: &[u8], at: usize, k: usize, u: u8, usage: &mut [u8; 65536]) {
     }
 }
 
-// The variables of n equations, from word `equations` on, are used in constraints.
-fn mark_equations(s: &[u8], equations: usize, n: usize, at: usize, usage: &mut [u8; 65536]) {
+// The variables of the equations are used in constraints.
+fn mark_equations(s: &[u8], usage: &mut [u8; 65536])
+    requires { ⌜ Readable (now s) × (length (now usage) ≡ 65536) ⌝ }
+    ensures { λ _. ⌜ Uses (now (usage .exit)) (usedIn (moduleOf (now (s .entry)) .equations) (usageOf (now (usage .entry)))) ⌝ }
+{
+    let layout = flat::layout_of(s);
+    let n = layout.equations;
+    let equations = layout.equations_at;
+    let at = layout.nodes_at;
     let mut k = 0usize;
     while k < n {
         let left = word_at(s, equations + 2 * k) as usize;
@@ -43,7 +66,10 @@ fn mark_equations(s: &[u8], equations: usize, n: usize, at: usize, usage: &mut [
 }
 
 // How a defined id is used: as a witness where it is used and the prover's.
-fn override_usage(usage: &mut [u8; 65536], provers: &[u8; 65536], id: usize) -> u8 {
+fn override_usage(usage: &mut [u8; 65536], provers: &[u8; 65536], id: usize) -> u8
+    requires { ⌜ (id < 65536) × (length (now usage) ≡ 65536) ⌝ }
+    ensures { λ r. ⌜ (usageAt r ≡ override (marked (now (provers .entry)) id) (usageOf (now (usage .entry)) id)) × Uses (now (usage .exit)) (update (usageOf (now (usage .entry))) id (usageAt r)) ⌝ }
+{
     let u = usage[id];
     if u < 2 {
         return u;
@@ -56,17 +82,18 @@ fn override_usage(usage: &mut [u8; 65536], provers: &[u8; 65536], id: usize) -> 
 }
 
 // The definitions from the last to the first: each hands its usage on to the variables of its right side.
-fn mark_definitions(
-    s: &[u8],
-    definitions: usize,
-    n: usize,
-    at: usize,
-    provers: &[u8; 65536],
-    usage: &mut [u8; 65536],
-) {
-    let mut k = n;
-    while 0 < k {
-        k -= 1;
+fn mark_definitions(s: &[u8], provers: &[u8; 65536], usage: &mut [u8; 65536])
+    requires { ⌜ Readable (now s) × ((length (now usage) ≡ 65536) × (marked (now provers) ≡ (λ v. member v (moduleOf (now s) .provers)))) ⌝ }
+    ensures { λ _. ⌜ Uses (now (usage .exit)) (classified (moduleOf (now (s .entry)) .provers) (moduleOf (now (s .entry)) .definitions) (usageOf (now (usage .entry)))) ⌝ }
+{
+    let layout = flat::layout_of(s);
+    let n = layout.definitions;
+    let definitions = layout.definitions_at;
+    let at = layout.nodes_at;
+    let mut done = 0usize;
+    while done < n {
+        done += 1;
+        let k = n - done;
         let id = word_at(s, definitions + 2 * k) as usize;
         let node = word_at(s, definitions + 2 * k + 1) as usize;
         let u = override_usage(usage, provers, id);
@@ -74,8 +101,14 @@ fn mark_definitions(
     }
 }
 
-// The n ids from word `at` on are marked.
-fn mark_provers(s: &[u8], at: usize, n: usize, provers: &mut [u8; 65536]) {
+// The record's prover ids are marked.
+fn mark_provers(s: &[u8], provers: &mut [u8; 65536])
+    requires { ⌜ Readable (now s) × (length (now provers) ≡ 65536) ⌝ }
+    ensures { λ _. ⌜ Marks (now (provers .exit)) (λ v. marked (now (provers .entry)) v || member v (moduleOf (now (s .entry)) .provers)) ⌝ }
+{
+    let layout = flat::layout_of(s);
+    let n = layout.provers;
+    let at = layout.provers_at;
     let mut k = 0usize;
     while k < n {
         let id = word_at(s, at + k) as usize;
@@ -85,13 +118,20 @@ fn mark_provers(s: &[u8], at: usize, n: usize, provers: &mut [u8; 65536]) {
 }
 
 // Id v is the prover's where it is used as a witness.
-fn add_witness(usage: &[u8; 65536], provers: &mut [u8; 65536], v: usize) {
+fn add_witness(usage: &[u8; 65536], provers: &mut [u8; 65536], v: usize)
+    requires { ⌜ (v < 65536) × (length (now provers) ≡ 65536) ⌝ }
+    ensures { λ _. ⌜ Marks (now (provers .exit)) (λ w. marked (now (provers .entry)) w || (eqb w v && isWitness (usageOf (now (usage .entry)) w))) ⌝ }
+{
     if usage[v] == 1 {
         provers[v] = 1;
     }
 }
 
-fn add_witnesses(usage: &[u8; 65536], next: usize, provers: &mut [u8; 65536]) {
+// The ids below the next id that are used as a witness are the prover's.
+fn add_witnesses(usage: &[u8; 65536], next: usize, provers: &mut [u8; 65536])
+    requires { ⌜ (next ≤ 65536) × (length (now provers) ≡ 65536) ⌝ }
+    ensures { λ _. ⌜ Marks (now (provers .exit)) (λ w. marked (now (provers .entry)) w || (ltb w next && isWitness (usageOf (now (usage .entry)) w))) ⌝ }
+{
     let mut v = 0usize;
     while v < next {
         add_witness(usage, provers, v);
@@ -99,37 +139,46 @@ fn add_witnesses(usage: &[u8; 65536], next: usize, provers: &mut [u8; 65536]) {
     }
 }
 
-pub fn no_marks() -> [u8; 65536] {
+pub fn no_marks() -> [u8; 65536]
+    ensures { λ r. ⌜ r ≡ noMarks ⌝ }
+{
     [0u8; 65536]
 }
 
 // Usages and prover ids of a readable record, in arrays that are clear at the call.
-pub fn classify_defs(s: &[u8], usage: &mut [u8; 65536], provers: &mut [u8; 65536]) {
+pub fn classify_defs(s: &[u8], usage: &mut [u8; 65536], provers: &mut [u8; 65536])
+    requires { ⌜ Readable (now s) × Clear (now usage) (now provers) ⌝ }
+    ensures { λ _. ⌜ Classified (now (s .entry)) (now (usage .exit)) (now (provers .exit)) ⌝ }
+{
+    mark_provers(s, provers);
+    mark_equations(s, usage);
+    mark_definitions(s, provers, usage);
     let layout = flat::layout_of(s);
-    let nodes_at = layout.nodes_at;
-    mark_provers(s, layout.provers_at, layout.provers, provers);
-    mark_equations(s, layout.equations_at, layout.equations, nodes_at, usage);
-    mark_definitions(
-        s,
-        layout.definitions_at,
-        layout.definitions,
-        nodes_at,
-        provers,
-        usage,
-    );
     add_witnesses(usage, layout.next, provers);
 }
 
-fn cuttable_operator(op: InfixOp) -> bool {
+// Neither `^` nor `=`.
+fn cuttable_operator(op: InfixOp) -> bool
+    ensures { λ r. ⌜ r ≡ cuttable op ⌝ }
+{
     match op {
+        InfixOp::Divide => true,
+        InfixOp::DivideZ => true,
+        InfixOp::Multiply => true,
+        InfixOp::Add => true,
+        InfixOp::Subtract => true,
         InfixOp::Equal => false,
         InfixOp::Exponentiate => false,
-        _ => true,
+        InfixOp::IntDivide => true,
+        InfixOp::Modulo => true,
     }
 }
 
-// Whether node k's tree has neither `^` nor `=`.
-fn cuttable_expr(s: &[u8], at: usize, k: usize) -> bool {
+// Whether node k's tree has neither `^` nor `=`. The node index falls at each call.
+fn cuttable_expr(s: &[u8], at: usize, k: usize) -> bool
+    requires { ⌜ Inside (now s) at k ⌝ }
+    ensures { λ r. ⌜ r ≡ cuttableExpr (tree (now (s .entry)) at (k + 1) k) ⌝ }
+{
     let node = flat::node_at(s, at, k);
     match node {
         Node::Infix(op, x, y) => {
@@ -147,7 +196,15 @@ fn cuttable_expr(s: &[u8], at: usize, k: usize) -> bool {
     }
 }
 
-fn cuttable_equations(s: &[u8], equations: usize, n: usize, at: usize) -> bool {
+// Whether no equation has `^` or an inner `=`.
+fn cuttable_equations(s: &[u8]) -> bool
+    requires { ⌜ Readable (now s) ⌝ }
+    ensures { λ r. ⌜ r ≡ cuttableEquations (moduleOf (now (s .entry)) .equations) ⌝ }
+{
+    let layout = flat::layout_of(s);
+    let n = layout.equations;
+    let equations = layout.equations_at;
+    let at = layout.nodes_at;
     let mut k = 0usize;
     while k < n {
         let left = word_at(s, equations + 2 * k) as usize;
@@ -171,7 +228,10 @@ fn cuttable_def(
     node: usize,
     usage: &[u8; 65536],
     provers: &[u8; 65536],
-) -> bool {
+) -> bool
+    requires { ⌜ Inside (now s) at node × (id < 65536) ⌝ }
+    ensures { λ r. ⌜ r ≡ (isNever (usageOf (now (usage .entry)) id) || (marked (now (provers .entry)) id || cuttableExpr (tree (now (s .entry)) at (node + 1) node))) ⌝ }
+{
     if usage[id] == 0 {
         return true;
     }
@@ -181,14 +241,15 @@ fn cuttable_def(
     cuttable_expr(s, at, node)
 }
 
-fn cuttable_defs(
-    s: &[u8],
-    definitions: usize,
-    n: usize,
-    at: usize,
-    usage: &[u8; 65536],
-    provers: &[u8; 65536],
-) -> bool {
+// Whether no counted definition has `^` or `=`.
+fn cuttable_defs(s: &[u8], usage: &[u8; 65536], provers: &[u8; 65536]) -> bool
+    requires { ⌜ Readable (now s) × Classified (now s) (now usage) (now provers) ⌝ }
+    ensures { λ r. ⌜ r ≡ cuttableDefs (counted (moduleOf (now (s .entry)))) ⌝ }
+{
+    let layout = flat::layout_of(s);
+    let n = layout.definitions;
+    let definitions = layout.definitions_at;
+    let at = layout.nodes_at;
     let mut k = 0usize;
     while k < n {
         let id = word_at(s, definitions + 2 * k) as usize;
@@ -202,18 +263,12 @@ fn cuttable_defs(
 }
 
 // Not 22.
-pub fn cuttable(s: &[u8], usage: &[u8; 65536], provers: &[u8; 65536]) -> bool {
-    let layout = flat::layout_of(s);
-    let nodes_at = layout.nodes_at;
-    if !cuttable_defs(
-        s,
-        layout.definitions_at,
-        layout.definitions,
-        nodes_at,
-        usage,
-        provers,
-    ) {
+pub fn cuttable(s: &[u8], usage: &[u8; 65536], provers: &[u8; 65536]) -> bool
+    requires { ⌜ Readable (now s) × Classified (now s) (now usage) (now provers) ⌝ }
+    ensures { λ r. ⌜ r ≡ (cuttableDefs (counted (moduleOf (now (s .entry)))) && cuttableEquations (moduleOf (now (s .entry)) .equations)) ⌝ }
+{
+    if !cuttable_defs(s, usage, provers) {
         return false;
     }
-    cuttable_equations(s, layout.equations_at, layout.equations, nodes_at)
+    cuttable_equations(s)
 }
