@@ -13,7 +13,8 @@ use Rattle.words.specs.Words.{setWords, bytesOf}
 use Rattle.words.proofs.Laws.{setWords-bytes, bytesOf-append, length-bytesOf}
 use Rattle.flat.specs.Record.{pick}
 use Rattle.constraint.specs.Trees.{ConstraintModule}
-use Rattle.constraint.specs.Record.{headerWords, constraintWords, constraintBytes, equalitiesWords, keptWords, keptNodes, nodeCount}
+use Rattle.constraint.specs.Record.{headerWords, constraintWords, constraintBytes, equalitiesWords, keptWords, keptNodes}
+use Rattle.flat.specs.Trees.{definitionsNodes}
 use Rattle.constraint.proofs.Lengths.{length-bytes}
 use Rattle.passes.specs.Passes.{cut}
 use Rattle.cut.specs.declared.Answer.{Answer}
@@ -48,10 +49,10 @@ header-long a b d e f g = refl
 -- ---- the record
 
 -- a constraint record is its header, its body and its nodes
-in-parts : (c : ConstraintModule) → constraintBytes c ≡ (bytesOf (headerWords (c .next) (length (c .publics)) (length (c .provers)) (length (c .equalities)) (length (c .kept)) (nodeCount (c .kept))) ++ bytesOf (bodyWords c)) ++ bytesOf (keptNodes 0 (c .kept))
+in-parts : (c : ConstraintModule) → constraintBytes c ≡ (bytesOf (headerWords (c .next) (length (c .publics)) (length (c .provers)) (length (c .equalities)) (length (c .kept)) (definitionsNodes (c .kept))) ++ bytesOf (bodyWords c)) ++ bytesOf (keptNodes 0 (c .kept))
 unfolding constraintBytes constraintWords bodyWords
 in-parts c =
-    let h : List ℕ = headerWords (c .next) (length (c .publics)) (length (c .provers)) (length (c .equalities)) (length (c .kept)) (nodeCount (c .kept)) in
+    let h : List ℕ = headerWords (c .next) (length (c .publics)) (length (c .provers)) (length (c .equalities)) (length (c .kept)) (definitionsNodes (c .kept)) in
     let p : List ℕ = c .publics in
     let q : List ℕ = c .provers in
     let e : List ℕ = equalitiesWords (c .equalities) in
@@ -71,7 +72,7 @@ module _ (c : ConstraintModule) (built : Built) (body list : List ℕ) (made : M
   unfolding answerFor outputFor pick
   not-delivered out l = let z : length out < length (constraintBytes c) = omega (arith, size-is) in (rw (lt-leb _ _ z), rw (lt-leb _ _ z))
 
-  header-is : (publics : ℕ) → publics ≡ length (c .publics) → headerWords (built .next) publics (built .start - publics) ((built .equalities - built .start) / 7) ((built .kept - built .equalities) / 2) (built .nodes) ≡ headerWords (c .next) (length (c .publics)) (length (c .provers)) (length (c .equalities)) (length (c .kept)) (nodeCount (c .kept))
+  header-is : (publics : ℕ) → publics ≡ length (c .publics) → headerWords (built .next) publics (built .start - publics) ((built .equalities - built .start) / 7) ((built .kept - built .equalities) / 2) (built .nodes) ≡ headerWords (c .next) (length (c .publics)) (length (c .provers)) (length (c .equalities)) (length (c .kept)) (definitionsNodes (c .kept))
   header-is publics e =
       let z1 : built .start - publics ≡ length (c .provers) = omega (arith, made .start-is) in
       let z2 : (built .equalities - built .start) / 7 ≡ length (c .equalities) = omega (arith, made .equalities-is) in

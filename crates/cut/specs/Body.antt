@@ -5,7 +5,8 @@ use mathlib.Core.List.{List, _++_}
 use lib.ListN.{length, take, replicate}
 use Rattle.words.specs.Words.{bytesOf}
 use Rattle.constraint.specs.Trees.{ConstraintModule}
-use Rattle.constraint.specs.Record.{equalitiesWords, keptWords, keptNodes, nodeCount}
+use Rattle.flat.specs.Trees.{definitionsNodes}
+use Rattle.constraint.specs.Record.{equalitiesWords, keptWords, keptNodes}
 use Rattle.cut.specs.declared.body.Built.{Built}
 
 -- 64 publics, 65,536 prover ids, 7 words for each of 16,384 equalities, 2 for each of 4,096 kept definitions
@@ -26,7 +27,7 @@ pub record Made (c : ConstraintModule) (built : Built) (body list : List ℕ) : 
   pub start-is : built .start ≡ length (c .publics) + length (c .provers)
   pub equalities-is : built .equalities ≡ built .start + 7 * length (c .equalities)
   pub kept-is : built .kept ≡ built .equalities + 2 * length (c .kept)
-  pub nodes-is : built .nodes ≡ nodeCount (c .kept)
+  pub nodes-is : built .nodes ≡ definitionsNodes (c .kept)
   pub body-is : take (4 * built .kept) body ≡ bytesOf (bodyWords c)
   pub list-is : take (16 * built .nodes) list ≡ bytesOf (keptNodes 0 (c .kept))
 
