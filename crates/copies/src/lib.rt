@@ -6,11 +6,16 @@ use words::signed;
 use words::unsigned;
 use words::word_at;
 ghost use mathlib.Core.Path.{_≡_};
-ghost use Prim.Native.Nat.{_+_, _*_, _≤_, _<_};
-ghost use lib.ListN.{length};
+ghost use mathlib.Core.Bool.{false, not};
+ghost use mathlib.Core.Option.{none};
+ghost use Prim.Native.Nat.{_+_, _*_, _<_};
+ghost use lib.ListN.{length, set};
+ghost use Rattle.flat.specs.Record.{pick, definitions, definitionsAt, tree, moduleOf};
+ghost use Rattle.flat.specs.Readable.{Readable, Inside};
 ghost use Rattle.constraint.specs.declared.Term.the-variants.{Variable};
-ghost use Rattle.passes.specs.Passes.{walk};
-ghost use Rattle.copies.specs.Substituted.{substOf};
+ghost use Rattle.passes.specs.Passes.{isNever, those, walk, copyPropagateExpr, substituting};
+ghost use Rattle.classify.specs.Arrays.{usageAt, usageOf};
+ghost use Rattle.copies.specs.Substituted.{substOf, noSubstitutions, copiedOf, sameTerm, deadRoots};
 
 // An id as an index.
 fn index(id: u32) -> usize
@@ -44,13 +49,17 @@ pub fn resolve(subs: &[u32; 131072], v: u32, steps: usize) -> Term
     Term::Variable(id)
 }
 
-// An expression with the substitutions made: a term, or a tree.
+// The root of an expression with the substitutions made: a term, or an operation on others.
 pub enum Copied {
     Leaf(Term),
     Tree,
 }
 
-pub fn copy_expr(s: &[u8], at: usize, k: usize, subs: &[u32; 131072], steps: usize) -> Copied {
+// The root of node k's expression with the substitutions made.
+pub fn copy_expr(s: &[u8], at: usize, k: usize, subs: &[u32; 131072], steps: usize) -> Copied
+    requires { ⌜ Inside (now s) at k ⌝ }
+    ensures { λ r. ⌜ r ≡ copiedOf (copyPropagateExpr steps (substOf (now (subs .entry))) (tree (now (s .entry)) at (k + 1) k)) ⌝ }
+{
     let node = flat::node_at(s, at, k);
     match node {
         Node::Infix(_, _, _) => Copied::Tree,
@@ -60,13 +69,19 @@ pub fn copy_expr(s: &[u8], at: usize, k: usize, subs: &[u32; 131072], steps: usi
     }
 }
 
-fn put_substitution(subs: &mut [u32; 131072], id: usize, kind: u32, value: u32) {
+fn put_substitution(subs: &mut [u32; 131072], id: usize, kind: u32, value: u32)
+    requires { ⌜ id < 65536 ⌝ }
+    ensures { λ _. ⌜ now (subs .exit) ≡ set (set (now (subs .entry)) (2 * id) kind) (2 * id + 1) value ⌝ }
+{
     subs[2 * id] = kind;
     subs[2 * id + 1] = value;
 }
 
 // The substitutions after a definition whose id is not the prover's: a term stands for its variable, unless it is the variable itself.
-pub fn substitute(s: &[u8], at: usize, id: u32, k: usize, subs: &mut [u32; 131072], steps: usize) {
+pub fn substitute(s: &[u8], at: usize, id: u32, k: usize, subs: &mut [u32; 131072], steps: usize)
+    requires { ⌜ Inside (now s) at k × (id < 65536) × (length (now subs) ≡ 131072) ⌝ }
+    ensures { λ _. ⌜ (substOf (now (subs .exit)) ≡ substituting false id (copyPropagateExpr steps (substOf (now (subs .entry))) (tree (now (s .entry)) at (k + 1) k)) (substOf (now (subs .entry)))) × (length (now (subs .exit)) ≡ 131072) ⌝ }
+{
     let Copied::Leaf(term) = copy_expr(s, at, k, subs, steps) else {
         return;
     };
@@ -82,7 +97,9 @@ pub fn substitute(s: &[u8], at: usize, id: u32, k: usize, subs: &mut [u32; 13107
     }
 }
 
-fn same_term(a: Term, b: Term) -> bool {
+fn same_term(a: Term, b: Term) -> bool
+    ensures { λ r. ⌜ r ≡ sameTerm a b ⌝ }
+{
     match a {
         Term::Variable(v) => match b {
             Term::Variable(w) => v == w,
@@ -96,7 +113,9 @@ fn same_term(a: Term, b: Term) -> bool {
 }
 
 // Whether an equation is obviously true: two equal constants, as they are written, or one variable twice.
-pub fn is_dead(a: Copied, b: Copied) -> bool {
+pub fn is_dead(a: Copied, b: Copied) -> bool
+    ensures { λ r. ⌜ r ≡ deadRoots a b ⌝ }
+{
     let Copied::Leaf(x) = a else {
         return false;
     };
@@ -106,12 +125,17 @@ pub fn is_dead(a: Copied, b: Copied) -> bool {
     same_term(x, y)
 }
 
-pub fn no_substitutions() -> [u32; 131072] {
+// No id has a substitution.
+pub fn no_substitutions() -> [u32; 131072]
+    ensures { λ r. ⌜ r ≡ noSubstitutions ⌝ }
+{
     [0u32; 131072]
 }
 
 // No id has a substitution any more.
-pub fn clear_substitutions(subs: &mut [u32; 131072]) {
+pub fn clear_substitutions(subs: &mut [u32; 131072])
+    ensures { λ _. ⌜ (substOf (now (subs .exit)) ≡ (λ _. none)) × (length (now (subs .exit)) ≡ length (now (subs .entry))) ⌝ }
+{
     let mut i = 0usize;
     while i < 131072 {
         subs[i] = 0;
@@ -119,19 +143,24 @@ pub fn clear_substitutions(subs: &mut [u32; 131072]) {
     }
 }
 
-fn one_where_used(u: u8) -> usize {
+fn one_where_used(u: u8) -> usize
+    ensures { λ r. ⌜ r ≡ pick (not (isNever (usageAt u))) 1 0 ⌝ }
+{
     if u == 0 {
         return 0;
     }
     1
 }
 
-// How many of n definitions from word `definitions` on are used: the steps that suffice for every walk.
-pub fn used_definitions(s: &[u8], definitions: usize, n: usize, usage: &[u8; 65536]) -> usize {
+// How many of the record's n definitions, from word `at` on, are used: the steps that suffice for every walk.
+pub fn used_definitions(s: &[u8], at: usize, n: usize, usage: &[u8; 65536]) -> usize
+    requires { ⌜ Readable (now s) × (at ≡ definitionsAt (now s)) × (n ≡ definitions (now s)) ⌝ }
+    ensures { λ r. ⌜ r ≡ length (those (λ v. not (isNever (usageOf (now (usage .entry)) v))) (moduleOf (now (s .entry)) .definitions)) ⌝ }
+{
     let mut count = 0usize;
     let mut k = 0usize;
     while k < n {
-        let id = word_at(s, definitions + 2 * k) as usize;
+        let id = index(word_at(s, at + 2 * k));
         count += one_where_used(usage[id]);
         k += 1;
     }
