@@ -1,18 +1,17 @@
 -- A walk along the substitutions in an array: none, a number or a variable stands for an id, and a walk's turns and ends. Assumes nothing.
-use mathlib.Core.Path.{_≡_, refl, sym, ap, _∙_}
+use mathlib.Core.Path.{_≡_, sym, ap, _∙_}
 use mathlib.Core.List.{List}
-use mathlib.Core.Option.{Option, none, some}
-use Prim.Native.Nat.{ℕ, zero, suc, _+_, _-_, _*_, _≤_, _<_}
+use mathlib.Core.Option.{none, some}
+use Prim.Native.Nat.{ℕ, suc, _+_, _-_, _*_, _≤_, _<_}
 use native.Mathlib.Omega.{arith}
 use lib.IntN.{ℤ}
-use lib.Dec.{eqb, ltb}
 use lib.ListN.{getD}
 use mir.Val.{toZ}
 use mir.Syntax.{w32}
 use borrow.Author.Tests.{eq-eqb, ne-eqb, lt-ltb, le-ltb}
 use Rattle.flat.specs.Record.{pick}
 use Rattle.constraint.specs.declared.Term.{Term}
-use Rattle.passes.specs.Passes.{Substitutions, walk}
+use Rattle.passes.specs.Passes.{walk}
 use Rattle.passes.proofs.Loops.{walk-step, walk-resolved}
 use Rattle.copies.specs.Substituted.{standing, substOf}
 
