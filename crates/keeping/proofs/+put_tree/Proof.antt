@@ -1,5 +1,5 @@
 -- `keeping::put_tree` meets its contract. Assumes nothing.
-use Prim.Native.Nat.{ℕ}
+use Prim.Native.Nat.{ℕ, _<_}
 use borrow.Fn.Kinds.{In}
 use borrow.Fn.PlainCycle.{Measures, is, falls, and}
 use Rattle.keeping.proofs.put_tree.Reads as put-tree
