@@ -1,3 +1,4 @@
 pub mod Simplified
 pub mod Trees
 pub mod Placing
+pub mod Ways
