@@ -72,7 +72,7 @@ module _ (target : Target) (k : ℕ) (s : Substitutions) (e : Flat) {b c : List 
       let g : x .next ≤ n + treeNodes e = cut-ids k s e n target in
       record { words = omega (arith, h .words); ids = omega (arith, h .ids) }
 
-module _ (k : ℕ) (s : Substitutions) (e : Flat) {b : List ℕ} {at n : ℕ} (h : Room (treeNodes e) at n b) where
+module _ (e : Flat) {b : List ℕ} {at n : ℕ} (h : Room (treeNodes e) at n b) where
   module _ {o : InfixOp} {x y : Flat} (p : e ≡ Flat.infixed o x y) where
     size : treeNodes e ≡ treeNodes x + (treeNodes y + 1)
     unfolding treeNodes
@@ -81,7 +81,7 @@ module _ (k : ℕ) (s : Substitutions) (e : Flat) {b : List ℕ} {at n : ℕ} (h
     pub room-first : Room (treeNodes x) at n b
     room-first = room-less (treeNodes e) h (omega (arith, size))
 
-    module _ {c : List ℕ} {r : Cut} (l : Leaves b c at (treeCut New k s x n) r) where
+    module _ (k : ℕ) (s : Substitutions) {c : List ℕ} {r : Cut} (l : Leaves b c at (treeCut New k s x n) r) where
       rest : Room (treeNodes y + 1) (r .at) (r .next) c
       rest = room-on New k s x l (treeNodes y + 1) (rw size at h)
 
@@ -99,8 +99,8 @@ module _ (k : ℕ) (s : Substitutions) (e : Flat) {b : List ℕ} {at n : ℕ} (h
     pub room-negated : Room (treeNodes x) at n b
     room-negated = room-less (treeNodes e) h (omega (arith, sized))
 
-    pub room-pushed : {c : List ℕ} {r : Cut} → Leaves b c at (treeCut New k s x n) r → (4 * r .at + 28 ≤ length c) × (r .next < 131072)
-    room-pushed l = room-one (room-on New k s x l 1 (rw sized at h)) (omega arith)
+    pub room-pushed : (k : ℕ) (s : Substitutions) {c : List ℕ} {r : Cut} → Leaves b c at (treeCut New k s x n) r → (4 * r .at + 28 ≤ length c) × (r .next < 131072)
+    room-pushed k s l = room-one (room-on New k s x l 1 (rw sized at h)) (omega arith)
 
   pub room-term : 4 * at + 28 ≤ length b
   room-term = room-one h (nodes-some e) .0
@@ -127,8 +127,8 @@ module _ (target : Target) (k : ℕ) (s : Substitutions) (e : Flat) (b : List �
       let g = pushed b at (r1 .next) (targetOf target) (X .equalities) (Side.negate (r1 .term)) lt qt (l1 .0) (its-at at X (l1 .1)) (w .0) in
       rw z (g .0, w .1 ∙ g .1)
 
-  pub way-constant : {z : ℤ} {c : List ℕ} {r : Cut} → e ≡ Flat.constant z → Leaves b c at (copied (targetOf target) (Term.Constant z) n) r → Leaves b c at (treeCut target k s e n) r
-  way-constant p l = rw (cut-constant target k s n p) l
+  pub way-constant : {z w : ℤ} {c : List ℕ} {r : Cut} → e ≡ Flat.constant z → w ≡ z → Leaves b c at (copied (targetOf target) (Term.Constant w) n) r → Leaves b c at (treeCut target k s e n) r
+  way-constant p q l = rw (cut-constant target k s n p, ← q) l
 
   pub way-variable : {v : ℕ} {t : Term} {c : List ℕ} {r : Cut} → e ≡ Flat.variable v → t ≡ walk k s (Term.Variable v) → Leaves b c at (copied (targetOf target) t n) r → Leaves b c at (treeCut target k s e n) r
   way-variable p q l = rw (cut-variable target k s n p, ← q) l

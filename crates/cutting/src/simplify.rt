@@ -40,6 +40,18 @@ pub fn copy(left: Term, term: Term) -> Equality
     }
 }
 
+// left = -term
+pub fn negate(left: Term, term: Term) -> Equality
+    ensures { λ r. ⌜ r ≡ equalityOf left (Side.negate term) ⌝ }
+{
+    Equality {
+        left,
+        operation: Operation::Negate,
+        first: term,
+        second: Term::Variable(0),
+    }
+}
+
 // left = a OP b
 fn plain(left: Term, op: InfixOp, a: Term, b: Term) -> Equality
     ensures { λ r. ⌜ r ≡ equalityOf left (Side.infixed op a b) ⌝ }
