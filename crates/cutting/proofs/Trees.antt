@@ -7,13 +7,26 @@ use native.Mathlib.Omega.{arith}
 use lib.IntN.{ℤ}
 use lib.ListN.{length, length-append}
 use Rattle.field.specs.declared.InfixOp.{InfixOp}
+use Rattle.flat.specs.declared.Node.the-variants.{Infix, Negate}
 use Rattle.flat.specs.Trees.{Flat, treeNodes}
+use Rattle.flat.specs.Record.{nodeOf, tree}
+use Rattle.flat.specs.Readable.{Inside}
+use Rattle.flat.proofs.Nodes.{tree-infix, tree-negate}
+use Rattle.classify.proofs.Walks.{left-inside, right-inside, child-inside}
 use Rattle.constraint.specs.declared.Term.{Term}
 use Rattle.constraint.specs.Trees.{Side, Equality}
 use Rattle.passes.specs.Passes.{Substitutions, walk, toExpr, copyPropagateExpr, infixOp, Cut, pushConstraintDef, copied, flattenExprTo3ac}
 use Rattle.cutting.specs.declared.Target.{Target}
 use Rattle.cutting.specs.declared.Target.the-variants.{New, Given}
 use Rattle.cutting.specs.Cutting.{targetOf, treeCut}
+
+-- a node's tree, by those of its children
+module _ {b : List ℕ} {at k : ℕ} (i : Inside b at k) where
+  pub node-infix : {o : InfixOp} {x y : ℕ} → nodeOf b at k ≡ Infix o x y → tree b at (k + 1) k ≡ Flat.infixed o (tree b at (x + 1) x) (tree b at (y + 1) y)
+  node-infix e = tree-infix b at k e (left-inside i e .0) (right-inside i e .0)
+
+  pub node-negate : {x : ℕ} → nodeOf b at k ≡ Negate x → tree b at (k + 1) k ≡ Flat.negate (tree b at (x + 1) x)
+  node-negate e = tree-negate b at k e (child-inside i e .0)
 
 -- a term draws no id
 pub term-cut : (out : Option Term) (t : Term) (n : ℕ) → flattenExprTo3ac out (toExpr t) n ≡ copied out t n

@@ -24,7 +24,9 @@ use Rattle.cutting.proofs.Simplified.{one-variable, one-constant, zero-
 use Rattle.cutting.proofs.Placing.{left-new, left-given, placed-new, placed-given}
 use mir.Syntax.{w32}
 use mir.ValLaws.{toZ-ofZ}
-use Rattle.copies.proofs.Shapes.{inside-infix, inside-negate, inside-constant, inside-variable}
+use Rattle.classify.proofs.Walks.{left-inside, right-inside, child-inside}
+use Rattle.flat.proofs.Nodes.{tree-constant, tree-variable}
+use Rattle.cutting.proofs.Trees.{node-infix, node-negate}
 use Rattle.cutting.proofs.Ways.{room-first, room-second, room-third, room-negated, room-pushed, room-term, way-infix, way-negate, way-constant, way-variable}
 
 
@@ -106,7 +108,7 @@ flatten-expr-to-3ac-flatten-expr-to-3ac-requires :
       resolve-reads.Asked,
       resolve-reads.Learnt,
     ) (flatten-expr-to-3ac-at t) flatten-expr-to-3ac.Post
-flatten-expr-to-3ac-flatten-expr-to-3ac-requires t c κs = let w = inside-infix (c .before .before .before .before .before .before .before .pre .1 .0) (sym (c .before .before .before .before .node-at .ensures) ∙ c .before .before .node .given .1) in (omega (arith, c .before .before .before .before .before .before .before .pre .0, w .2), (w .0, room-first _ (c .before .before .before .before .before .before .before .pre .1 .1) (w .4)))
+flatten-expr-to-3ac-flatten-expr-to-3ac-requires t c κs = let w = left-inside (c .before .before .before .before .before .before .before .pre .1 .0) (sym (c .before .before .before .before .node-at .ensures) ∙ c .before .before .node .given .1) in (omega (arith, c .before .before .before .before .before .before .before .pre .0, w .0), (w .1, room-first _ (c .before .before .before .before .before .before .before .pre .1 .1) (node-infix (c .before .before .before .before .before .before .before .pre .1 .0) (sym (c .before .before .before .before .node-at .ensures) ∙ c .before .before .node .given .1))))
 
 flatten-expr-to-3ac-flatten-expr-to-3ac-requires-2 :
     (t : ℕ) → flatten-expr-to-3ac-lts.Need-flatten-expr-to-3ac-requires-2 (
@@ -127,7 +129,7 @@ flatten-expr-to-3ac-flatten-expr-to-3ac-requires-2 :
       resolve-reads.Asked,
       resolve-reads.Learnt,
     ) (flatten-expr-to-3ac-at t) flatten-expr-to-3ac.Post
-flatten-expr-to-3ac-flatten-expr-to-3ac-requires-2 t c κs = let w = inside-infix (c .before .before .before .before .before .before .before .before .before .before .before .pre .1 .0) (sym (c .before .before .before .before .before .before .before .before .node-at .ensures) ∙ c .before .before .before .before .before .before .node .given .1) in (omega (arith, c .before .before .before .before .before .before .before .before .before .before .before .pre .0, w .3), (w .1, room-second _ (c .before .before .before .before .before .before .before .before .before .before .before .pre .1 .1) (w .4) _ _ (c .before .before .before .flatten-expr-to-3ac .ensures)))
+flatten-expr-to-3ac-flatten-expr-to-3ac-requires-2 t c κs = let w = right-inside (c .before .before .before .before .before .before .before .before .before .before .before .pre .1 .0) (sym (c .before .before .before .before .before .before .before .before .node-at .ensures) ∙ c .before .before .before .before .before .before .node .given .1) in (omega (arith, c .before .before .before .before .before .before .before .before .before .before .before .pre .0, w .0), (w .1, room-second _ (c .before .before .before .before .before .before .before .before .before .before .before .pre .1 .1) (node-infix (c .before .before .before .before .before .before .before .before .before .before .before .pre .1 .0) (sym (c .before .before .before .before .before .before .before .before .node-at .ensures) ∙ c .before .before .before .before .before .before .node .given .1)) _ _ (c .before .before .before .flatten-expr-to-3ac .ensures)))
 
 flatten-expr-to-3ac-left-term-requires : (t : ℕ) → flatten-expr-to-3ac-lts.Need-left-term-requires (
   node-at-reads.Asked,
@@ -188,7 +190,7 @@ flatten-expr-to-3ac-push-constraint-def-requires :
       resolve-reads.Asked,
       resolve-reads.Learnt,
     ) (flatten-expr-to-3ac-at t) flatten-expr-to-3ac.Post
-flatten-expr-to-3ac-push-constraint-def-requires t c κs = let w = inside-infix (c .before .before .before .before .before .before .before .before .before .before .before .before .before .before .before .before .before .pre .1 .0) (sym (c .before .before .before .before .before .before .before .before .before .before .before .before .before .before .node-at .ensures) ∙ c .before .before .before .before .before .before .before .before .before .before .before .before .node .given .1) in room-third _ (c .before .before .before .before .before .before .before .before .before .before .before .before .before .before .before .before .before .pre .1 .1) (w .4) _ _ (c .before .before .before .before .before .before .before .before .before .flatten-expr-to-3ac .ensures) (c .before .before .before .before .before .flatten-expr-to-3ac2 .ensures)
+flatten-expr-to-3ac-push-constraint-def-requires t c κs = room-third _ (c .before .before .before .before .before .before .before .before .before .before .before .before .before .before .before .before .before .pre .1 .1) (node-infix (c .before .before .before .before .before .before .before .before .before .before .before .before .before .before .before .before .before .pre .1 .0) (sym (c .before .before .before .before .before .before .before .before .before .before .before .before .before .before .node-at .ensures) ∙ c .before .before .before .before .before .before .before .before .before .before .before .before .node .given .1)) _ _ (c .before .before .before .before .before .before .before .before .before .flatten-expr-to-3ac .ensures) (c .before .before .before .before .before .flatten-expr-to-3ac2 .ensures)
 
 flatten-expr-to-3ac-enum-known-node-2 : (t : ℕ) → flatten-expr-to-3ac-lts.Need-enum-known-node-2 (
   node-at-reads.Asked,
@@ -229,7 +231,7 @@ flatten-expr-to-3ac-flatten-expr-to-3ac-requires-3 :
       resolve-reads.Asked,
       resolve-reads.Learnt,
     ) (flatten-expr-to-3ac-at t) flatten-expr-to-3ac.Post
-flatten-expr-to-3ac-flatten-expr-to-3ac-requires-3 t c κs = let w = inside-negate (c .before .before .before .before .before .before .before .pre .1 .0) (sym (c .before .before .before .before .node-at .ensures) ∙ c .before .before .node2 .given .1) in (omega (arith, c .before .before .before .before .before .before .before .pre .0, w .1), (w .0, room-negated _ (c .before .before .before .before .before .before .before .pre .1 .1) (w .2)))
+flatten-expr-to-3ac-flatten-expr-to-3ac-requires-3 t c κs = let w = child-inside (c .before .before .before .before .before .before .before .pre .1 .0) (sym (c .before .before .before .before .node-at .ensures) ∙ c .before .before .node2 .given .1) in (omega (arith, c .before .before .before .before .before .before .before .pre .0, w .0), (w .1, room-negated _ (c .before .before .before .before .before .before .before .pre .1 .1) (node-negate (c .before .before .before .before .before .before .before .pre .1 .0) (sym (c .before .before .before .before .node-at .ensures) ∙ c .before .before .node2 .given .1))))
 
 flatten-expr-to-3ac-left-term-requires-2 :
     (t : ℕ) → flatten-expr-to-3ac-lts.Need-left-term-requires-2 (
@@ -291,7 +293,7 @@ flatten-expr-to-3ac-push-constraint-def-requires-2 :
       resolve-reads.Asked,
       resolve-reads.Learnt,
     ) (flatten-expr-to-3ac-at t) flatten-expr-to-3ac.Post
-flatten-expr-to-3ac-push-constraint-def-requires-2 t c κs = let w = inside-negate (c .before .before .before .before .before .before .before .before .before .before .before .before .before .pre .1 .0) (sym (c .before .before .before .before .before .before .before .before .before .before .node-at .ensures) ∙ c .before .before .before .before .before .before .before .before .node2 .given .1) in room-pushed _ (c .before .before .before .before .before .before .before .before .before .before .before .before .before .pre .1 .1) (w .2) _ _ (c .before .before .before .before .before .flatten-expr-to-3ac3 .ensures)
+flatten-expr-to-3ac-push-constraint-def-requires-2 t c κs = room-pushed _ (c .before .before .before .before .before .before .before .before .before .before .before .before .before .pre .1 .1) (node-negate (c .before .before .before .before .before .before .before .before .before .before .before .before .before .pre .1 .0) (sym (c .before .before .before .before .before .before .before .before .before .before .node-at .ensures) ∙ c .before .before .before .before .before .before .before .before .node2 .given .1)) _ _ (c .before .before .before .before .before .flatten-expr-to-3ac3 .ensures)
 
 flatten-expr-to-3ac-enum-known-node-3 : (t : ℕ) → flatten-expr-to-3ac-lts.Need-enum-known-node-3 (
   node-at-reads.Asked,
@@ -433,7 +435,7 @@ flatten-expr-to-3ac-returns : (t : ℕ) → flatten-expr-to-3ac-lts.Need-returns
   resolve-reads.Asked,
   resolve-reads.Learnt,
 ) (flatten-expr-to-3ac-at t) flatten-expr-to-3ac.Post
-flatten-expr-to-3ac-returns t c = let w = inside-infix (c .before .before .before .before .before .before .before .before .before .before .before .before .before .before .before .before .before .before .before .before .pre .1 .0) (sym (c .before .before .before .before .before .before .before .before .before .before .before .before .before .before .before .before .before .node-at .ensures) ∙ c .before .before .before .before .before .before .before .before .before .before .before .before .before .before .before .node .given .1) in way-infix _ _ _ _ _ _ _ (w .4) (c .before .before .before .before .before .before .before .before .before .before .before .before .flatten-expr-to-3ac .ensures) (c .before .before .before .before .before .before .before .before .flatten-expr-to-3ac2 .ensures) (c .before .before .before .before .before .left-term .ensures) (c .before .before .before .before .infix-op .ensures) (c .before .before .push-constraint-def .ensures)
+flatten-expr-to-3ac-returns t c = way-infix _ _ _ _ _ _ _ (node-infix (c .before .before .before .before .before .before .before .before .before .before .before .before .before .before .before .before .before .before .before .before .pre .1 .0) (sym (c .before .before .before .before .before .before .before .before .before .before .before .before .before .before .before .before .before .node-at .ensures) ∙ c .before .before .before .before .before .before .before .before .before .before .before .before .before .before .before .node .given .1)) (c .before .before .before .before .before .before .before .before .before .before .before .before .flatten-expr-to-3ac .ensures) (c .before .before .before .before .before .before .before .before .flatten-expr-to-3ac2 .ensures) (c .before .before .before .before .before .left-term .ensures) (c .before .before .before .before .infix-op .ensures) (c .before .before .push-constraint-def .ensures)
 
 flatten-expr-to-3ac-same-length-2 : (t : ℕ) → flatten-expr-to-3ac-lts.Need-same-length-2 (
   node-at-reads.Asked,
@@ -473,7 +475,7 @@ flatten-expr-to-3ac-returns-2 : (t : ℕ) → flatten-expr-to-3ac-lts.Need-retur
   resolve-reads.Asked,
   resolve-reads.Learnt,
 ) (flatten-expr-to-3ac-at t) flatten-expr-to-3ac.Post
-flatten-expr-to-3ac-returns-2 t c = let w = inside-negate (c .before .before .before .before .before .before .before .before .before .before .before .before .before .before .before .before .pre .1 .0) (sym (c .before .before .before .before .before .before .before .before .before .before .before .before .before .node-at .ensures) ∙ c .before .before .before .before .before .before .before .before .before .before .before .node2 .given .1) in way-negate _ _ _ _ _ _ _ (w .2) (c .before .before .before .before .before .before .before .before .flatten-expr-to-3ac3 .ensures) (c .before .before .before .before .before .left-term2 .ensures) (c .before .before .before .negate .ensures) (c .before .before .push-constraint-def2 .ensures)
+flatten-expr-to-3ac-returns-2 t c = way-negate _ _ _ _ _ _ _ (node-negate (c .before .before .before .before .before .before .before .before .before .before .before .before .before .before .before .before .pre .1 .0) (sym (c .before .before .before .before .before .before .before .before .before .before .before .before .before .node-at .ensures) ∙ c .before .before .before .before .before .before .before .before .before .before .before .node2 .given .1)) (c .before .before .before .before .before .before .before .before .flatten-expr-to-3ac3 .ensures) (c .before .before .before .before .before .left-term2 .ensures) (c .before .before .before .negate .ensures) (c .before .before .push-constraint-def2 .ensures)
 
 flatten-expr-to-3ac-same-length-3 : (t : ℕ) → flatten-expr-to-3ac-lts.Need-same-length-3 (
   node-at-reads.Asked,
@@ -513,7 +515,7 @@ flatten-expr-to-3ac-returns-3 : (t : ℕ) → flatten-expr-to-3ac-lts.Need-retur
   resolve-reads.Asked,
   resolve-reads.Learnt,
 ) (flatten-expr-to-3ac-at t) flatten-expr-to-3ac.Post
-flatten-expr-to-3ac-returns-3 t c = way-constant _ _ _ _ _ _ _ (inside-constant (c .before .before .before .before .before .before .before .before .before .before .pre .1 .0) (sym (c .before .before .before .before .before .before .before .node-at .ensures) ∙ c .before .before .before .before .before .node3 .given .1)) (toZ-ofZ w32 _ (record { sfits = c .before .before .before .before .known-told3 .given .0 .1 })) (c .before .before .place-term .ensures)
+flatten-expr-to-3ac-returns-3 t c = way-constant _ _ _ _ _ _ _ (tree-constant _ _ _ (sym (c .before .before .before .before .before .before .before .node-at .ensures) ∙ c .before .before .before .before .before .node3 .given .1)) (toZ-ofZ w32 _ (record { sfits = c .before .before .before .before .known-told3 .given .0 .1 })) (c .before .before .place-term .ensures)
 
 flatten-expr-to-3ac-same-length-4 : (t : ℕ) → flatten-expr-to-3ac-lts.Need-same-length-4 (
   node-at-reads.Asked,
@@ -553,7 +555,7 @@ flatten-expr-to-3ac-returns-4 : (t : ℕ) → flatten-expr-to-3ac-lts.Need-retur
   resolve-reads.Asked,
   resolve-reads.Learnt,
 ) (flatten-expr-to-3ac-at t) flatten-expr-to-3ac.Post
-flatten-expr-to-3ac-returns-4 t c = way-variable _ _ _ _ _ _ _ (inside-variable (c .before .before .before .before .before .before .before .before .before .before .before .pre .1 .0) (sym (c .before .before .before .before .before .before .before .before .node-at .ensures) ∙ c .before .before .before .before .before .before .node4 .given .1) .1) (c .before .before .before .resolve .ensures) (c .before .before .place-term2 .ensures)
+flatten-expr-to-3ac-returns-4 t c = way-variable _ _ _ _ _ _ _ (tree-variable _ _ _ (sym (c .before .before .before .before .before .before .before .before .node-at .ensures) ∙ c .before .before .before .before .before .before .node4 .given .1)) (c .before .before .before .resolve .ensures) (c .before .before .place-term2 .ensures)
 
 pub +flatten-expr-to-3ac-spec : {M : Type 1} → statement M
 +flatten-expr-to-3ac-spec = close μ-flatten-expr-to-3ac λ t. flatten-expr-to-3ac-lts.spec (
