@@ -40,8 +40,7 @@ puts-tree b at c l = (l .0, ap₂ (λ (x y : ℕ). record { next = x; at = y }) 
 pub puts-join : (b : List ℕ) {b1 b2 : List ℕ} (at : ℕ) (c d : Cuts) {r1 r2 : Place} → Puts b b1 at c r1 → Puts b1 b2 (r1 .at) d r2 → Puts b b2 at (joined (c .equalities) d) r2
 unfolding joined placeFrom
 puts-join b at c d l m =
-    let i = place-at at c (l .1) in
-    (
+    let i = place-at at c (l .1) in (
       m .0 ∙ ap₂ (λ (x : List ℕ) (y : ℕ). putEqualities x y (d .equalities)) (l .0) i ∙ sym (put-append b at (c .equalities) (d .equalities)),
       m .1 ∙ ap (λ (x : ℕ). record { next = d .next; at = x }) (ap (λ (x : ℕ). after x (d .equalities)) i ∙ sym (after-append at (c .equalities) (d .equalities))),
     )

@@ -4,3 +4,5 @@ pub mod Placing
 pub mod Ways
 pub mod Joining
 pub mod Definitions
+pub mod Equations
+pub mod Turns

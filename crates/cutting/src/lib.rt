@@ -81,7 +81,17 @@ fn place_term(body: &mut [u8], at: usize, next: u32, target: Target, term: Term)
 }
 
 // Node k's tree, with the substitutions made. The node index falls at each call.
-fn flatten_expr_to_3ac(s: &[u8], nodes: usize, k: usize, subs: &[u32; 131072], steps: usize, body: &mut [u8], at: usize, next: u32, target: Target) -> Cut
+fn flatten_expr_to_3ac(
+    s: &[u8],
+    nodes: usize,
+    k: usize,
+    subs: &[u32; 131072],
+    steps: usize,
+    body: &mut [u8],
+    at: usize,
+    next: u32,
+    target: Target,
+) -> Cut
     requires { ⌜ Inside (now s) nodes k × Room (treeNodes (tree (now s) nodes (k + 1) k)) at next (now body) ⌝ }
     ensures { λ r. ⌜ (now (body .exit) ≡ putEqualities (now (body .entry)) at (treeCut target steps (substOf (now (subs .entry))) (tree (now (s .entry)) nodes (k + 1) k) next .equalities)) × (r ≡ cutFrom at (treeCut target steps (substOf (now (subs .entry))) (tree (now (s .entry)) nodes (k + 1) k) next)) ⌝ }
 {
@@ -114,7 +124,19 @@ pub struct Place {
 }
 
 // One definition: cut where it is counted, and then its substitution.
-fn flatten_def_to_3ac(s: &[u8], nodes: usize, id: u32, k: usize, usage: &[u8; 65536], provers: &[u8; 65536], subs: &mut [u32; 131072], steps: usize, body: &mut [u8], at: usize, next: u32) -> Place
+fn flatten_def_to_3ac(
+    s: &[u8],
+    nodes: usize,
+    id: u32,
+    k: usize,
+    usage: &[u8; 65536],
+    provers: &[u8; 65536],
+    subs: &mut [u32; 131072],
+    steps: usize,
+    body: &mut [u8],
+    at: usize,
+    next: u32,
+) -> Place
     requires { ⌜ Inside (now s) nodes k × Classified (now s) (now usage) (now provers) × (id < 65536) × (length (now subs) ≡ 131072) × Room (treeNodes (tree (now s) nodes (k + 1) k)) at next (now body) ⌝ }
     ensures { λ r. ⌜ (now (body .exit) ≡ putEqualities (now (body .entry)) at (defsCut (now (s .entry)) steps (substOf (now (subs .entry))) (record { id = id; right = tree (now (s .entry)) nodes (k + 1) k } ∷ []) next .equalities)) × (r ≡ placeFrom at (defsCut (now (s .entry)) steps (substOf (now (subs .entry))) (record { id = id; right = tree (now (s .entry)) nodes (k + 1) k } ∷ []) next)) × (substOf (now (subs .exit)) ≡ defsAfter (now (s .entry)) steps (substOf (now (subs .entry))) (record { id = id; right = tree (now (s .entry)) nodes (k + 1) k } ∷ [])) × (length (now (subs .exit)) ≡ 131072) ⌝ }
 {
@@ -125,13 +147,38 @@ fn flatten_def_to_3ac(s: &[u8], nodes: usize, id: u32, k: usize, usage: &[u8; 65
     if provers[i] != 0 {
         return Place { next, at };
     }
-    let c = flatten_expr_to_3ac(s, nodes, k, subs, steps, body, at, next, Target::Given(Term::Variable(id)));
+    let c = flatten_expr_to_3ac(
+        s,
+        nodes,
+        k,
+        subs,
+        steps,
+        body,
+        at,
+        next,
+        Target::Given(Term::Variable(id)),
+    );
     substitute(s, nodes, id, k, subs, steps);
-    Place { next: c.next, at: c.at }
+    Place {
+        next: c.next,
+        at: c.at,
+    }
 }
 
 // The definitions of a readable record that are counted, in their order.
-pub fn flatten_defs(s: &[u8], definitions: usize, n: usize, nodes: usize, usage: &[u8; 65536], provers: &[u8; 65536], subs: &mut [u32; 131072], steps: usize, body: &mut [u8], at: usize, next: u32) -> Place
+pub fn flatten_defs(
+    s: &[u8],
+    definitions: usize,
+    n: usize,
+    nodes: usize,
+    usage: &[u8; 65536],
+    provers: &[u8; 65536],
+    subs: &mut [u32; 131072],
+    steps: usize,
+    body: &mut [u8],
+    at: usize,
+    next: u32,
+) -> Place
     requires { ⌜ Readable (now s) × Classified (now s) (now usage) (now provers) × (definitions ≡ definitionsAt (now s)) × (n ≡ definitionCount (now s)) × (nodes ≡ nodesAt (now s)) ⌝ }
     requires { ⌜ (length (now subs) ≡ 131072) × Room (definitionsNodes (moduleOf (now s) .definitions)) at next (now body) ⌝ }
     ensures { λ r. ⌜ (now (body .exit) ≡ putEqualities (now (body .entry)) at (defsCut (now (s .entry)) steps (substOf (now (subs .entry))) (moduleOf (now (s .entry)) .definitions) next .equalities)) × (r ≡ placeFrom at (defsCut (now (s .entry)) steps (substOf (now (subs .entry))) (moduleOf (now (s .entry)) .definitions) next)) × (substOf (now (subs .exit)) ≡ defsAfter (now (s .entry)) steps (substOf (now (subs .entry))) (moduleOf (now (s .entry)) .definitions)) × (length (now (subs .exit)) ≡ 131072) ⌝ }
@@ -180,29 +227,85 @@ fn left_side(a: Copied, b: Copied) -> Sides
 }
 
 // Node k's tree is cut, and its term is the left one.
-fn flatten_into(s: &[u8], nodes: usize, k: usize, subs: &[u32; 131072], steps: usize, body: &mut [u8], at: usize, next: u32, left: Term) -> Place
+fn flatten_into(
+    s: &[u8],
+    nodes: usize,
+    k: usize,
+    subs: &[u32; 131072],
+    steps: usize,
+    body: &mut [u8],
+    at: usize,
+    next: u32,
+    left: Term,
+) -> Place
     requires { ⌜ Inside (now s) nodes k × Room (treeNodes (tree (now s) nodes (k + 1) k)) at next (now body) ⌝ }
-    ensures { λ r. ⌜ (now (body .exit) ≡ putEqualities (now (body .entry)) at (treeCut (Target.Given left) steps (substOf (now (subs .entry))) (tree (now (s .entry)) nodes (k + 1) k) next .equalities)) × (r ≡ placeFrom at (cutsOf (treeCut (Target.Given left) steps (substOf (now (subs .entry))) (tree (now (s .entry)) nodes (k + 1) k) next))) ⌝ }
+    ensures { λ r. ⌜ (now (body .exit) ≡ putEqualities (now (body .entry)) at (cutsOf (treeCut (Target.Given left) steps (substOf (now (subs .entry))) (tree (now (s .entry)) nodes (k + 1) k) next) .equalities)) × (r ≡ placeFrom at (cutsOf (treeCut (Target.Given left) steps (substOf (now (subs .entry))) (tree (now (s .entry)) nodes (k + 1) k) next))) ⌝ }
 {
-    let c = flatten_expr_to_3ac(s, nodes, k, subs, steps, body, at, next, Target::Given(left));
-    Place { next: c.next, at: c.at }
+    let c = flatten_expr_to_3ac(
+        s,
+        nodes,
+        k,
+        subs,
+        steps,
+        body,
+        at,
+        next,
+        Target::Given(left),
+    );
+    Place {
+        next: c.next,
+        at: c.at,
+    }
 }
 
 // Neither side is a term: both are cut, and the right one's term is copied to the left one's.
-fn flatten_both(s: &[u8], nodes: usize, left: usize, right: usize, subs: &[u32; 131072], steps: usize, body: &mut [u8], at: usize, next: u32) -> Place
+fn flatten_both(
+    s: &[u8],
+    nodes: usize,
+    left: usize,
+    right: usize,
+    subs: &[u32; 131072],
+    steps: usize,
+    body: &mut [u8],
+    at: usize,
+    next: u32,
+) -> Place
     requires { ⌜ Inside (now s) nodes left × Inside (now s) nodes right × Room (treeNodes (tree (now s) nodes (left + 1) left) + treeNodes (tree (now s) nodes (right + 1) right)) at next (now body) ⌝ }
     ensures { λ r. ⌜ (now (body .exit) ≡ putEqualities (now (body .entry)) at (flattenSides (both (copyPropagateExpr steps (substOf (now (subs .entry))) (tree (now (s .entry)) nodes (left + 1) left)) (copyPropagateExpr steps (substOf (now (subs .entry))) (tree (now (s .entry)) nodes (right + 1) right))) next .equalities)) × (r ≡ placeFrom at (flattenSides (both (copyPropagateExpr steps (substOf (now (subs .entry))) (tree (now (s .entry)) nodes (left + 1) left)) (copyPropagateExpr steps (substOf (now (subs .entry))) (tree (now (s .entry)) nodes (right + 1) right))) next)) ⌝ }
 {
     let a = flatten_expr_to_3ac(s, nodes, left, subs, steps, body, at, next, Target::New);
-    let b = flatten_expr_to_3ac(s, nodes, right, subs, steps, body, a.at, a.next, Target::New);
+    let b = flatten_expr_to_3ac(
+        s,
+        nodes,
+        right,
+        subs,
+        steps,
+        body,
+        a.at,
+        a.next,
+        Target::New,
+    );
     let x = a.term;
     let y = b.term;
     let c = place_term(body, b.at, b.next, Target::Given(x), y);
-    Place { next: c.next, at: c.at }
+    Place {
+        next: c.next,
+        at: c.at,
+    }
 }
 
 // One equation: nothing where it is obviously true.
-fn flatten_equation(s: &[u8], nodes: usize, left: usize, right: usize, subs: &[u32; 131072], steps: usize, body: &mut [u8], at: usize, next: u32) -> Place
+fn flatten_equation(
+    s: &[u8],
+    nodes: usize,
+    left: usize,
+    right: usize,
+    subs: &[u32; 131072],
+    steps: usize,
+    body: &mut [u8],
+    at: usize,
+    next: u32,
+) -> Place
     requires { ⌜ Inside (now s) nodes left × Inside (now s) nodes right × Room (treeNodes (tree (now s) nodes (left + 1) left) + treeNodes (tree (now s) nodes (right + 1) right)) at next (now body) ⌝ }
     ensures { λ r. ⌜ (now (body .exit) ≡ putEqualities (now (body .entry)) at (equationsCut steps (substOf (now (subs .entry))) (record { left = tree (now (s .entry)) nodes (left + 1) left; right = tree (now (s .entry)) nodes (right + 1) right } ∷ []) next .equalities)) × (r ≡ placeFrom at (equationsCut steps (substOf (now (subs .entry))) (record { left = tree (now (s .entry)) nodes (left + 1) left; right = tree (now (s .entry)) nodes (right + 1) right } ∷ []) next)) ⌝ }
 {
@@ -220,7 +323,17 @@ fn flatten_equation(s: &[u8], nodes: usize, left: usize, right: usize, subs: &[u
 }
 
 // The equations of a readable record, in their order.
-pub fn flatten_equations(s: &[u8], equations: usize, n: usize, nodes: usize, subs: &[u32; 131072], steps: usize, body: &mut [u8], at: usize, next: u32) -> Place
+pub fn flatten_equations(
+    s: &[u8],
+    equations: usize,
+    n: usize,
+    nodes: usize,
+    subs: &[u32; 131072],
+    steps: usize,
+    body: &mut [u8],
+    at: usize,
+    next: u32,
+) -> Place
     requires { ⌜ Readable (now s) × (equations ≡ equationsAt (now s)) × (n ≡ equationCount (now s)) × (nodes ≡ nodesAt (now s)) × Room (equationsNodes (moduleOf (now s) .equations)) at next (now body) ⌝ }
     ensures { λ r. ⌜ (now (body .exit) ≡ putEqualities (now (body .entry)) at (equationsCut steps (substOf (now (subs .entry))) (moduleOf (now (s .entry)) .equations) next .equalities)) × (r ≡ placeFrom at (equationsCut steps (substOf (now (subs .entry))) (moduleOf (now (s .entry)) .equations) next)) ⌝ }
 {

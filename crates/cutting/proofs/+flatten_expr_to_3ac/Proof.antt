@@ -1,4 +1,5 @@
-use Prim.Native.Nat.{ℕ, _<_}
+-- `cutting::flatten_expr_to_3ac` meets its contract. Assumes nothing.
+use Prim.Native.Nat.{ℕ}
 use borrow.Fn.Kinds.{In}
 use borrow.Fn.PlainCycle.{Measures, is, falls, and}
 use Rattle.cutting.proofs.flatten_expr_to_3ac.Reads as flatten-expr-to-3ac
@@ -15,20 +16,13 @@ use Rattle.cutting.proofs.+flatten_expr_to_3ac.{statement}
 use Rattle.cutting.proofs.+flatten_expr_to_3ac.Tie.{close}
 use borrow.Author.Needs.{needs}
 use native.Mathlib.Omega.{arith}
-use mathlib.Core.Path.{_≡_, refl, sym, ap, _∙_}
-use borrow.Author.Tests.{not-true, not-false}
-use Rattle.cutting.specs.Cutting.{equalityOf, targetOf, cutFrom}
-use Rattle.constraint.specs.Trees.{written, operation, first, second}
-use Rattle.passes.specs.Passes.{orVariable, infixOp}
-use Rattle.cutting.proofs.Simplified.{one-variable, one-constant, zero-variable, zero-constant, when-yes, when-no, by-operator, by-unless, by-plain}
-use Rattle.cutting.proofs.Placing.{left-new, left-given, placed-new, placed-given}
+use mathlib.Core.Path.{sym, _∙_}
 use mir.Syntax.{w32}
 use mir.ValLaws.{toZ-ofZ}
 use Rattle.classify.proofs.Walks.{left-inside, right-inside, child-inside}
 use Rattle.flat.proofs.Nodes.{tree-constant, tree-variable}
 use Rattle.cutting.proofs.Trees.{node-infix, node-negate}
 use Rattle.cutting.proofs.Ways.{room-first, room-second, room-third, room-negated, room-pushed, room-term, way-infix, way-negate, way-constant, way-variable}
-
 
 abbrev μ-flatten-expr-to-3ac : Measures 3 flatten-expr-to-3ac-kinds.ps ℕ
 μ-flatten-expr-to-3ac κs a = a .1 .1 .0
