@@ -14,7 +14,7 @@ use Rattle.passes.specs.Passes.{member, keepIf, those, isNever, usage, Substitu
 use Rattle.classify.specs.Arrays.{usageAt, usageOf, marked, Classified}
 use Rattle.copies.specs.Substituted.{substOf}
 use Rattle.keeping.specs.declared.Kept.{Kept}
-use Rattle.keeping.specs.Keeping.{proversOf, usedOf, keptOf, keptAfter, putTree, putKept, putNodes, keptFrom, NodeRoom}
+use Rattle.keeping.specs.Keeping.{proversOf, usedOf, keptOf, keptAfter, putTree, putKept, putNodes, keptFrom, Keeps, NodeRoom}
 use Rattle.keeping.proofs.Nodes.{copied-nodes, next-is}
 
 -- what the arrays say of an id
@@ -107,52 +107,63 @@ after-plus : (base : ℕ) (e : Flat) (after : ℕ) → after ≡ nextFrom base e
 unfolding nextFrom rootFrom
 after-plus base e after q = omega arith
 
-module _ (body : List ℕ) (at : ℕ) (list : List ℕ) (base : ℕ) where
-  abbrev pub Places : List ℕ → List ℕ → Kept → List Definition → Type 0
-  Places body′ list′ r ds = (body′ ≡ putKept body at base ds) × (list′ ≡ putNodes list base ds) × (r ≡ keptFrom at base ds)
-
-  pub places-none : {ds : List Definition} → ds ≡ [] → Places body list (record { at = at; nodes = base }) ds
+module _ (b : List ℕ) (steps : ℕ) (ds : List Definition) (at base : ℕ) (m body list : List ℕ) where
+  -- nothing is kept
+  pub keeps-none : (m′ : List ℕ) → keptOf b steps (substOf m) ds ≡ [] → substOf m′ ≡ keptAfter b steps (substOf m) ds → length m′ ≡ 131072 → Keeps b steps ds at base m body list m′ body list (record { at = at; nodes = base })
   unfolding putKept putNodes keptFrom keptWords keptNodes nodeCount setWords
-  places-none e =
+  keeps-none m′ e f l =
       let p : at ≡ at + 2 * 0 = omega arith in
       let q : base ≡ base + 0 = omega arith in
-      rw e (refl, refl, ap₂ (λ (x y : ℕ). record { at = x; nodes = y }) p q)
+      record {
+        body-is = sym (ap (putKept body at base) e);
+        list-is = sym (ap (putNodes list base) e);
+        answer-is = ap₂ (λ (x y : ℕ). record { at = x; nodes = y }) p q ∙ sym (ap (keptFrom at base) e);
+        subs-are = f;
+        subs-long = l;
+      }
 
-  places-one : {body′ list′ : List ℕ} {after : ℕ} {ds : List Definition} (d : Definition) → ds ≡ d ∷ [] → list′ ≡ putTree list base (d .right) → after ≡ nextFrom base (d .right) → body′ ≡ setWords body at (definitionWords (d .id) (after - 1)) → Places body′ list′ (record { at = at + 2; nodes = after }) ds
+  -- one definition is kept
+  pub keeps-one : (m′ : List ℕ) {body′ list′ : List ℕ} {after : ℕ} (d : Definition) → keptOf b steps (substOf m) ds ≡ d ∷ [] → list′ ≡ putTree list base (d .right) → after ≡ nextFrom base (d .right) → body′ ≡ setWords body at (definitionWords (d .id) (after - 1)) → substOf m′ ≡ keptAfter b steps (substOf m) ds → length m′ ≡ 131072 → Keeps b steps ds at base m body list m′ body′ list′ (record { at = at + 2; nodes = after })
   unfolding putKept putNodes putTree keptFrom keptWords keptNodes nodeCount nextFrom definitionWords
-  places-one {after = after} d e p q r =
+  keeps-one m′ {after = after} d e p q r f l =
       let x : after - 1 ≡ rootFrom base (d .right) = omega arith in
       let w : setWords body at (d .id ∷ (after - 1) ∷ []) ≡ setWords body at (d .id ∷ rootFrom base (d .right) ∷ []) = ap (λ (n : ℕ). setWords body at (d .id ∷ n ∷ [])) x in
       let n : nodesFrom base (d .right) ≡ nodesFrom base (d .right) ++ [] = sym (append-nil (nodesFrom base (d .right))) in
       let y : at + 2 ≡ at + 2 * 1 = omega arith in
       let z : after ≡ base + (suc (nodesBelow (d .right)) + 0) = after-plus base (d .right) after q in
-      rw e (r ∙ w, p ∙ ap (setWords list (4 * base)) n, ap₂ (λ (i j : ℕ). record { at = i; nodes = j }) y z)
+      record {
+        body-is = r ∙ w ∙ sym (ap (putKept body at base) e);
+        list-is = p ∙ ap (setWords list (4 * base)) n ∙ sym (ap (putNodes list base) e);
+        answer-is = ap₂ (λ (i j : ℕ). record { at = i; nodes = j }) y z ∙ sym (ap (keptFrom at base) e);
+        subs-are = f;
+        subs-long = l;
+      }
 
-module _ {b u p : List ℕ} (c : Classified b u p) (steps : ℕ) (m : List ℕ) (id : ℕ) (right : Flat) (body : List ℕ) (at : ℕ) (list : List ℕ) (base : ℕ) where
+module _ {b u p : List ℕ} (c : Classified b u p) (steps id : ℕ) (right : Flat) (at base : ℕ) (m body list : List ℕ) where
   abbrev definition : Definition
   definition = record { id = id; right = right }
 
   abbrev Way : List ℕ → List ℕ → List ℕ → Kept → Type 0
-  Way m′ body′ list′ r = Places body at list base body′ list′ r (keptOf b steps (substOf m) (definition ∷ [])) × ((substOf m′ ≡ keptAfter b steps (substOf m) (definition ∷ [])) × (length m′ ≡ 131072))
+  Way = Keeps b steps (definition ∷ []) at base m body list
 
   pub way-unused : getD u id 0 ≡ 0 → length m ≡ 131072 → Way m body list (record { at = at; nodes = base })
   way-unused e l =
       let n = unused-id c id e in
-      (places-none body at list base (unused-kept b steps (substOf m) definition n), (sym (unused-after b steps (substOf m) definition n), l))
+      keeps-none b steps (definition ∷ []) at base m body list m (unused-kept b steps (substOf m) definition n) (sym (unused-after b steps (substOf m) definition n)) l
 
   module _ (e : getD u id 0 ≡ 0 → ⊥) where
     pub way-other : (m′ : List ℕ) → getD p id 0 ≡ 0 → (substOf m′ ≡ substituting false id (copyPropagateExpr steps (substOf m) right) (substOf m)) × (length m′ ≡ 131072) → Way m′ body list (record { at = at; nodes = base })
     way-other m′ f w =
         let n = used-id c id e in
         let o = other-id c id f in
-        (places-none body at list base (other-kept b steps (substOf m) definition n o), (w .0 ∙ sym (other-after b steps (substOf m) definition n o), w .1))
+        keeps-none b steps (definition ∷ []) at base m body list m′ (other-kept b steps (substOf m) definition n o) (w .0 ∙ sym (other-after b steps (substOf m) definition n o)) (w .1)
 
     pub way-kept : {body′ list′ : List ℕ} {after : ℕ} → (getD p id 0 ≡ 0 → ⊥) → length m ≡ 131072 → list′ ≡ putTree list base (copyPropagateExpr steps (substOf m) right) → after ≡ nextFrom base (copyPropagateExpr steps (substOf m) right) → body′ ≡ setWords body at (definitionWords id (after - 1)) → Way m body′ list′ (record { at = at + 2; nodes = after })
     unfolding copyPropagateDef
     way-kept f l x y z =
         let n = used-id c id e in
         let o = prover-id c id f in
-        (places-one body at list base (copyPropagateDef steps (substOf m) definition) (prover-kept b steps (substOf m) definition n o) x y z, (sym (prover-after b steps (substOf m) definition n o), l))
+        keeps-one b steps (definition ∷ []) at base m body list m (copyPropagateDef steps (substOf m) definition) (prover-kept b steps (substOf m) definition n o) x y z (sym (prover-after b steps (substOf m) definition n o)) l
 
 -- the index after the root, of a tree that there is room for
 pub kept-root : (base steps : ℕ) (m : List ℕ) (right : Flat) (list : List ℕ) {after : ℕ} → NodeRoom (treeNodes right) base list → after ≡ nextFrom base (copyPropagateExpr steps (substOf m) right) → (0 < after) × (after ≤ 65536)

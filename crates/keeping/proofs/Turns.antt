@@ -1,6 +1,7 @@
 -- The loop over the definitions: what is left to keep from a state on is what was to be kept from the first. Assumes nothing.
 use mathlib.Core.Path.{_≡_, refl, sym, ap, ap₂, _∙_}
 use mathlib.Core.List.{List, [], _∷_, _++_}
+use mathlib.Core.Option.{none}
 use Prim.Native.Nat.{ℕ, _+_, _-_, _*_, _≤_, _<_}
 use native.Mathlib.Omega.{arith}
 use lib.ListN.{length, length-append}
@@ -11,13 +12,13 @@ use Rattle.flat.specs.Record.{definitions, tree, moduleOf}
 use Rattle.flat.specs.Readable.{Readable}
 use Rattle.constraint.specs.Record.{keptWords, keptNodes, nodeCount}
 use Rattle.constraint.proofs.Lengths.{length-kept, length-kept-nodes, count-append, kept-append, kept-nodes-append}
-use Rattle.passes.specs.Passes.{member, those, Substitutions, copyPropagateDefs, afterDefs}
+use Rattle.passes.specs.Passes.{member, those, classifyDefs, copyPropagate, eliminateDeadEqualities, flattenModuleTo3ac, passes, Substitutions, copyPropagateDefs, afterDefs}
 use Rattle.passes.proofs.Loops.{those-append, copies-append, after-append}
 use Rattle.classify.proofs.Lists.{definitionsFrom, definitions-none, definitions-whole, OverDefinitions, definitions-more}
 use Rattle.copies.specs.Substituted.{substOf}
 use Rattle.keeping.specs.declared.Kept.{Kept}
-use Rattle.keeping.specs.Keeping.{proversOf, usedOf, keptOf, keptAfter, putKept, putNodes, keptFrom, NodeRoom, WordRoom}
-use Rattle.keeping.proofs.Definitions.{Places, places-none, kept-small}
+use Rattle.keeping.specs.Keeping.{proversOf, usedOf, keptOf, keptAfter, putKept, putNodes, keptFrom, Keeps, NodeRoom, WordRoom}
+use Rattle.keeping.proofs.Definitions.{keeps-none, kept-small}
 
 -- ---- a list with one definition more
 
@@ -111,12 +112,19 @@ module _ (b : List ℕ) (steps n at : ℕ) (m₀ body₀ list₀ : List ℕ) whe
       }
 
   module _ {to base k : ℕ} {m body list : List ℕ} (g : Going to base k m body list) where
-    pub going-end : n ≡ definitions b → n ≤ k → ((body ≡ putKept body₀ at 0 kept) × (list ≡ putNodes list₀ 0 kept) × (record { at = to; nodes = base } ≡ keptFrom at 0 kept)) × ((substOf m ≡ keptAfter b steps (substOf m₀) (moduleOf b .definitions)) × (length m ≡ 131072))
+    pub going-end : n ≡ definitions b → n ≤ k → Keeps b steps (moduleOf b .definitions) at 0 m₀ body₀ list₀ m body list (record { at = to; nodes = base })
     going-end e l =
         let z : definitionsFrom b k ≡ [] = definitions-none b k (omega arith) in
         let q : keptOf b steps (substOf m) (definitionsFrom b k) ≡ [] = ap (keptOf b steps (substOf m)) z ∙ kept-nil b steps (substOf m) in
-        let p = places-none body to list base q in
-        ((p .0 ∙ g .words, p .1 ∙ g .nodes, p .2 ∙ g .answer), (sym (ap (keptAfter b steps (substOf m)) z ∙ after-nil b steps (substOf m)) ∙ g .after, g .subs-long))
+        let f : substOf m ≡ keptAfter b steps (substOf m) (definitionsFrom b k) = sym (ap (keptAfter b steps (substOf m)) z ∙ after-nil b steps (substOf m)) in
+        let p = keeps-none b steps (definitionsFrom b k) to base m body list m q f (g .subs-long) in
+        record {
+          body-is = p .body-is ∙ g .words;
+          list-is = p .list-is ∙ g .nodes;
+          answer-is = p .answer-is ∙ g .answer;
+          subs-are = f ∙ g .after;
+          subs-long = g .subs-long;
+        }
 
     -- the definition at index k
     module _ {d nodesAt id node : ℕ} (r : Readable b) (o : OverDefinitions b n d nodesAt k) (h : k < n) (p : id ≡ wordAt b (d + 2 * k)) (q : node ≡ wordAt b (d + 2 * k + 1)) where
@@ -133,29 +141,36 @@ module _ (b : List ℕ) (steps n at : ℕ) (m₀ body₀ list₀ : List ℕ) whe
       pub first-room : WordRoom 1 to body × NodeRoom (treeNodes (first .right)) base list
       first-room = (record { long = omega (arith, g .word-room .long) }, record { long = omega (arith, size, g .node-room .long); few = omega (arith, size, g .node-room .few) })
 
-      pub going-turn : (m′ : List ℕ) {body′ list′ : List ℕ} {a : Kept} → Places body to list base body′ list′ a (keptOf b steps (substOf m) (first ∷ [])) × ((substOf m′ ≡ keptAfter b steps (substOf m) (first ∷ [])) × (length m′ ≡ 131072)) → Going (a .at) (a .nodes) (k + 1) m′ body′ list′
+      pub going-turn : {m′ body′ list′ : List ℕ} {a : Kept} → Keeps b steps (first ∷ []) to base m body list m′ body′ list′ a → Going (a .at) (a .nodes) (k + 1) m′ body′ list′
       unfolding keptFrom
-      going-turn m′ {body′} {list′} {a} w =
+      going-turn {m′} {body′} {list′} {a} w =
           let K₁ : List Definition = keptOf b steps (substOf m) (first ∷ []) in
           let K₂ : List Definition = keptOf b steps (substOf m′) (definitionsFrom b (k + 1)) in
-          let both : keptOf b steps (substOf m) (definitionsFrom b k) ≡ K₁ ++ K₂ = ap (keptOf b steps (substOf m)) from-is ∙ kept-cons b steps (substOf m) first (definitionsFrom b (k + 1)) ∙ ap (λ (s : Substitutions). K₁ ++ keptOf b steps s (definitionsFrom b (k + 1))) (sym (w .1 .0)) in
-          let at-is : a .at ≡ to + 2 * length K₁ = ap (λ (x : Kept). x .at) (w .0 .2) in
-          let nodes-is : a .nodes ≡ base + nodeCount K₁ = ap (λ (x : Kept). x .nodes) (w .0 .2) in
+          let both : keptOf b steps (substOf m) (definitionsFrom b k) ≡ K₁ ++ K₂ = ap (keptOf b steps (substOf m)) from-is ∙ kept-cons b steps (substOf m) first (definitionsFrom b (k + 1)) ∙ ap (λ (s : Substitutions). K₁ ++ keptOf b steps s (definitionsFrom b (k + 1))) (sym (w .subs-are)) in
+          let at-is : a .at ≡ to + 2 * length K₁ = ap (λ (x : Kept). x .at) (w .answer-is) in
+          let nodes-is : a .nodes ≡ base + nodeCount K₁ = ap (λ (x : Kept). x .nodes) (w .answer-is) in
           let few = kept-small b steps (substOf m) first in
-          let bl : length body′ ≡ length body = ap length (w .0 .0) ∙ put-kept-length body to base K₁ in
-          let ll : length list′ ≡ length list = ap length (w .0 .1) ∙ put-nodes-length list base K₁ in
-          let pw : putKept body′ (a .at) (a .nodes) K₂ ≡ putKept (putKept body to base K₁) (to + 2 * length K₁) (base + nodeCount K₁) K₂ = rw (w .0 .0, at-is, nodes-is) in
-          let pn : putNodes list′ (a .nodes) K₂ ≡ putNodes (putNodes list base K₁) (base + nodeCount K₁) K₂ = rw (w .0 .1, nodes-is) in
+          let bl : length body′ ≡ length body = ap length (w .body-is) ∙ put-kept-length body to base K₁ in
+          let ll : length list′ ≡ length list = ap length (w .list-is) ∙ put-nodes-length list base K₁ in
+          let pw : putKept body′ (a .at) (a .nodes) K₂ ≡ putKept (putKept body to base K₁) (to + 2 * length K₁) (base + nodeCount K₁) K₂ = rw (w .body-is, at-is, nodes-is) in
+          let pn : putNodes list′ (a .nodes) K₂ ≡ putNodes (putNodes list base K₁) (base + nodeCount K₁) K₂ = rw (w .list-is, nodes-is) in
           let pa : keptFrom (a .at) (a .nodes) K₂ ≡ keptFrom (to + 2 * length K₁) (base + nodeCount K₁) K₂ = ap₂ (λ (i j : ℕ). keptFrom i j K₂) at-is nodes-is in
           record {
             words = pw ∙ sym (ap (putKept body to base) both ∙ put-kept-append K₁ K₂ body to base) ∙ g .words;
             nodes = pn ∙ sym (ap (putNodes list base) both ∙ put-nodes-append K₁ K₂ list base) ∙ g .nodes;
             answer = pa ∙ sym (ap (keptFrom to base) both ∙ kept-from-append K₁ K₂ to base) ∙ g .answer;
-            after = ap (λ (s : Substitutions). keptAfter b steps s (definitionsFrom b (k + 1))) (w .1 .0) ∙ sym (ap (keptAfter b steps (substOf m)) from-is ∙ after-cons b steps (substOf m) first (definitionsFrom b (k + 1))) ∙ g .after;
-            subs-long = w .1 .1;
+            after = ap (λ (s : Substitutions). keptAfter b steps s (definitionsFrom b (k + 1))) (w .subs-are) ∙ sym (ap (keptAfter b steps (substOf m)) from-is ∙ after-cons b steps (substOf m) first (definitionsFrom b (k + 1))) ∙ g .after;
+            subs-long = w .subs-long;
             body-long = bl ∙ g .body-long;
             list-long = ll ∙ g .list-long;
             word-room = record { long = omega (arith, few .0, g .word-room .long) };
             node-room = record { long = omega (arith, few .1, size, g .node-room .long); few = omega (arith, few .1, size, g .node-room .few) };
             within = omega arith;
           }
+
+-- ---- the whole record
+
+-- with as many steps as classify_defs leaves definitions, and no substitutions at first, they are the kept definitions of the passes
+pub kept-whole : (b : List ℕ) → keptOf b (length (classifyDefs (moduleOf b) .definitions)) (λ _. none) (moduleOf b .definitions) ≡ passes (moduleOf b) .kept
+unfolding keptOf proversOf usedOf classifyDefs copyPropagate eliminateDeadEqualities flattenModuleTo3ac passes
+kept-whole b = refl

@@ -1,4 +1,5 @@
 -- What the code that keeps definitions answers, by the definitions of the passes and of the constraint record.
+use mathlib.Core.Path.{_≡_}
 use mathlib.Core.List.{List}
 use mathlib.Core.Bool.{not}
 use Prim.Native.Nat.{ℕ, _+_, _*_, _≤_}
@@ -8,6 +9,7 @@ use Rattle.flat.specs.Trees.{Flat, Definition}
 use Rattle.flat.specs.Record.{moduleOf}
 use Rattle.constraint.specs.Record.{nodesFrom, keptWords, keptNodes, nodeCount}
 use Rattle.passes.specs.Passes.{member, those, isNever, usage, classifyDefs, Substitutions, copyPropagateDefs, afterDefs}
+use Rattle.copies.specs.Substituted.{substOf}
 use Rattle.keeping.specs.declared.Kept.{Kept}
 
 -- of the record with the bytes b: the prover ids after classify_defs, and those of some definitions that are used
@@ -38,6 +40,14 @@ putNodes list base ds = setWords list (4 * base) (keptNodes base ds)
 
 unfoldable pub keptFrom : ℕ → ℕ → List Definition → Kept
 keptFrom at base ds = record { at = at + 2 * length ds; nodes = base + nodeCount ds }
+
+-- what keeping definitions leaves, of substitutions, a body and a list: their later contents, and the code's answer
+pub record Keeps (b : List ℕ) (steps : ℕ) (ds : List Definition) (at base : ℕ) (subs body list subs′ body′ list′ : List ℕ) (r : Kept) : Type 0 where
+  pub body-is : body′ ≡ putKept body at base (keptOf b steps (substOf subs) ds)
+  pub list-is : list′ ≡ putNodes list base (keptOf b steps (substOf subs) ds)
+  pub answer-is : r ≡ keptFrom at base (keptOf b steps (substOf subs) ds)
+  pub subs-are : substOf subs′ ≡ keptAfter b steps (substOf subs) ds
+  pub subs-long : length subs′ ≡ 131072
 
 -- room for n nodes from index `base` on, and for so many definitions from word `at` on
 pub record NodeRoom (n base : ℕ) (list : List ℕ) : Type 0 where

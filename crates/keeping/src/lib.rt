@@ -19,7 +19,7 @@ ghost use Rattle.constraint.specs.Record.{nextFrom};
 ghost use Rattle.passes.specs.Passes.{toExpr, copyPropagateExpr};
 ghost use Rattle.classify.specs.Arrays.{Classified};
 ghost use Rattle.copies.specs.Substituted.{substOf};
-ghost use Rattle.keeping.specs.Keeping.{keptOf, keptAfter, putTree, putKept, putNodes, keptFrom, NodeRoom, WordRoom};
+ghost use Rattle.keeping.specs.Keeping.{putTree, Keeps, NodeRoom, WordRoom};
 
 // The node of a term.
 fn put_leaf(list: &mut [u8], index: usize, term: Term)
@@ -97,8 +97,7 @@ fn keep_def(
 ) -> Kept
     requires { ⌜ Inside (now s) nodes k × Classified (now s) (now usage) (now provers) × (id < 65536) × (length (now subs) ≡ 131072) ⌝ }
     requires { ⌜ WordRoom 1 at (now body) × NodeRoom (treeNodes (tree (now s) nodes (k + 1) k)) base (now list) ⌝ }
-    ensures { λ r. ⌜ (now (body .exit) ≡ putKept (now (body .entry)) at base (keptOf (now (s .entry)) steps (substOf (now (subs .entry))) (record { id = id; right = tree (now (s .entry)) nodes (k + 1) k } ∷ []))) × (now (list .exit) ≡ putNodes (now (list .entry)) base (keptOf (now (s .entry)) steps (substOf (now (subs .entry))) (record { id = id; right = tree (now (s .entry)) nodes (k + 1) k } ∷ []))) × (r ≡ keptFrom at base (keptOf (now (s .entry)) steps (substOf (now (subs .entry))) (record { id = id; right = tree (now (s .entry)) nodes (k + 1) k } ∷ []))) ⌝ }
-    ensures { λ _. ⌜ (substOf (now (subs .exit)) ≡ keptAfter (now (s .entry)) steps (substOf (now (subs .entry))) (record { id = id; right = tree (now (s .entry)) nodes (k + 1) k } ∷ [])) × (length (now (subs .exit)) ≡ 131072) ⌝ }
+    ensures { λ r. ⌜ Keeps (now (s .entry)) steps (record { id = id; right = tree (now (s .entry)) nodes (k + 1) k } ∷ []) at base (now (subs .entry)) (now (body .entry)) (now (list .entry)) (now (subs .exit)) (now (body .exit)) (now (list .exit)) r ⌝ }
 {
     let i = id as usize;
     if usage[i] == 0 {
@@ -132,8 +131,7 @@ pub fn keep_defs(
 ) -> Kept
     requires { ⌜ Readable (now s) × Classified (now s) (now usage) (now provers) × (definitions ≡ definitionsAt (now s)) × (n ≡ definitionCount (now s)) × (nodes ≡ nodesAt (now s)) ⌝ }
     requires { ⌜ (length (now subs) ≡ 131072) × WordRoom n at (now body) × NodeRoom (definitionsNodes (moduleOf (now s) .definitions)) 0 (now list) ⌝ }
-    ensures { λ r. ⌜ (now (body .exit) ≡ putKept (now (body .entry)) at 0 (keptOf (now (s .entry)) steps (substOf (now (subs .entry))) (moduleOf (now (s .entry)) .definitions))) × (now (list .exit) ≡ putNodes (now (list .entry)) 0 (keptOf (now (s .entry)) steps (substOf (now (subs .entry))) (moduleOf (now (s .entry)) .definitions))) × (r ≡ keptFrom at 0 (keptOf (now (s .entry)) steps (substOf (now (subs .entry))) (moduleOf (now (s .entry)) .definitions))) ⌝ }
-    ensures { λ _. ⌜ (substOf (now (subs .exit)) ≡ keptAfter (now (s .entry)) steps (substOf (now (subs .entry))) (moduleOf (now (s .entry)) .definitions)) × (length (now (subs .exit)) ≡ 131072) ⌝ }
+    ensures { λ r. ⌜ Keeps (now (s .entry)) steps (moduleOf (now (s .entry)) .definitions) at 0 (now (subs .entry)) (now (body .entry)) (now (list .entry)) (now (subs .exit)) (now (body .exit)) (now (list .exit)) r ⌝ }
 {
     let mut to = at;
     let mut base = 0usize;

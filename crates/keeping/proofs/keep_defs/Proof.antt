@@ -49,7 +49,7 @@ loop-less : tie.Need-loop-less Inv-loop μ-loop
 loop-less c = search needs
 
 loop-again : tie.Need-loop-again Inv-loop μ-loop
-loop-again c = going-turn _ _ _ _ _ _ _ (c .before .before .before .before .before .before .before .before .before .before .before .loop .inv) (c .before .before .before .before .before .before .before .before .before .before .before .before .before .before .before .pre .0 .0) (record { count = c .before .before .before .before .before .before .before .before .before .before .before .before .before .before .before .pre .0 .3; place = c .before .before .before .before .before .before .before .before .before .before .before .before .before .before .before .pre .0 .2; trees = c .before .before .before .before .before .before .before .before .before .before .before .before .before .before .before .pre .0 .4; within = c .before .before .before .before .before .before .before .before .before .before .before .loop .inv .within }) (c .before .before .before .before .before .before .before .before .before .before .loop-test .taken) (c .before .before .before .before .before .before .before .before .before .word-at .ensures) (c .before .before .before .before .before .before .before .before .word-at2 .ensures) _ (c .before .before .before .before .keep-def .ensures)
+loop-again c = going-turn _ _ _ _ _ _ _ (c .before .before .before .before .before .before .before .before .before .before .before .loop .inv) (c .before .before .before .before .before .before .before .before .before .before .before .before .before .before .before .pre .0 .0) (record { count = c .before .before .before .before .before .before .before .before .before .before .before .before .before .before .before .pre .0 .3; place = c .before .before .before .before .before .before .before .before .before .before .before .before .before .before .before .pre .0 .2; trees = c .before .before .before .before .before .before .before .before .before .before .before .before .before .before .before .pre .0 .4; within = c .before .before .before .before .before .before .before .before .before .before .before .loop .inv .within }) (c .before .before .before .before .before .before .before .before .before .before .loop-test .taken) (c .before .before .before .before .before .before .before .before .before .word-at .ensures) (c .before .before .before .before .before .before .before .before .word-at2 .ensures) (c .before .before .before .before .keep-def .ensures)
 
 same-length : tie.Need-same-length Inv-loop μ-loop
 same-length c = c .before .loop .inv .body-long
