@@ -28,7 +28,7 @@ use Rattle.cutting.proofs.Equations.{few-equations}
 use Rattle.cutting.proofs.Trees.{copied-nodes}
 use Rattle.copies.specs.Substituted.{substOf}
 use Rattle.keeping.specs.declared.Kept.{Kept}
-use Rattle.keeping.specs.Keeping.{keptOf, putKept, putNodes, keptFrom, NodeRoom, WordRoom}
+use Rattle.keeping.specs.Keeping.{keptOf, putKept, putNodes, keptFrom, Keeps, NodeRoom, WordRoom}
 use Rattle.keeping.specs.Keeping.{proversOf as keptProvers, usedOf as keptUsed}
 use Rattle.cut.specs.declared.body.Built.{Built}
 use Rattle.cut.specs.Body.{bodyWords, Made, Fitting}
@@ -237,25 +237,25 @@ module _ {b us ps : List ℕ} (r : Readable b) (c : Classified b us ps) (few : m
       room-of-nodes g = record { long = omega (arith, nodes-few); few = omega (arith, nodes-few) }
 
       -- after the kept definitions, worked out again from no substitutions
-      module _ (body5 list list1 : List ℕ) (m2 : List ℕ) (y : substOf m2 ≡ none-yet b k) (o : Kept) (long-list : length list ≡ 262144) (w : (body5 ≡ putKept body4 (q .at) 0 (keptOf b k (substOf m2) (moduleOf b .definitions))) × (list1 ≡ putNodes list 0 (keptOf b k (substOf m2) (moduleOf b .definitions))) × (o ≡ keptFrom (q .at) 0 (keptOf b k (substOf m2) (moduleOf b .definitions)))) where
+      module _ (body5 list list1 : List ℕ) (m2 : List ℕ) (y : substOf m2 ≡ none-yet b k) (o : Kept) (long-list : length list ≡ 262144) (m3 : List ℕ) (w : Keeps b k (moduleOf b .definitions) (q .at) 0 m2 body4 list m3 body5 list1 o) where
         kept-are : keptOf b k (substOf m2) (moduleOf b .definitions) ≡ keptDefinitions b k
         kept-are = ap (λ (x : Substitutions). keptOf b k x (moduleOf b .definitions)) y
 
         fourth-written : body5 ≡ setWords body4 (q .at) (keptWords 0 (keptDefinitions b k))
         unfolding putKept
-        fourth-written = w .0 ∙ ap (λ (x : List Definition). setWords body4 (q .at) (keptWords 0 x)) kept-are
+        fourth-written = w .body-is ∙ ap (λ (x : List Definition). setWords body4 (q .at) (keptWords 0 x)) kept-are
 
         list-written : list1 ≡ setWords list 0 (keptNodes 0 (keptDefinitions b k))
         unfolding putNodes
-        list-written = w .1 ∙ ap (λ (x : List Definition). setWords list 0 (keptNodes 0 x)) kept-are
+        list-written = w .list-is ∙ ap (λ (x : List Definition). setWords list 0 (keptNodes 0 x)) kept-are
 
         fourth-place : o .at ≡ q .at + 2 * length (keptDefinitions b k)
         unfolding keptFrom
-        fourth-place = ap (λ (x : Kept). x .at) (w .2) ∙ ap (λ (x : List Definition). q .at + 2 * length x) kept-are
+        fourth-place = ap (λ (x : Kept). x .at) (w .answer-is) ∙ ap (λ (x : List Definition). q .at + 2 * length x) kept-are
 
         list-place : o .nodes ≡ definitionsNodes (keptDefinitions b k)
         unfolding keptFrom
-        list-place = omega (arith, ap (λ (x : Kept). x .nodes) (w .2) ∙ ap (λ (x : List Definition). 0 + definitionsNodes x) kept-are)
+        list-place = omega (arith, ap (λ (x : Kept). x .nodes) (w .answer-is) ∙ ap (λ (x : List Definition). 0 + definitionsNodes x) kept-are)
 
         provers-are : proversOf b ≡ idsFrom (marked ps) 0 (next b)
         unfolding proversOf
