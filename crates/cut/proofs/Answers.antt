@@ -1,15 +1,14 @@
 -- The answers by their case: what each refusal leaves, and when the passes' result is taken.
 -- Assumes nothing.
-use Prim.Native.Nat.{ℕ, _+_, _≤_, _<_}
+use Prim.Native.Nat.{ℕ, _≤_, _<_}
 use mathlib.Core.Path.{_≡_, refl, sym, ap, _∙_}
 use mathlib.Core.List.{List}
 use mathlib.Core.Bool.{Bool, true, false, _&&_}
 use native.Mathlib.Omega.{arith}
-use lib.ListN.{length, replicate, length-replicate}
-use lib.Dec.{leb}
+use lib.ListN.{length, length-replicate}
 use borrow.Author.Tests.{le-leb, lt-leb}
 use Rattle.flat.specs.Trees.{FlatModule, moduleNodes}
-use Rattle.flat.specs.Record.{publics, moduleOf, layoutOf, Read, flatOf, checked}
+use Rattle.flat.specs.Record.{next, publics, definitions, equations, definitionsAt, equationsAt, nodesAt, moduleOf, layoutOf, flatOf, checked}
 use Rattle.flat.specs.declared.Layout.{Layout}
 use Rattle.flat.specs.declared.Checked.the-variants.{Accepted, Refused as No}
 use Rattle.flat.specs.Readable.{Readable}
@@ -19,7 +18,7 @@ use Rattle.flat.proofs.Sizes.{accepted-nodes}
 use Rattle.constraint.specs.Trees.{ConstraintModule}
 use Rattle.passes.specs.Passes.{Outcome, cut, refused, unless, fitting, passes, counted, cuttableDefs, cuttableEquations, cutOf, flattenModuleTo3ac, eliminateDeadEqualities, copyPropagate, classifyDefs}
 use Rattle.cut.specs.declared.Answer.{Answer}
-use Rattle.cut.specs.declared.Answer.the-variants.{Written, Refused}
+use Rattle.cut.specs.declared.Answer.the-variants.{Refused}
 use Rattle.cut.specs.Body.{noBody, noList}
 use Rattle.cut.specs.Cut.{cutRead, cutRecord, answerFor, outputFor}
 
@@ -69,9 +68,35 @@ pub passes-publics : (b : List ℕ) {l : Layout} → l ≡ layoutOf b → l .pub
 unfolding layoutOf passes flattenModuleTo3ac eliminateDeadEqualities copyPropagate classifyDefs moduleOf
 passes-publics b e = ap (λ (x : Layout). x .publics) e ∙ sym (length-rows _ (publics b) 0)
 
-pub layout-publics : (b : List ℕ) {l : Layout} → l ≡ layoutOf b → l .publics ≡ publics b
-unfolding layoutOf
-layout-publics b e = ap (λ (x : Layout). x .publics) e
+-- the layout's fields
+module _ (b : List ℕ) {l : Layout} (e : l ≡ layoutOf b) where
+  pub layout-next : l .next ≡ next b
+  unfolding layoutOf
+  layout-next = ap (λ (x : Layout). x .next) e
+
+  pub layout-publics : l .publics ≡ publics b
+  unfolding layoutOf
+  layout-publics = ap (λ (x : Layout). x .publics) e
+
+  pub layout-definitions : l .definitions ≡ definitions b
+  unfolding layoutOf
+  layout-definitions = ap (λ (x : Layout). x .definitions) e
+
+  pub layout-definitions-at : l .«definitions_at» ≡ definitionsAt b
+  unfolding layoutOf
+  layout-definitions-at = ap (λ (x : Layout). x .«definitions_at») e
+
+  pub layout-equations : l .equations ≡ equations b
+  unfolding layoutOf
+  layout-equations = ap (λ (x : Layout). x .equations) e
+
+  pub layout-equations-at : l .«equations_at» ≡ equationsAt b
+  unfolding layoutOf
+  layout-equations-at = ap (λ (x : Layout). x .«equations_at») e
+
+  pub layout-nodes-at : l .«nodes_at» ≡ nodesAt b
+  unfolding layoutOf
+  layout-nodes-at = ap (λ (x : Layout). x .«nodes_at») e
 
 -- the port's own lists
 pub body-size : {m : List ℕ} → m ≡ noBody → length m ≡ 753920

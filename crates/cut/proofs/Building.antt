@@ -1,6 +1,6 @@
 -- The body and the nodes of a constraint record, made piece by piece: what the pieces are by the definition of the passes, and that they fit.
 -- Assumes nothing.
-use Prim.Native.Nat.{ℕ, zero, suc, _+_, _-_, _*_, _≤_, _<_}
+use Prim.Native.Nat.{ℕ, zero, suc, _+_, _*_, _≤_}
 use mathlib.Core.Path.{_≡_, refl, sym, ap, ap₂, _∙_}
 use mathlib.Core.List.{List, [], _∷_, _++_, append-assoc}
 use mathlib.Core.Bool.{Bool, true, false, not}
@@ -10,18 +10,18 @@ use lib.ListN.{length, take, drop, length-append}
 use lib.Seq.{take-at}
 use Rattle.words.specs.Words.{wordAt, setWords, bytesOf}
 use Rattle.words.proofs.Laws.{setWords-append, setWords-bytes, length-setWords, length-bytesOf}
-use Rattle.flat.specs.Trees.{Definition, Equation, treeNodes, definitionsNodes, equationsNodes, moduleNodes}
+use Rattle.flat.specs.Trees.{Definition, treeNodes, definitionsNodes, equationsNodes, moduleNodes}
 use Rattle.flat.specs.Record.{rows, next, publics, definitions, moduleOf}
 use Rattle.flat.specs.Readable.{Readable}
 use Rattle.flat.proofs.Rows.{length-rows}
-use Rattle.constraint.specs.Trees.{Equality, ConstraintModule}
+use Rattle.constraint.specs.Trees.{ConstraintModule}
 use Rattle.constraint.specs.Record.{equalitiesWords, keptWords, keptNodes}
 use Rattle.constraint.proofs.Lengths.{length-equalities, length-kept, length-kept-nodes, equalities-append}
 use Rattle.passes.specs.Passes.{keepIf, idsFrom, member, those, isNever, usage, classifyDefs, Substitutions, copyPropagateDef, afterDef, copyPropagateDefs, copyPropagate, eliminateDeadEqualities, Cuts, joined, flattenLists, flattenModuleTo3ac, passes}
 use Rattle.classify.specs.Arrays.{marked, Classified}
 use Rattle.classify.proofs.Whole.{classified-provers}
 use Rattle.cutting.specs.declared.Place.{Place}
-use Rattle.cutting.specs.Cutting.{putEqualities, after, placeFrom, proversOf, usedOf, defsCut, defsAfter, equationsCut, Room}
+use Rattle.cutting.specs.Cutting.{putEqualities, after, proversOf, usedOf, defsCut, defsAfter, equationsCut, Room}
 use Rattle.cutting.proofs.Joining.{Puts, Few, place-at, place-next}
 use Rattle.cutting.proofs.Definitions.{DefsLeave, few-defs}
 use Rattle.cutting.proofs.Equations.{few-equations}
@@ -167,8 +167,8 @@ module _ {b us ps : List ℕ} (r : Readable b) (c : Classified b us ps) (few : m
   unfolding moduleNodes
   nodes-few = few
 
-  pub room-definitions : Room (definitionsNodes (moduleOf b .definitions)) start (next b) body2
-  room-definitions = record { words = omega (arith, first-long, start-small, nodes-few); ids = omega (arith, nodes-few, r .next-small) }
+  pub room-definitions : (n : ℕ) → n ≡ next b → Room (definitionsNodes (moduleOf b .definitions)) start n body2
+  room-definitions n e = record { words = omega (arith, first-long, start-small, nodes-few); ids = omega (arith, nodes-few, r .next-small) }
 
   -- after the definitions, which left the body body3 and the place p
   module _ (n : ℕ) (en : n ≡ next b) (m0 m1 : List ℕ) (z : substOf m0 ≡ none-yet b k) (body3 : List ℕ) (p : Place) (d : DefsLeave b k (moduleOf b .definitions) m0 m1 body2 body3 start n p) where
@@ -285,6 +285,9 @@ module _ {b us ps : List ℕ} (r : Readable b) (c : Classified b us ps) (few : m
             let z1 : (((P ++ Q) ++ E) ++ F) ++ K ≡ P ++ (Q ++ ((E ++ F) ++ K)) = simp append-assoc in
             s3 ∙ ap (setWords body 0) (z1 ∙ ap (λ (x : List ℕ). P ++ (Q ++ (x ++ K))) (sym (equalities-append (cutDefinitions b k .equalities) (cutEquations b k .equalities))))
 
+        pub body-same : length body5 ≡ length body
+        body-same = ap length body-written ∙ length-setWords (bodyWords (parts b k)) body 0
+
         abbrev the-built : Built
         the-built = record { next = q .next; start = start; equalities = q .at; kept = o .at; nodes = o .nodes }
 
@@ -312,7 +315,7 @@ module _ {b us ps : List ℕ} (r : Readable b) (c : Classified b us ps) (few : m
               publics-first = omega (arith, l .place);
               start-first = omega (arith, third-place, second-place);
               equalities-first = omega (arith, fourth-place);
-              body-long = omega (arith, ap length body-written ∙ length-setWords (bodyWords (parts b k)) body 0 ∙ long, fourth-place, third-small, kept-few-words);
+              body-long = omega (arith, body-same ∙ long, fourth-place, third-small, kept-few-words);
               list-long = omega (arith, ap length list-written ∙ length-setWords (keptNodes 0 (keptDefinitions b k)) list 0 ∙ long-list, list-place, kept-few-nodes);
               kept-small = omega (arith, fourth-place, third-small, kept-few-words);
               nodes-small = omega (arith, list-place, kept-few-nodes);

@@ -21,7 +21,13 @@ pub struct Built {
 }
 
 // The passes' constraint module of a classified record, in the two lists.
-pub fn build(s: &[u8], usage: &[u8; 65536], provers: &[u8; 65536], body: &mut [u8], list: &mut [u8]) -> Built
+pub fn build(
+    s: &[u8],
+    usage: &[u8; 65536],
+    provers: &[u8; 65536],
+    body: &mut [u8],
+    list: &mut [u8],
+) -> Built
     requires { ⌜ Readable (now s) × (moduleNodes (moduleOf (now s)) ≤ 16384) × Classified (now s) (now usage) (now provers) ⌝ }
     requires { ⌜ (length (now body) ≡ 753920) × (length (now list) ≡ 262144) ⌝ }
     ensures { λ r. ⌜ Made (passes (moduleOf (now (s .entry)))) r (now (body .exit)) (now (list .exit)) × Fitting r (publics (now (s .entry))) (now (body .exit)) (now (list .exit)) ⌝ }
@@ -36,9 +42,49 @@ pub fn build(s: &[u8], usage: &[u8; 65536], provers: &[u8; 65536], body: &mut [u
     let start = put_provers(provers, next, body, publics);
     let steps = copies::used_definitions(s, definitions_at, definitions, usage);
     let mut subs = copies::no_substitutions();
-    let d = cutting::flatten_defs(s, definitions_at, definitions, nodes_at, usage, provers, &mut subs, steps, body, start, next as u32);
-    let e = cutting::flatten_equations(s, layout.equations_at, layout.equations, nodes_at, &subs, steps, body, d.at, d.next);
+    let d = cutting::flatten_defs(
+        s,
+        definitions_at,
+        definitions,
+        nodes_at,
+        usage,
+        provers,
+        &mut subs,
+        steps,
+        body,
+        start,
+        next as u32,
+    );
+    let e = cutting::flatten_equations(
+        s,
+        layout.equations_at,
+        layout.equations,
+        nodes_at,
+        &subs,
+        steps,
+        body,
+        d.at,
+        d.next,
+    );
     copies::clear_substitutions(&mut subs);
-    let k = keeping::keep_defs(s, definitions_at, definitions, nodes_at, usage, provers, &mut subs, steps, body, e.at, list);
-    Built { next: e.next, start, equalities: e.at, kept: k.at, nodes: k.nodes }
+    let k = keeping::keep_defs(
+        s,
+        definitions_at,
+        definitions,
+        nodes_at,
+        usage,
+        provers,
+        &mut subs,
+        steps,
+        body,
+        e.at,
+        list,
+    );
+    Built {
+        next: e.next,
+        start,
+        equalities: e.at,
+        kept: k.at,
+        nodes: k.nodes,
+    }
 }

@@ -42,7 +42,15 @@ fn deliver(built: Built, publics: usize, body: &[u8], list: &[u8], out: &mut [u8
     if out.len() < size {
         return Answer::Refused(33);
     }
-    put_header(out, built.next, publics as u32, (start - publics) as u32, ((equalities - start) / 7) as u32, ((kept - equalities) / 2) as u32, nodes as u32);
+    put_header(
+        out,
+        built.next,
+        publics as u32,
+        (start - publics) as u32,
+        ((equalities - start) / 7) as u32,
+        ((kept - equalities) / 2) as u32,
+        nodes as u32,
+    );
     copy_to(body, 4 * kept, out, 24);
     copy_to(list, 16 * nodes, out, 24 + 4 * kept);
     Answer::Written(size)
@@ -79,14 +87,14 @@ pub fn passes(s: &[u8], out: &mut [u8]) -> Answer
 }
 
 // A lent flat record: its constraint record at the front of the output, or a refusal. The store is cleared.
-pub fn cut(record: &[u8], store: &mut [u8], out: &mut [u8]) -> Answer
-    ensures { λ r. ⌜ r ≡ answerFor (length (now (out .entry))) (cutRecord (now (record .entry))) ⌝ }
-    ensures { λ _. ⌜ now (out .exit) ≡ outputFor (now (out .entry)) (cutRecord (now (record .entry))) ⌝ }
+pub fn cut(s: &[u8], store: &mut [u8], out: &mut [u8]) -> Answer
+    ensures { λ r. ⌜ r ≡ answerFor (length (now (out .entry))) (cutRecord (now (s .entry))) ⌝ }
+    ensures { λ _. ⌜ now (out .exit) ≡ outputFor (now (out .entry)) (cutRecord (now (s .entry))) ⌝ }
     ensures { λ _. ⌜ now (store .exit) ≡ replicate (length (now (store .entry))) 0 ⌝ }
 {
     words::clear(store);
-    match flat::check_flat(record) {
+    match flat::check_flat(s) {
         Checked::Refused(n) => Answer::Refused(n),
-        Checked::Accepted => passes(record, out),
+        Checked::Accepted => passes(s, out),
     }
 }
