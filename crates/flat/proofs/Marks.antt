@@ -1,29 +1,19 @@
--- Marks: what a use, a sum of uses, and the end's test say. Assumes nothing.
-use Prim.Native.Nat.{ℕ, zero, suc, _+_, _≤_, _<_}
-use mathlib.Core.Path.{_≡_, refl, sym, ap, _∙_, subst}
+-- Uses of nodes: what one use, a list of uses, and the test of the marks at the end say. Assumes nothing.
+use Prim.Native.Nat.{ℕ, zero, suc, _+_, _≤_, _<_, _*_}
+use mathlib.Core.Path.{_≡_, refl, sym, ap, _∙_}
 use mathlib.Core.List.{List}
 use mathlib.Core.Bool.{Bool, true, false, _&&_}
-use mathlib.Core.Logic.{_⊎_, inl, inr, ⊎-elim}
-use native.Mathlib.Numerals.{add-one}
+use mathlib.Core.Logic.{⊎-elim}
 use native.Mathlib.Omega.{arith}
 use lib.ListN.{length, getD, set, length-set}
 use lib.Seq.{getD-set-same, getD-set-other}
-use lib.Dec.{eqb}
-use borrow.Author.Tests.{eq-eqb, ne-eqb, eqb-true, eqb-false}
-use lib.Dec.{ltb, leb}
-use borrow.Author.Tests.{ltb-true, lt-ltb}
-use Prim.Native.Nat.{_*_}
+use lib.Dec.{eqb, ltb}
+use borrow.Author.Tests.{eq-eqb, ne-eqb, ltb-true, lt-ltb}
 use Rattle.words.specs.Words.{wordAt}
-use Rattle.flat.specs.Record.{pick, same, capped, bump, Marked, Adds, every, total, usedBy, nodeFits, nodeAt, nodesFit, byNodes, byDefinitions, byEquations, definitionsFit, allBelow}
-use Rattle.flat.proofs.Laws.{every-fails, every-more, every-all}
-
--- equal or not
-pub alike-at : (t : Bool) (a b : ℕ) → eqb a b ≡ t → (a ≡ b) ⊎ (a ≡ b → ⊥)
-alike-at true a b e = inl (eqb-true a b e)
-alike-at false a b e = inr (eqb-false a b e)
-
-pub alike : (a b : ℕ) → (a ≡ b) ⊎ (a ≡ b → ⊥)
-alike a b = alike-at (eqb a b) a b refl
+use Rattle.flat.specs.Marks.{capped, bump, Marked, Adds}
+use Rattle.flat.specs.Record.{pick, same, every, total, usedBy, nodeFits, nodeAt, nodesFit, byNodes, byDefinitions, byEquations, definitionsFit, allBelow}
+use Rattle.flat.proofs.Nodes.{fits-4, fits-5, node-is}
+use Rattle.flat.proofs.Laws.{alike, and-right, every-fails, every-more, every-same, total-more}
 
 pub same-yes : (x k : ℕ) → x ≡ k → same x k ≡ 1
 unfolding same pick
@@ -68,11 +58,6 @@ adds-more {g = g} {h = h} g′ a b e = record {
   adds = λ f p k l. b .adds (λ j. f j + g j) (a .adds f p) k l ∙ ap capped (omega (arith, e k));
 }
 
--- a sum over one index more
-pub total-more : (n : ℕ) (f : ℕ → ℕ) → total (n + 1) f ≡ total n f + f n
-unfolding total
-total-more n f = rw add-one
-
 pub bump-some : (n : ℕ) → (n ≡ 0 → ⊥) → 2 ≡ bump n
 unfolding bump
 bump-some zero f = absurd (f refl)
@@ -104,37 +89,12 @@ pub children-none : (m : List ℕ) (kind x y : ℕ) → (kind ≡ 4 → ⊥) →
 children-none m kind x y n e = adds-none m _ (λ k. used-none k kind x y 0 n e)
 
 -- a node that fits has its children before it
-pub and-left : (a b : Bool) → (a && b) ≡ true → a ≡ true
-and-left true b e = refl
-and-left false b e = e
-
-pub and-right : (a b : Bool) → (a && b) ≡ true → b ≡ true
-and-right true b e = e
-and-right false b e = let z : _≡_ {A = ℕ} 0 1 = cc in absurd (omega arith)
-
-pub fits-4 : (limit k kind x y z : ℕ) → nodeFits limit k kind x y z ≡ true → kind ≡ 4 → (x < k) × (y < k)
-unfolding nodeFits pick
-fits-4 limit k kind x y z h e =
-    let g : (ltb x k && (ltb y k && leb z 8)) ≡ true = rw (eq-eqb kind 4 e) at h in
-    (ltb-true x k (and-left (ltb x k) (ltb y k && leb z 8) g), ltb-true y k (and-left (ltb y k) (leb z 8) (and-right (ltb x k) (ltb y k && leb z 8) g)))
-
-pub fits-5 : (limit k kind x y z : ℕ) → nodeFits limit k kind x y z ≡ true → kind ≡ 5 → x < k
-unfolding nodeFits pick
-fits-5 limit k kind x y z h e =
-    let n : kind ≡ 4 → ⊥ = λ q. omega arith in
-    let g : (ltb x k && (eqb y 0 && eqb z 0)) ≡ true = rw (ne-eqb kind 4 n, eq-eqb kind 5 e) at h in
-    ltb-true x k (and-left (ltb x k) (eqb y 0 && eqb z 0) g)
-
 pub children-below : (limit k kind x y z : ℕ) {t : Bool} → t ≡ nodeFits limit k kind x y z → t ≡ true → k < 16384 → (kind ≡ 4 → (x < 16384) × (y < 16384)) × (kind ≡ 5 → x < 16384)
 children-below limit k kind x y z e h l =
     let g : nodeFits limit k kind x y z ≡ true = sym e ∙ h in
-    (λ q. let w = fits-4 limit k kind x y z g q in (omega (arith, w .0), omega (arith, w .1)), λ q. omega (arith, fits-5 limit k kind x y z g q))
+    (λ q. let w = fits-4 kind x y z limit k g q in (omega (arith, w .0), omega (arith, w .1)), λ q. omega (arith, fits-5 kind x y z limit k g q))
 
 -- a turn of the loop over nodes
-node-is : {A : Type 0} (b : List ℕ) (at k : ℕ) (f : ℕ → ℕ → ℕ → ℕ → A) {kind x y z : ℕ} → kind ≡ wordAt b (at + 4 * k) → x ≡ wordAt b (at + 4 * k + 1) → y ≡ wordAt b (at + 4 * k + 2) → z ≡ wordAt b (at + 4 * k + 3) → nodeAt b at k f ≡ f kind x y z
-unfolding nodeAt
-node-is b at k f p q r s = rw (p, q, r, s)
-
 pub nodes-fail : (b : List ℕ) (at n limit k : ℕ) {kind x y z : ℕ} {t : Bool} → k < n → kind ≡ wordAt b (at + 4 * k) → x ≡ wordAt b (at + 4 * k + 1) → y ≡ wordAt b (at + 4 * k + 2) → z ≡ wordAt b (at + 4 * k + 3) → t ≡ nodeFits limit k kind x y z → t ≡ false → false ≡ nodesFit b at n limit
 unfolding nodesFit
 nodes-fail b at n limit k l p q r s e h = every-fails n k _ l (node-is b at k (nodeFits limit k) p q r s ∙ sym e ∙ h)
@@ -181,14 +141,5 @@ pub sides-none : (b : List ℕ) (at count : ℕ) (m : List ℕ) → (allBelow b 
 unfolding allBelow byEquations every total
 sides-none b at count m = (refl, adds-none m _ (λ k. refl))
 
--- the end's test
-pub every-same : (n : ℕ) (p q : ℕ → Bool) → ((k : ℕ) → k < n → p k ≡ q k) → every n p ≡ every n q
-unfolding every
-every-same zero p q h = refl
-every-same (suc n) p q h = rw (every-same n p q (λ k l. h k (omega arith)), h n (omega arith))
-
 pub marks-once : (m : List ℕ) (n : ℕ) (f : ℕ → ℕ) → n ≤ length m → Marked m f → every n (λ k. eqb (getD m k 0) 1) ≡ every n (λ k. eqb (f k) 1)
 marks-once m n f l h = every-same n _ _ (λ k g. let w : k < length m = omega arith in ap (λ (x : ℕ). eqb x 1) (h k w) ∙ once (f k))
-
-pub not-both : {t : Bool} → t ≡ false → t ≡ true → ⊥
-not-both p q = let e : false ≡ true = sym p ∙ q in let z : _≡_ {A = ℕ} 0 1 = cc in omega arith

@@ -1,20 +1,23 @@
 -- The order rule, from the last definition to the first. Assumes nothing.
 use Prim.Native.Nat.{ℕ, zero, suc, _+_, _-_, _*_, _≤_, _<_}
-use mathlib.Core.Path.{_≡_, refl, sym, ap, _∙_, subst}
-use mathlib.Core.List.{List, [], _∷_}
-use mathlib.Core.Bool.{Bool, true, false, not, _&&_, _||_, and-false}
-use mathlib.Core.Logic.{_⊎_, inl, inr, ⊎-elim}
-use native.Mathlib.Numerals.{add-one}
+use mathlib.Core.Path.{_≡_, refl, sym, ap, _∙_}
+use mathlib.Core.List.{List, _∷_}
+use mathlib.Core.Bool.{Bool, true, false, not, _&&_, and-false}
+use mathlib.Core.Logic.{⊎-elim}
 use native.Mathlib.Omega.{arith}
 use lib.ListN.{length, getD, set}
 use lib.Seq.{getD-set-same, getD-set-other}
 use lib.Dec.{eqb, ltb}
 use borrow.Author.Tests.{eq-eqb, ne-eqb, ltb-true}
 use Rattle.words.specs.Words.{wordAt}
-use Rattle.flat.specs.Trees.{Flat, Definition}
-use Rattle.flat.specs.Record.{rows, tree, everyId, defines, ordered, Later, definitionAt, definitionsFit}
-use Rattle.flat.proofs.Marks.{alike, and-left, and-right}
-use Rattle.flat.proofs.Trees.{settled, every-at}
+use Rattle.flat.specs.Trees.{Flat, Definition, everyId, defines}
+use Rattle.flat.specs.Marks.{Later}
+use Rattle.flat.specs.declared.Node.the-variants.{Infix, Negate, Constant, Variable}
+use Rattle.flat.specs.Record.{rows, nodeOf, tree, ordered, definitionAt, definitionsFit}
+use Rattle.flat.proofs.Laws.{alike, and-left, and-right, every-at}
+use Rattle.flat.proofs.Nodes.{settled, tree-infix, tree-negate, tree-constant, tree-variable}
+use Rattle.field.specs.declared.InfixOp.{InfixOp}
+use lib.IntN.{ℤ}
 
 pub everyId-same : (p q : ℕ → Bool) → ((v : ℕ) → p v ≡ q v) → (t : Flat) → everyId p t ≡ everyId q t
 unfolding everyId
@@ -65,13 +68,10 @@ module _ (b : List ℕ) (at n trees nodes k : ℕ) (pos : 0 < k) (le : k ≤ n) 
   unfolding ordered definitionAt
   order-double f = fails n (k - 1) _ (omega arith) (rw (rows-step n k (definitionAt b at trees nodes) pos le, ← e1, ← known id, ne-eqb (getD m id 0) 0 f))
 
-  module _ (m′ : List ℕ) (t : Bool) (free : getD m id 0 ≡ 0) (l : id < length m) (written : m′ ≡ set m id 1) (one : node < nodes) (walked : t ≡ everyId (λ v. eqb (getD (set m id 1) v 0) 0) (tree b trees (node + 1) node)) where
+  module _ (t : Bool) (free : getD m id 0 ≡ 0) (l : id < length m) (one : node < nodes) (walked : t ≡ everyId (λ v. eqb (getD (set m id 1) v 0) 0) (tree b trees (node + 1) node)) where
     later-set-on : Later (set m id 1) (definitionAt b at trees nodes (k - 1) ∷ rows (n - k) k (definitionAt b at trees nodes))
     unfolding definitionAt
     later-set-on = rw e1 (later-set m (rows (n - k) k (definitionAt b at trees nodes)) (definitionAt b at trees nodes (k - 1)) known (rw e1 at l))
-
-    later-on : Later m′ (definitionAt b at trees nodes (k - 1) ∷ rows (n - k) k (definitionAt b at trees nodes))
-    later-on = rw written later-set-on
 
     first : ordered (definitionAt b at trees nodes (k - 1) ∷ rows (n - k) k (definitionAt b at trees nodes)) ≡ (t && ordered (rows (n - k) k (definitionAt b at trees nodes)))
     unfolding definitionAt
@@ -86,8 +86,8 @@ module _ (b : List ℕ) (at n trees nodes k : ℕ) (pos : 0 < k) (le : k ≤ n) 
     pub order-used : t ≡ false → false ≡ ordered (rows n 0 (definitionAt b at trees nodes))
     order-used h = fails n (k - 1) _ (omega arith) (rw (rows-step n k (definitionAt b at trees nodes) pos le) (first ∙ rw h))
 
-    pub order-more : t ≡ true → ordered (rows (n - k) k (definitionAt b at trees nodes)) ≡ true → (ordered (rows (n - (k - 1)) (k - 1) (definitionAt b at trees nodes)) ≡ true) × Later m′ (rows (n - (k - 1)) (k - 1) (definitionAt b at trees nodes))
-    order-more h g = rw (rows-step n k (definitionAt b at trees nodes) pos le) (first ∙ rw (h, g), later-on)
+    pub order-more : t ≡ true → ordered (rows (n - k) k (definitionAt b at trees nodes)) ≡ true → (ordered (rows (n - (k - 1)) (k - 1) (definitionAt b at trees nodes)) ≡ true) × Later (set m id 1) (rows (n - (k - 1)) (k - 1) (definitionAt b at trees nodes))
+    order-more h g = rw (rows-step n k (definitionAt b at trees nodes) pos le) (first ∙ rw (h, g), later-set-on)
 
 -- what the code knows of a definition that fits
 pub definition-fits : (b : List ℕ) (at n limit count k id node : ℕ) → definitionsFit b at n limit count ≡ true → k < n → id ≡ wordAt b (at + 2 * k) → node ≡ wordAt b (at + 2 * k + 1) → (id < limit) × (node < count)
@@ -95,3 +95,25 @@ unfolding definitionsFit
 definition-fits b at n limit count k id node h l p q =
     let g = every-at n k (λ j. ltb (wordAt b (at + 2 * j)) limit && ltb (wordAt b (at + 2 * j + 1)) count) h l in
     (ltb-true id limit (rw p (and-left (ltb (wordAt b (at + 2 * k)) limit) (ltb (wordAt b (at + 2 * k + 1)) count) g)), ltb-true node count (rw q (and-right (ltb (wordAt b (at + 2 * k)) limit) (ltb (wordAt b (at + 2 * k + 1)) count) g)))
+
+-- the walk at a node: what it finds is what its children's walks find
+module _ (b : List ℕ) (at k : ℕ) (p : ℕ → Bool) where
+  pub walk-infix-no : {o : InfixOp} {x y : ℕ} {l : Bool} → nodeOf b at k ≡ Infix o x y → (x < k) × (y < k) → l ≡ everyId p (tree b at (x + 1) x) → l ≡ false → false ≡ everyId p (tree b at (k + 1) k)
+  unfolding everyId
+  walk-infix-no {l = l} e h hl n = rw (tree-infix b at k e (h .0) (h .1), ← hl, n)
+
+  pub walk-infix : {o : InfixOp} {x y : ℕ} {l r : Bool} → nodeOf b at k ≡ Infix o x y → (x < k) × (y < k) → l ≡ everyId p (tree b at (x + 1) x) → l ≡ true → r ≡ everyId p (tree b at (y + 1) y) → r ≡ everyId p (tree b at (k + 1) k)
+  unfolding everyId
+  walk-infix e h hl n hr = rw (tree-infix b at k e (h .0) (h .1), ← hl, n) hr
+
+  pub walk-negate : {x : ℕ} {l : Bool} → nodeOf b at k ≡ Negate x → x < k → l ≡ everyId p (tree b at (x + 1) x) → l ≡ everyId p (tree b at (k + 1) k)
+  unfolding everyId
+  walk-negate e h hl = rw (tree-negate b at k e h) hl
+
+  pub walk-constant : {c : ℤ} → nodeOf b at k ≡ Constant c → true ≡ everyId p (tree b at (k + 1) k)
+  unfolding everyId
+  walk-constant e = rw (tree-constant b at k e)
+
+  pub walk-variable : {v : ℕ} → nodeOf b at k ≡ Variable v → p v ≡ everyId p (tree b at (k + 1) k)
+  unfolding everyId
+  walk-variable e = rw (tree-variable b at k e)

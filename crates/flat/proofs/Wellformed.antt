@@ -1,20 +1,18 @@
--- An accepted record's module is well formed, as the passes' theorem asks. Assumes nothing.
-use Prim.Native.Nat.{ℕ, zero, suc, _+_, _-_, _*_, _≤_, _<_}
-use mathlib.Core.Path.{_≡_, refl, sym, ap, _∙_, subst}
+-- The module of an accepted record is well formed. Assumes nothing.
+use Prim.Native.Nat.{ℕ, zero, suc, _+_, _*_, _≤_, _<_}
+use mathlib.Core.Path.{_≡_}
 use mathlib.Core.List.{List, [], _∷_}
-use mathlib.Core.Bool.{Bool, true, false, not, _&&_, _||_}
-use mathlib.Core.Logic.{_⊎_, inl, inr, ⊎-elim}
+use mathlib.Core.Bool.{Bool, true, not, _&&_}
 use native.Mathlib.Omega.{arith}
-use lib.Dec.{eqb, ltb, leb}
-use borrow.Author.Tests.{ltb-true, eq-eqb, ne-eqb, not-true}
-use Rattle.words.specs.Words.{wordAt}
-use Rattle.flat.specs.Trees.{Flat, Definition, Equation, FlatModule}
-use Rattle.flat.specs.Record.{Read, flatOf, measured, every, rows, pick, allBelow, rising, definitionsFit, nodesFit, nodeAt, grown, tree, definitionAt, equationAt, moduleOf, defines, everyId, ordered, rules, rulesOf, usedOnce, next, publics, provers, definitions, equations, nodes, proversAt, definitionsAt, equationsAt, nodesAt}
+use lib.Dec.{leb}
+use borrow.Author.Tests.{not-true}
+use Rattle.flat.specs.Trees.{Flat, Definition, FlatModule, defines, everyId}
+use Rattle.flat.specs.Record.{Read, flatOf, measured, rows, allBelow, rising, treesHold, tree, definitionAt, equationAt, moduleOf, ordered, rules, rulesOf, next, publics, provers, definitions, equations, nodes, proversAt, definitionsAt, equationsAt, nodesAt}
 use Rattle.flat.specs.Rules.{All, Every, Ordered, Rising, WellFormed}
-use Rattle.flat.proofs.Laws.{split}
-use Rattle.flat.proofs.Marks.{alike, and-left, and-right}
-use Rattle.flat.proofs.Trees.{every-at, node-4, node-5, node-8}
-use Rattle.flat.proofs.Order.{definition-fits}
+use Rattle.flat.proofs.Laws.{and-left, and-right}
+use Rattle.flat.proofs.Nodes.{tree-below}
+use Rattle.flat.specs.Readable.{Readable}
+use Rattle.flat.proofs.Reading.{public-below, prover-below, prover-rises, definition-below, equation-below, tests-readable, accepted-measured, accepted-rules, accepted-module}
 
 rows-all : {A : Type 0} (Q : A → Type 0) (f : ℕ → A) (n at : ℕ) → ((k : ℕ) → at ≤ k → k < at + n → Q (f k)) → All Q (rows n at f)
 unfolding rows
@@ -57,63 +55,54 @@ in-order (d ∷ ds) h =
       in-order ds (and-right (everyId p (d .right)) (ordered ds) r),
     )
 
--- the variables of every tree lie below the next id
-module _ (b : List ℕ) (at n limit : ℕ) (h : nodesFit b at n limit ≡ true) where
-  grown-below : (m : ℕ) → m < n → ((k : ℕ) → k < m → Every (λ v. v < limit) (tree b at m k)) → Every (λ v. v < limit) (nodeAt b at m (grown (tree b at m)))
-  unfolding nodeAt grown pick
-  grown-below m l i =
-      let kind = wordAt b (at + 4 * m) in
-      let x = wordAt b (at + 4 * m + 1) in
-      ⊎-elim
-      (λ (e : kind ≡ 4). let w = node-4 b at n limit m kind x h l refl refl _ refl e in rw (eq-eqb kind 4 e) (i _ (w .0), i _ (w .1)))
-      (λ (n4 : kind ≡ 4 → ⊥). rw (ne-eqb kind 4 n4) (⊎-elim
-      (λ (e : kind ≡ 5). rw (eq-eqb kind 5 e) (i _ (node-5 b at n limit m kind x h l refl refl e)))
-      (λ (n5 : kind ≡ 5 → ⊥). rw (ne-eqb kind 5 n5) (⊎-elim
-      (λ (e : kind ≡ 7). rw (eq-eqb kind 7 e) tt)
-      (λ (n7 : kind ≡ 7 → ⊥). rw (ne-eqb kind 7 n7) (node-8 b at n limit m kind x h l refl refl n4 n5 n7))
-      (alike kind 7)))
-      (alike kind 5)))
-      (alike kind 4)
+-- a readable record's module: ids below the next id, prover ids that rise
+module _ {b : List ℕ} (r : Readable b) where
+  deep : (k : ℕ) → k < nodes b → Every (λ v. v < next b) (tree b (nodesAt b) (nodes b) k)
+  deep = tree-below b (nodesAt b) (nodes b) (next b) (r .nodes-fit) (nodes b) (omega arith)
 
-  tree-below : (m : ℕ) → m ≤ n → (k : ℕ) → k < m → Every (λ v. v < limit) (tree b at m k)
-  unfolding tree pick
-  tree-below zero l k g = absurd (omega arith)
-  tree-below (suc m) l k g = ⊎-elim
-      (λ (e : k ≡ m). rw (eq-eqb k m e) (grown-below m (omega arith) (tree-below m (omega arith))))
-      (λ (f : k ≡ m → ⊥). rw (ne-eqb k m f) (tree-below m (omega arith) k (omega arith)))
-      (alike k m)
+  pub readable-publics : All (λ v. v < next b) (moduleOf b .publics)
+  unfolding moduleOf
+  readable-publics = rows-all (λ v. v < next b) _ (publics b) 0 (λ k l g. public-below r k (omega arith))
 
-pub well-formed : (b : List ℕ) → rules b ≡ true → WellFormed (moduleOf b)
-unfolding rules rulesOf moduleOf allBelow rising definitionAt equationAt
-well-formed b r0 =
+  pub readable-provers : All (λ v. v < next b) (moduleOf b .provers)
+  unfolding moduleOf
+  readable-provers = rows-all (λ v. v < next b) _ (provers b) 0 (λ k l g. prover-below r k (omega arith))
+
+  pub readable-rising : Rising (moduleOf b .provers)
+  unfolding moduleOf
+  readable-rising = rise _ (provers b) 0 (λ k l g. let e : proversAt b + (k + 1) ≡ proversAt b + k + 1 = omega arith in rw e (prover-rises r k (omega arith)))
+
+  pub readable-definitions : All (λ d. (d .id < next b) × Every (λ v. v < next b) (d .right)) (moduleOf b .definitions)
+  unfolding moduleOf definitionAt
+  readable-definitions = rows-all (λ d. (d .id < next b) × Every (λ v. v < next b) (d .right)) _ (definitions b) 0 (λ k l g. let w = definition-below r k (omega arith) in (w .0, deep _ (w .1)))
+
+  pub readable-equations : All (λ e. Every (λ v. v < next b) (e .left) × Every (λ v. v < next b) (e .right)) (moduleOf b .equations)
+  unfolding moduleOf equationAt
+  readable-equations = rows-all (λ e. Every (λ v. v < next b) (e .left) × Every (λ v. v < next b) (e .right)) _ (equations b) 0 (λ k l g. let w = equation-below r k (omega arith) in (deep _ (w .0), deep _ (w .1)))
+
+-- the last of the rules
+rules-ordered : (b : List ℕ) → rules b ≡ true → ordered (moduleOf b .definitions) ≡ true
+unfolding rules rulesOf moduleOf
+rules-ordered b r0 =
     let r1 = and-right (leb (next b) 65536) _ r0 in
     let r2 = and-right (allBelow b 6 (publics b) (next b)) _ r1 in
     let r3 = and-right (allBelow b (proversAt b) (provers b) (next b)) _ r2 in
     let r4 = and-right (rising b (proversAt b) (provers b)) _ r3 in
-    let r5 = and-right (definitionsFit b (definitionsAt b) (definitions b) (next b) (nodes b)) _ r4 in
-    let r6 = and-right (allBelow b (equationsAt b) (2 * equations b) (nodes b)) _ r5 in
-    let r7 = and-right (nodesFit b (nodesAt b) (nodes b) (next b)) _ r6 in
-    let r8 = and-right (usedOnce b (definitionsAt b) (definitions b) (equationsAt b) (2 * equations b) (nodesAt b) (nodes b)) _ r7 in
-    let below = every-at (publics b) in
-    let fit : nodesFit b (nodesAt b) (nodes b) (next b) ≡ true = and-left _ _ r6 in
-    let deep : (k : ℕ) → k < nodes b → Every (λ v. v < next b) (tree b (nodesAt b) (nodes b) k) = tree-below b (nodesAt b) (nodes b) (next b) fit (nodes b) (omega arith) in
-    let side : (k : ℕ) → k < 2 * equations b → wordAt b (equationsAt b + k) < nodes b = λ k l. ltb-true _ _ (every-at (2 * equations b) k (λ j. ltb (wordAt b (equationsAt b + j)) (nodes b)) (and-left _ _ r5) l) in
+    and-right (treesHold b (next b) (definitionsAt b) (definitions b) (equationsAt b) (2 * equations b) (nodesAt b) (nodes b)) _ r4
+
+well-formed : (b : List ℕ) → measured b ≡ true → rules b ≡ true → WellFormed (moduleOf b)
+unfolding moduleOf
+well-formed b m h =
+    let r = tests-readable b m h in
     record {
-      publics-below = rows-all (λ v. v < next b) _ (publics b) 0 (λ k l g. ltb-true _ _ (every-at (publics b) k (λ j. ltb (wordAt b (6 + j)) (next b)) (and-left _ _ r1) (omega arith)));
-      provers-below = rows-all (λ v. v < next b) _ (provers b) 0 (λ k l g. ltb-true _ _ (every-at (provers b) k (λ j. ltb (wordAt b (proversAt b + j)) (next b)) (and-left _ _ r2) (omega arith)));
-      provers-rise = rise _ (provers b) 0 (λ k l g. let e : proversAt b + (k + 1) ≡ proversAt b + k + 1 = omega arith in rw e (ltb-true _ _ (every-at (provers b - 1) k (λ j. ltb (wordAt b (proversAt b + j)) (wordAt b (proversAt b + j + 1))) (and-left _ _ r3) (omega arith))));
-      definitions-below = rows-all (λ d. (d .id < next b) × Every (λ v. v < next b) (d .right)) _ (definitions b) 0 (λ k l g. let w = definition-fits b (definitionsAt b) (definitions b) (next b) (nodes b) k _ _ (and-left _ _ r4) (omega arith) refl refl in (w .0, deep _ (w .1)));
-      equations-below = rows-all (λ e. Every (λ v. v < next b) (e .left) × Every (λ v. v < next b) (e .right)) _ (equations b) 0 (λ k l g. let e : equationsAt b + (2 * k + 1) ≡ equationsAt b + 2 * k + 1 = omega arith in (deep _ (side (2 * k) (omega arith)), deep _ (rw e at (side (2 * k + 1) (omega arith)))));
-      ordered = in-order _ r8;
+      publics-below = readable-publics r;
+      provers-below = readable-provers r;
+      provers-rise = readable-rising r;
+      definitions-below = readable-definitions r;
+      equations-below = readable-equations r;
+      ordered = in-order _ (rules-ordered b h);
     }
 
-from : (m r : Bool) (b : List ℕ) (f : FlatModule) → r ≡ rules b → pick m (pick r (Read.module-of (moduleOf b)) (Read.refused 21)) (Read.refused 20) ≡ Read.module-of f → WellFormed f
-unfolding pick
-from true true b f e h = let q : moduleOf b ≡ f = cc in rw q at (well-formed b (sym e))
-from true false b f e h = let z : _≡_ {A = ℕ} 0 1 = cc in absurd (omega arith)
-from false r b f e h = let z : _≡_ {A = ℕ} 0 1 = cc in absurd (omega arith)
-
--- THE STATEMENT: what the reader accepts is well formed
+-- what the reader accepts is well formed
 pub accepted-well-formed : (b : List ℕ) (f : FlatModule) → flatOf b ≡ Read.module-of f → WellFormed f
-unfolding flatOf
-accepted-well-formed b f h = from (measured b) (rules b) b f refl h
+accepted-well-formed b f h = rw (accepted-module b f h) at (well-formed b (accepted-measured b f h) (accepted-rules b f h))

@@ -1,3 +1,6 @@
 pub mod Trees
 pub mod Record
 pub mod Rules
+pub mod Readable
+pub mod Marks
+pub mod Meaning

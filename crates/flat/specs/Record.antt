@@ -1,22 +1,24 @@
 -- What a lent flat record is: its module, or 20 or 21. For a reader with document 01, "Flat record" and "Numbers by place of the check", beside it.
--- `b` is the list of its bytes. Each rule is a test on indices, for all indices below a count; 21 is one number for all its rules, so their order says nothing.
--- Assumes nothing: these are definitions.
-use Prim.Native.Nat.{ℕ, zero, suc, _+_, _-_, _*_, _<_}
-use mathlib.Core.Path.{_≡_}
+-- `b` is the list of its bytes. Each rule is a test for all indices below a count; 21 is one number for all its rules, so their order says nothing.
+use Prim.Native.Nat.{ℕ, zero, suc, _+_, _-_, _*_}
 use mathlib.Core.List.{List, [], _∷_}
-use mathlib.Core.Bool.{Bool, true, false, not, _&&_, _||_}
-use lib.ListN.{length, getD, replicate}
+use mathlib.Core.Bool.{Bool, true, false, not, _&&_}
+use lib.ListN.{length}
 use lib.Dec.{leb, ltb, eqb}
 use mir.Val.{toZ}
 use mir.Syntax.{w32}
 use Rattle.words.specs.Words.{wordAt}
 use Rattle.field.specs.declared.InfixOp.{InfixOp}
 use Rattle.field.specs.declared.InfixOp.the-variants.{Divide, DivideZ, Multiply, Add, Subtract, Equal, Exponentiate, IntDivide, Modulo}
-use Rattle.flat.specs.Trees.{Flat, Definition, Equation, FlatModule}
+use Rattle.flat.specs.Trees.{Flat, Definition, Equation, FlatModule, defines, everyId}
+use Rattle.flat.specs.declared.Node.{Node}
+use Rattle.flat.specs.declared.Node.the-variants.{Infix, Negate, Constant, Variable}
+use Rattle.flat.specs.declared.Layout.{Layout}
 use Rattle.flat.specs.declared.Checked.{Checked}
 use Rattle.flat.specs.declared.Checked.the-variants.{Accepted, Refused}
 
--- a test for every index below n; a sum over every index below n; the values at n indices from one on
+-- ---- for all indices below a count: a test, a sum; and the values at n indices from one on
+
 unfoldable pub every : ℕ → (ℕ → Bool) → Bool
 every zero p = true
 every (suc n) p = every n p && p n
@@ -32,6 +34,8 @@ rows (suc n) at f = f at ∷ rows n (suc at) f
 unfoldable pub pick : {A : Type 0} → Bool → A → A → A
 pick true a b = a
 pick false a b = b
+
+-- ---- the layout
 
 -- "Words: next id, counts of publics, prover ids, definitions, equations, nodes; public ids; prover ids; definitions (id, node); equations (node, node); nodes"
 module _ (b : List ℕ) where
@@ -53,7 +57,7 @@ module _ (b : List ℕ) where
   abbrev pub nodes : ℕ
   nodes = wordAt b 5
 
-  -- where each list starts, in words, and where the record ends
+  -- where each list starts, in words, and where the record ends; the public ids start at word 6
   abbrev pub proversAt : ℕ
   proversAt = 6 + publics
 
@@ -69,6 +73,22 @@ module _ (b : List ℕ) where
   abbrev pub size : ℕ
   size = nodesAt + 4 * nodes
 
+-- the header's numbers and the places of the lists, as the code has them
+unfoldable pub layoutOf : List ℕ → Layout
+layoutOf b = record {
+  next = next b;
+  publics = publics b;
+  provers = provers b;
+  definitions = definitions b;
+  equations = equations b;
+  nodes = nodes b;
+  «provers_at» = proversAt b;
+  «definitions_at» = definitionsAt b;
+  «equations_at» = equationsAt b;
+  «nodes_at» = nodesAt b;
+  size = size b;
+}
+
 -- not 20: "64 publics, 4,096 of each other list, 16,384 nodes", and the length is exactly the lists'
 unfoldable pub measured : List ℕ → Bool
 measured b =
@@ -80,71 +100,13 @@ measured b =
     && (leb (nodes b) 16384
     && eqb (length b) (4 * size b))))))
 
--- n ids (or node indices) from word `at` on lie below a limit
-unfoldable pub allBelow : List ℕ → ℕ → ℕ → ℕ → Bool
-allBelow b at n limit = every n (λ k. ltb (wordAt b (at + k)) limit)
+-- ---- nodes
 
--- n words from `at` on rise
-unfoldable pub rising : List ℕ → ℕ → ℕ → Bool
-rising b at n = every (n - 1) (λ k. ltb (wordAt b (at + k)) (wordAt b (at + k + 1)))
-
--- definitions: each id below the next id, each node one of the nodes
-unfoldable pub definitionsFit : List ℕ → ℕ → ℕ → ℕ → ℕ → Bool
-definitionsFit b at n limit count = every n (λ k. ltb (wordAt b (at + 2 * k)) limit && ltb (wordAt b (at + 2 * k + 1)) count)
-
--- a node: kind, a, b, c. "nodes of kinds 4, 5, 7, 8, where 8 holds an id"; "its nodes follow their children"; unused words are 0; operators 0 to 8
-unfoldable pub nodeFits : ℕ → ℕ → ℕ → ℕ → ℕ → ℕ → Bool
-nodeFits limit k kind x y z =
-    pick (eqb kind 4) (ltb x k && (ltb y k && leb z 8))
-    (pick (eqb kind 5) (ltb x k && (eqb y 0 && eqb z 0))
-    (pick (eqb kind 7) (eqb y 0 && eqb z 0)
-    (pick (eqb kind 8) (ltb x limit && (eqb y 0 && eqb z 0))
-    false)))
-
+-- what a function makes of the four words of node k of the nodes that start at word `at`: kind, a, b, c
 unfoldable pub nodeAt : {A : Type 0} → List ℕ → ℕ → ℕ → (ℕ → ℕ → ℕ → ℕ → A) → A
 nodeAt b at k f = f (wordAt b (at + 4 * k)) (wordAt b (at + 4 * k + 1)) (wordAt b (at + 4 * k + 2)) (wordAt b (at + 4 * k + 3))
 
-unfoldable pub nodesFit : List ℕ → ℕ → ℕ → ℕ → Bool
-nodesFit b at n limit = every n (λ k. nodeAt b at k (nodeFits limit k))
-
--- how often a node uses node k, and how often the record does: "each used exactly once"
-unfoldable pub same : ℕ → ℕ → ℕ
-same x k = pick (eqb x k) 1 0
-
-unfoldable pub usedBy : ℕ → ℕ → ℕ → ℕ → ℕ → ℕ
-usedBy k kind x y z = pick (eqb kind 4) (same x k + same y k) (pick (eqb kind 5) (same x k) 0)
-
--- a mark says 0, 1, or 2 for more; marks hold what a count of uses says, and after more uses what both say
-unfoldable pub capped : ℕ → ℕ
-capped zero = 0
-capped (suc zero) = 1
-capped (suc (suc n)) = 2
-
-unfoldable pub bump : ℕ → ℕ
-bump zero = 1
-bump (suc n) = 2
-
-abbrev pub Marked : List ℕ → (ℕ → ℕ) → Type 0
-Marked m f = (k : ℕ) → k < length m → getD m k 0 ≡ capped (f k)
-
-pub record Adds (m m′ : List ℕ) (g : ℕ → ℕ) : Type 0 where
-  pub long : length m′ ≡ length m
-  pub adds : (f : ℕ → ℕ) → Marked m f → Marked m′ (λ k. f k + g k)
-
-unfoldable pub byNodes : List ℕ → ℕ → ℕ → ℕ → ℕ
-byNodes b at n k = total n (λ j. nodeAt b at j (usedBy k))
-
-unfoldable pub byDefinitions : List ℕ → ℕ → ℕ → ℕ → ℕ
-byDefinitions b at n k = total n (λ j. same (wordAt b (at + 2 * j + 1)) k)
-
-unfoldable pub byEquations : List ℕ → ℕ → ℕ → ℕ → ℕ
-byEquations b at n k = total n (λ j. same (wordAt b (at + j)) k)
-
--- by the definitions, the equations' sides and the nodes (each list by its place and count)
-unfoldable pub usedOnce : List ℕ → ℕ → ℕ → ℕ → ℕ → ℕ → ℕ → Bool
-usedOnce b definitionsAt definitions sidesAt sides nodesAt nodes = every nodes (λ k. eqb (byDefinitions b definitionsAt definitions k + byEquations b sidesAt sides k + byNodes b nodesAt nodes k) 1)
-
--- the tree of node k, one of the first n nodes, by falling index
+-- "Operators 0 to 8 in the order of `InfixOp`"
 unfoldable pub operatorOf : ℕ → InfixOp
 operatorOf c =
     pick (eqb c 0) Divide
@@ -156,18 +118,30 @@ operatorOf c =
     (pick (eqb c 6) Exponentiate
     (pick (eqb c 7) IntDivide Modulo)))))))
 
-unfoldable pub grown : (ℕ → Flat) → ℕ → ℕ → ℕ → ℕ → Flat
-grown below kind x y z =
-    pick (eqb kind 4) (Flat.infixed (operatorOf z) (below x) (below y))
-    (pick (eqb kind 5) (Flat.negate (below x))
-    (pick (eqb kind 7) (Flat.constant (toZ w32 x))
-    (Flat.variable x)))
+-- "4 infix(a, b, operator c), 5 negate(a), 7 constant a, 8 variable"; constants are signed. What is no node of a flat record reads as a variable
+unfoldable pub nodeFor : ℕ → ℕ → ℕ → ℕ → Node
+nodeFor kind x y z =
+    pick (eqb kind 4) (Infix (operatorOf z) x y)
+    (pick (eqb kind 5) (Negate x)
+    (pick (eqb kind 7) (Constant (toZ w32 x))
+    (Variable x)))
+
+unfoldable pub nodeOf : List ℕ → ℕ → ℕ → Node
+nodeOf b at k = nodeAt b at k nodeFor
+
+-- the tree of node k of the first n nodes, where `below` gives the trees of its children
+unfoldable pub grown : (ℕ → Flat) → Node → Flat
+grown below (Infix o x y) = Flat.infixed o (below x) (below y)
+grown below (Negate x) = Flat.negate (below x)
+grown below (Constant c) = Flat.constant c
+grown below (Variable v) = Flat.variable v
 
 unfoldable pub tree : List ℕ → ℕ → ℕ → ℕ → Flat
 tree b at zero k = Flat.variable 0
-tree b at (suc n) k = pick (eqb k n) (nodeAt b at n (grown (tree b at n))) (tree b at n k)
+tree b at (suc n) k = elim (eqb k n) [ true ↦ grown (tree b at n) (nodeOf b at n) | false ↦ tree b at n k ]
 
--- the module
+-- ---- the module
+
 unfoldable pub definitionAt : List ℕ → ℕ → ℕ → ℕ → ℕ → Definition
 definitionAt b at treesAt count j = record { id = wordAt b (at + 2 * j); right = tree b treesAt count (wordAt b (at + 2 * j + 1)) }
 
@@ -183,24 +157,65 @@ moduleOf b = record {
   equations = rows (equations b) 0 (equationAt b (equationsAt b) (nodesAt b) (nodes b));
 }
 
+-- ---- the rules
+
+-- n ids (or node indices) from word `at` on lie below a limit
+unfoldable pub allBelow : List ℕ → ℕ → ℕ → ℕ → Bool
+allBelow b at n limit = every n (λ k. ltb (wordAt b (at + k)) limit)
+
+-- "its prover ids rise": n words from `at` on, each below the next
+unfoldable pub rising : List ℕ → ℕ → ℕ → Bool
+rising b at n = every (n - 1) (λ k. ltb (wordAt b (at + k)) (wordAt b (at + k + 1)))
+
+-- definitions: each id below the next id, each node one of the nodes
+unfoldable pub definitionsFit : List ℕ → ℕ → ℕ → ℕ → ℕ → Bool
+definitionsFit b at n limit count = every n (λ k. ltb (wordAt b (at + 2 * k)) limit && ltb (wordAt b (at + 2 * k + 1)) count)
+
+-- a node: "its nodes follow their children", "its ids lie below its next id", "unused words are 0", operators 0 to 8
+unfoldable pub nodeFits : ℕ → ℕ → ℕ → ℕ → ℕ → ℕ → Bool
+nodeFits limit k kind x y z =
+    pick (eqb kind 4) (ltb x k && (ltb y k && leb z 8))
+    (pick (eqb kind 5) (ltb x k && (eqb y 0 && eqb z 0))
+    (pick (eqb kind 7) (eqb y 0 && eqb z 0)
+    (pick (eqb kind 8) (ltb x limit && (eqb y 0 && eqb z 0))
+    false)))
+
+unfoldable pub nodesFit : List ℕ → ℕ → ℕ → ℕ → Bool
+nodesFit b at n limit = every n (λ k. nodeAt b at k (nodeFits limit k))
+
+-- how often node k is used: by one index, by a node's children, by all nodes, by the definitions, by the equations' sides
+unfoldable pub same : ℕ → ℕ → ℕ
+same x k = pick (eqb x k) 1 0
+
+unfoldable pub usedBy : ℕ → ℕ → ℕ → ℕ → ℕ → ℕ
+usedBy k kind x y z = pick (eqb kind 4) (same x k + same y k) (pick (eqb kind 5) (same x k) 0)
+
+unfoldable pub byNodes : List ℕ → ℕ → ℕ → ℕ → ℕ
+byNodes b at n k = total n (λ j. nodeAt b at j (usedBy k))
+
+unfoldable pub byDefinitions : List ℕ → ℕ → ℕ → ℕ → ℕ
+byDefinitions b at n k = total n (λ j. same (wordAt b (at + 2 * j + 1)) k)
+
+unfoldable pub byEquations : List ℕ → ℕ → ℕ → ℕ → ℕ
+byEquations b at n k = total n (λ j. same (wordAt b (at + j)) k)
+
+-- "each used exactly once": by the definitions, the equations' sides and the nodes together (each list by its place and count)
+unfoldable pub usedOnce : List ℕ → ℕ → ℕ → ℕ → ℕ → ℕ → ℕ → Bool
+usedOnce b definitionsAt definitions sidesAt sides nodesAt nodes =
+    every nodes (λ k. eqb (byDefinitions b definitionsAt definitions k + byEquations b sidesAt sides k + byNodes b nodesAt nodes k) 1)
+
+-- the rules of definitions, equations and nodes but for the order
+unfoldable pub treesHold : List ℕ → ℕ → ℕ → ℕ → ℕ → ℕ → ℕ → ℕ → Bool
+treesHold b next definitionsAt definitions sidesAt sides nodesAt nodes =
+    definitionsFit b definitionsAt definitions next nodes
+    && (allBelow b sidesAt sides nodes
+    && (nodesFit b nodesAt nodes next
+    && usedOnce b definitionsAt definitions sidesAt sides nodesAt nodes))
+
 -- "defines each id at most once, and no right side uses an id defined there or later"
-unfoldable pub defines : List Definition → ℕ → Bool
-defines [] v = false
-defines (d ∷ ds) v = eqb v (d .id) || defines ds v
-
-unfoldable pub everyId : (ℕ → Bool) → Flat → Bool
-everyId p (Flat.infixed o x y) = everyId p x && everyId p y
-everyId p (Flat.negate x) = everyId p x
-everyId p (Flat.constant c) = true
-everyId p (Flat.variable v) = p v
-
 unfoldable pub ordered : List Definition → Bool
 ordered [] = true
 ordered (d ∷ ds) = not (defines ds (d .id)) && (everyId (λ v. not (defines (d ∷ ds) v)) (d .right) && ordered ds)
-
--- marks that say which ids are defined in a list of definitions
-abbrev pub Later : List ℕ → List Definition → Type 0
-Later m ds = (v : ℕ) → eqb (getD m v 0) 0 ≡ not (defines ds v)
 
 -- not 21: the rules of a record with these numbers in its header
 unfoldable pub rulesOf : List ℕ → ℕ → ℕ → ℕ → ℕ → ℕ → ℕ → Bool
@@ -213,30 +228,23 @@ rulesOf b next publics provers definitions equations nodes =
     && (allBelow b 6 publics next
     && (allBelow b proversAt provers next
     && (rising b proversAt provers
-    && (definitionsFit b definitionsAt definitions next nodes
-    && (allBelow b equationsAt (2 * equations) nodes
-    && (nodesFit b nodesAt nodes next
-    && (usedOnce b definitionsAt definitions equationsAt (2 * equations) nodesAt nodes
-    && ordered (rows definitions 0 (definitionAt b definitionsAt nodesAt nodes)))))))))
+    && (treesHold b next definitionsAt definitions equationsAt (2 * equations) nodesAt nodes
+    && ordered (rows definitions 0 (definitionAt b definitionsAt nodesAt nodes))))))
 
 unfoldable pub rules : List ℕ → Bool
 rules b = rulesOf b (next b) (publics b) (provers b) (definitions b) (equations b) (nodes b)
 
--- the working arrays at the start
-unfoldable pub noMarks : List ℕ
-noMarks = replicate 16384 0
-
-unfoldable pub noLater : List ℕ
-noLater = replicate 65536 0
+-- ---- the answer
 
 pub data Read : Type 0 where
   module-of : FlatModule → Read
   refused : ℕ → Read
 
+-- "20 length or count; 21 node, id or order rule"
 unfoldable pub flatOf : List ℕ → Read
 flatOf b = pick (measured b) (pick (rules b) (Read.module-of (moduleOf b)) (Read.refused 21)) (Read.refused 20)
 
--- the answer's enum for it
+-- the code's answer for it
 unfoldable pub checked : Read → Checked
 checked (Read.module-of f) = Accepted
 checked (Read.refused n) = Refused n

@@ -1,11 +1,11 @@
--- The rules of a lent record on trees.
+-- What holds of the module of a lent flat record, said of its trees. That each accepted record has it: `accepted-well-formed` in proofs/Wellformed.antt.
 use mathlib.Core.Path.{_≡_}
 use mathlib.Core.List.{List, [], _∷_}
 use mathlib.Core.Bool.{Bool, true, false}
 use Prim.Native.Nat.{ℕ, _<_}
-use Rattle.flat.specs.Trees.{Flat, Definition, Equation, FlatModule}
-use Rattle.flat.specs.Record.{defines}
+use Rattle.flat.specs.Trees.{Flat, Definition, Equation, FlatModule, defines}
 
+-- of every element of a list, of every variable of a tree
 abbrev pub All : {A : Type 0} → (A → Type 0) → List A → Type 0
 All Q [] = Unit {0}
 All Q (a ∷ rest) = Q a × All Q rest
@@ -16,6 +16,7 @@ Every Q (Flat.negate a) = Every Q a
 Every Q (Flat.constant c) = Unit {0}
 Every Q (Flat.variable v) = Q v
 
+-- "defines each id at most once, and no right side uses an id defined there or later"
 abbrev pub Ordered : List Definition → Type 0
 Ordered [] = Unit {0}
 Ordered (d ∷ ds) = (defines ds (d .id) ≡ false) × Every (λ v. defines (d ∷ ds) v ≡ false) (d .right) × Ordered ds

@@ -1,21 +1,8 @@
+-- `flat::measures` meets its contract. Assumes nothing.
 use borrow.Author.Needs.{needs}
 use Rattle.flat.proofs.measures.Statement.{statement}
 use Rattle.flat.proofs.measures.Tie as tie
-use Rattle.flat.proofs.measures.Reads as reads
-use Rattle.flat.proofs.measures.Lts as lts
-use Rattle.flat.proofs.count.Reads as count-reads
-use borrow.Author.Needs.{needs}
 use native.Mathlib.Omega.{arith}
-use Prim.Native.Nat.{ℕ, _-_, _+_, _*_, _≤_, _<_}
-use mathlib.Core.Path.{_≡_, refl, _∙_, ap, sym}
-use mathlib.Core.Bool.{Bool, true, false}
-use mathlib.Core.List.{List}
-use lib.ListN.{length}
-use lib.Dec.{ltb}
-use borrow.Author.Tests.{lt-ltb, le-ltb}
-use Rattle.words.specs.Words.{wordAt}
-use Rattle.flat.specs.Record.{every, allBelow, rising}
-use Rattle.flat.proofs.Laws.{every-fails, every-more, every-all}
 use Rattle.flat.proofs.Ways.{measured-1, measured-2, measured-3, measured-4, measured-5, measured-6, measured-7}
 
 returns : tie.Need-returns

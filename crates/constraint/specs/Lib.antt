@@ -1,0 +1,4 @@
+pub mod Trees
+pub mod Meaning
+pub mod Record
+pub mod Cases

@@ -1,0 +1,105 @@
+-- The constraint record: its words, and its bytes. For a reader with document 01, "Constraint record", beside it.
+use mathlib.Core.List.{List, [], _∷_, _++_}
+use Prim.Native.Nat.{ℕ, suc, _+_}
+use lib.IntN.{ℤ}
+use lib.ListN.{length}
+use mir.Val.{ofZ}
+use mir.Syntax.{w32}
+use Rattle.words.specs.Words.{bytesOf}
+use Rattle.field.specs.declared.InfixOp.{InfixOp}
+use Rattle.flat.specs.Trees.{Flat, Definition}
+use Rattle.constraint.specs.declared.Operation.{Operation}
+use Rattle.constraint.specs.declared.Equality.{Equality as Written}
+use Rattle.constraint.specs.declared.Term.{Term}
+use Rattle.constraint.specs.Trees.{Equality, ConstraintModule, written}
+
+-- a number's 32 bits
+unfoldable pub numberWord : ℤ → ℕ
+numberWord c = ofZ w32 c
+
+-- "a term is [...] 0 and an id, or 1 and a number"
+unfoldable pub termWords : Term → List ℕ
+termWords (Term.Variable v) = 0 ∷ v ∷ []
+termWords (Term.Constant c) = 1 ∷ numberWord c ∷ []
+
+-- "operators 0 to 8 in the order of `InfixOp`"
+unfoldable pub operatorWord : InfixOp → ℕ
+operatorWord InfixOp.Divide = 0
+operatorWord InfixOp.DivideZ = 1
+operatorWord InfixOp.Multiply = 2
+operatorWord InfixOp.Add = 3
+operatorWord InfixOp.Subtract = 4
+operatorWord InfixOp.Equal = 5
+operatorWord InfixOp.Exponentiate = 6
+operatorWord InfixOp.IntDivide = 7
+operatorWord InfixOp.Modulo = 8
+
+-- "operation (0 to 8, 9 negate, 10 copy)"
+unfoldable pub operationWord : Operation → ℕ
+operationWord (Operation.Infix o) = operatorWord o
+operationWord Operation.Negate = 9
+operationWord Operation.Copy = 10
+
+-- "an equality is seven words: left term, operation, two terms"
+unfoldable pub writtenWords : Written → List ℕ
+writtenWords q = termWords (q .left) ++ (operationWord (q .operation) ∷ (termWords (q .first) ++ termWords (q .second)))
+
+unfoldable pub equalityWords : Equality → List ℕ
+equalityWords q = writtenWords (written q)
+
+unfoldable pub equalitiesWords : List Equality → List ℕ
+equalitiesWords [] = []
+equalitiesWords (q ∷ qs) = equalityWords q ++ equalitiesWords qs
+
+-- "nodes stand children first, left to right": the nodes below a tree's root come before it
+unfoldable pub nodesBelow : Flat → ℕ
+nodesBelow (Flat.infixed o a b) = suc (nodesBelow a) + suc (nodesBelow b)
+nodesBelow (Flat.negate a) = suc (nodesBelow a)
+nodesBelow (Flat.constant c) = 0
+nodesBelow (Flat.variable v) = 0
+
+-- the index of a tree's root, and of the node after it, where its first node has the index `base`
+unfoldable pub rootFrom : ℕ → Flat → ℕ
+rootFrom base e = base + nodesBelow e
+
+unfoldable pub nextFrom : ℕ → Flat → ℕ
+nextFrom base e = suc (rootFrom base e)
+
+-- "nodes of four words (kind, a, b, c)": 4 infix(a, b, operator c), 5 negate(a), 7 constant a, 8 variable a; "unused words are 0"
+unfoldable pub nodeWords : ℕ → ℕ → ℕ → ℕ → List ℕ
+nodeWords kind a b c = kind ∷ a ∷ b ∷ c ∷ []
+
+unfoldable pub nodesFrom : ℕ → Flat → List ℕ
+nodesFrom base (Flat.infixed o a b) = nodesFrom base a ++ (nodesFrom (nextFrom base a) b ++ nodeWords 4 (rootFrom base a) (rootFrom (nextFrom base a) b) (operatorWord o))
+nodesFrom base (Flat.negate a) = nodesFrom base a ++ nodeWords 5 (rootFrom base a) 0 0
+nodesFrom base (Flat.constant c) = nodeWords 7 (numberWord c) 0 0
+nodesFrom base (Flat.variable v) = nodeWords 8 v 0 0
+
+-- kept definitions (id, node), "in definition order", and their nodes
+unfoldable pub definitionWords : ℕ → ℕ → List ℕ
+definitionWords id node = id ∷ node ∷ []
+
+unfoldable pub keptWords : ℕ → List Definition → List ℕ
+keptWords base [] = []
+keptWords base (d ∷ ds) = definitionWords (d .id) (rootFrom base (d .right)) ++ keptWords (nextFrom base (d .right)) ds
+
+unfoldable pub keptNodes : ℕ → List Definition → List ℕ
+keptNodes base [] = []
+keptNodes base (d ∷ ds) = nodesFrom base (d .right) ++ keptNodes (nextFrom base (d .right)) ds
+
+unfoldable pub nodeCount : List Definition → ℕ
+nodeCount [] = 0
+nodeCount (d ∷ ds) = suc (nodesBelow (d .right)) + nodeCount ds
+
+-- "words: next id, counts of publics, prover ids, equalities, kept definitions, nodes; then the lists"
+unfoldable pub headerWords : ℕ → ℕ → ℕ → ℕ → ℕ → ℕ → List ℕ
+headerWords next publics provers equalities kept nodes = next ∷ publics ∷ provers ∷ equalities ∷ kept ∷ nodes ∷ []
+
+unfoldable pub constraintWords : ConstraintModule → List ℕ
+constraintWords m =
+    headerWords (m .next) (length (m .publics)) (length (m .provers)) (length (m .equalities)) (length (m .kept)) (nodeCount (m .kept))
+    ++ (m .publics ++ (m .provers ++ (equalitiesWords (m .equalities) ++ (keptWords 0 (m .kept) ++ keptNodes 0 (m .kept)))))
+
+-- "little-endian 32-bit words"
+unfoldable pub constraintBytes : ConstraintModule → List ℕ
+constraintBytes m = bytesOf (constraintWords m)

@@ -1,0 +1,131 @@
+// The constraint record: its parts, and how each is written. Places are counted in words.
+use field::InfixOp;
+use words::put_word;
+use words::unsigned;
+ghost use mathlib.Core.Path.{_≡_};
+ghost use Prim.Native.Nat.{_+_, _*_, _≤_};
+ghost use lib.ListN.{length};
+ghost use Rattle.words.specs.Words.{setWords};
+ghost use Rattle.constraint.specs.Record.{termWords, operatorWord, operationWord, writtenWords, nodeWords, definitionWords, headerWords};
+
+// "A term is either a variable or a constant."
+pub enum Term {
+    Variable(u32),
+    Constant(i32),
+}
+
+// The operation of a right side: one of the nine on two terms, or negate or copy on one.
+pub enum Operation {
+    Infix(InfixOp),
+    Negate,
+    Copy,
+}
+
+// left = first OP second. Negate and copy have no second term: there it is Variable(0).
+pub struct Equality {
+    pub left: Term,
+    pub operation: Operation,
+    pub first: Term,
+    pub second: Term,
+}
+
+// The operator's number, 0 to 8.
+pub fn operator_number(op: InfixOp) -> u32
+    ensures { λ r. ⌜ r ≡ operatorWord op ⌝ }
+{
+    match op {
+        InfixOp::Divide => 0,
+        InfixOp::DivideZ => 1,
+        InfixOp::Multiply => 2,
+        InfixOp::Add => 3,
+        InfixOp::Subtract => 4,
+        InfixOp::Equal => 5,
+        InfixOp::Exponentiate => 6,
+        InfixOp::IntDivide => 7,
+        InfixOp::Modulo => 8,
+    }
+}
+
+// The operation's number, 0 to 10.
+fn operation_number(operation: Operation) -> u32
+    ensures { λ r. ⌜ r ≡ operationWord operation ⌝ }
+{
+    match operation {
+        Operation::Infix(op) => operator_number(op),
+        Operation::Negate => 9,
+        Operation::Copy => 10,
+    }
+}
+
+// The two words of a term.
+fn put_term(out: &mut [u8], at: usize, term: Term)
+    requires { ⌜ 4 * at + 8 ≤ length (now out) ⌝ }
+    ensures { λ _. ⌜ now (out .exit) ≡ setWords (now (out .entry)) at (termWords term) ⌝ }
+{
+    match term {
+        Term::Variable(id) => {
+            put_word(out, at, 0);
+            put_word(out, at + 1, id);
+        }
+        Term::Constant(number) => {
+            put_word(out, at, 1);
+            put_word(out, at + 1, unsigned(number));
+        }
+    }
+}
+
+// The seven words of an equality.
+pub fn put_equality(out: &mut [u8], at: usize, equality: Equality)
+    requires { ⌜ 4 * at + 28 ≤ length (now out) ⌝ }
+    ensures { λ _. ⌜ now (out .exit) ≡ setWords (now (out .entry)) at (writtenWords equality) ⌝ }
+{
+    let left = equality.left;
+    let operation = equality.operation;
+    let first = equality.first;
+    let second = equality.second;
+    put_term(out, at, left);
+    put_word(out, at + 2, operation_number(operation));
+    put_term(out, at + 3, first);
+    put_term(out, at + 5, second);
+}
+
+// The two words of a kept definition: its id and its root.
+pub fn put_definition(out: &mut [u8], at: usize, id: u32, node: u32)
+    requires { ⌜ 4 * at + 8 ≤ length (now out) ⌝ }
+    ensures { λ _. ⌜ now (out .exit) ≡ setWords (now (out .entry)) at (definitionWords id node) ⌝ }
+{
+    put_word(out, at, id);
+    put_word(out, at + 1, node);
+}
+
+// The four words of a node.
+pub fn put_node(out: &mut [u8], at: usize, kind: u32, a: u32, b: u32, c: u32)
+    requires { ⌜ 4 * at + 16 ≤ length (now out) ⌝ }
+    ensures { λ _. ⌜ now (out .exit) ≡ setWords (now (out .entry)) at (nodeWords kind a b c) ⌝ }
+{
+    put_word(out, at, kind);
+    put_word(out, at + 1, a);
+    put_word(out, at + 2, b);
+    put_word(out, at + 3, c);
+}
+
+// The six words of the header.
+pub fn put_header(
+    out: &mut [u8],
+    next: u32,
+    publics: u32,
+    provers: u32,
+    equalities: u32,
+    kept: u32,
+    nodes: u32,
+)
+    requires { ⌜ 24 ≤ length (now out) ⌝ }
+    ensures { λ _. ⌜ now (out .exit) ≡ setWords (now (out .entry)) 0 (headerWords next publics provers equalities kept nodes) ⌝ }
+{
+    put_word(out, 0, next);
+    put_word(out, 1, publics);
+    put_word(out, 2, provers);
+    put_word(out, 3, equalities);
+    put_word(out, 4, kept);
+    put_word(out, 5, nodes);
+}

@@ -1,0 +1,179 @@
+-- `flat::ordering::free` meets its contract. Assumes nothing.
+use Prim.Native.Nat.{ℕ, _<_}
+use borrow.Fn.Kinds.{In}
+use borrow.Fn.PlainCycle.{Measures, is, falls, and}
+use Rattle.flat.proofs.ordering.free.Reads as free
+use Rattle.flat.proofs.ordering.free.Kinds as free-kinds
+use Rattle.flat.proofs.ordering.+free.Lts-free as free-lts
+use Rattle.flat.proofs.node_at.Reads as node-at-reads
+use Rattle.flat.proofs.ordering.+free.{statement}
+use Rattle.flat.proofs.ordering.+free.Tie.{close}
+use borrow.Author.Needs.{needs}
+use native.Mathlib.Omega.{arith}
+use mathlib.Core.Path.{_∙_, sym}
+use borrow.Author.Tests.{not-true, not-false}
+use Rattle.flat.proofs.Nodes.{infix-below, negate-below, variable-below}
+use Rattle.flat.proofs.Order.{walk-infix, walk-infix-no, walk-negate, walk-constant, walk-variable}
+
+abbrev μ-free : Measures 2 free-kinds.ps ℕ
+μ-free κs a = a .1 .1 .0
+
+abbrev free-at : ℕ → In 2 free-kinds.ps
+free-at t = and 2 free-kinds.ps (is 2 free-kinds.ps μ-free t) free.Pre
+
+abbrev free-below : ℕ → In 2 free-kinds.ps
+free-below t = and 2 free-kinds.ps (falls 2 free-kinds.ps _<_ μ-free t) free.Pre
+
+free-node-at-requires : (t : ℕ) → free-lts.Need-node-at-requires (
+  node-at-reads.Asked,
+  node-at-reads.Learnt,
+  free-below t,
+  free.Post,
+) (free-at t) free.Post
+free-node-at-requires t c κs = search needs
+
+free-enum-known-x : (t : ℕ) → free-lts.Need-enum-known-x (
+  node-at-reads.Asked,
+  node-at-reads.Learnt,
+  free-below t,
+  free.Post,
+) (free-at t) free.Post
+free-enum-known-x t c = c .match .keys1
+
+free-free-requires : (t : ℕ) → free-lts.Need-free-requires (
+  node-at-reads.Asked,
+  node-at-reads.Learnt,
+  free-below t,
+  free.Post,
+) (free-at t) free.Post
+free-free-requires t c κs = let w = (infix-below _ _ _ _ (c .before .before .before .before .before .pre .1 .0 .1) _ (c .before .before .before .before .before .pre .1 .0 .0) (sym (c .before .before .before .node-at .ensures) ∙ c .before .x .given .1)) .0 in (omega (arith, c .before .before .before .before .before .pre .0, w), ((omega (arith, w, c .before .before .before .before .before .pre .1 .0 .0), c .before .before .before .before .before .pre .1 .0 .1), c .before .before .before .before .before .pre .1 .1))
+
+free-returns : (t : ℕ) → free-lts.Need-returns (
+  node-at-reads.Asked,
+  node-at-reads.Learnt,
+  free-below t,
+  free.Post,
+) (free-at t) free.Post
+free-returns t c = walk-infix-no _ _ _ _ (sym (c .before .before .before .before .before .node-at .ensures) ∙ c .before .before .before .x .given .1) (infix-below _ _ _ _ (c .before .before .before .before .before .before .before .pre .1 .0 .1) _ (c .before .before .before .before .before .before .before .pre .1 .0 .0) (sym (c .before .before .before .before .before .node-at .ensures) ∙ c .before .before .before .x .given .1)) (c .before .free .ensures) (not-true _ (c .if1 .taken))
+
+free-free-requires-2 : (t : ℕ) → free-lts.Need-free-requires-2 (
+  node-at-reads.Asked,
+  node-at-reads.Learnt,
+  free-below t,
+  free.Post,
+) (free-at t) free.Post
+free-free-requires-2 t c κs = let w = (infix-below _ _ _ _ (c .before .before .before .before .before .before .before .pre .1 .0 .1) _ (c .before .before .before .before .before .before .before .pre .1 .0 .0) (sym (c .before .before .before .before .before .node-at .ensures) ∙ c .before .before .before .x .given .1)) .1 in (omega (arith, c .before .before .before .before .before .before .before .pre .0, w), ((omega (arith, w, c .before .before .before .before .before .before .before .pre .1 .0 .0), c .before .before .before .before .before .before .before .pre .1 .0 .1), c .before .before .before .before .before .before .before .pre .1 .1))
+
+free-enum-known-x-2 : (t : ℕ) → free-lts.Need-enum-known-x-2 (
+  node-at-reads.Asked,
+  node-at-reads.Learnt,
+  free-below t,
+  free.Post,
+) (free-at t) free.Post
+free-enum-known-x-2 t c = c .match .keys2
+
+free-free-requires-3 : (t : ℕ) → free-lts.Need-free-requires-3 (
+  node-at-reads.Asked,
+  node-at-reads.Learnt,
+  free-below t,
+  free.Post,
+) (free-at t) free.Post
+free-free-requires-3 t c κs = let w = (negate-below _ _ _ _ (c .before .before .before .before .before .pre .1 .0 .1) _ (c .before .before .before .before .before .pre .1 .0 .0) (sym (c .before .before .before .node-at .ensures) ∙ c .before .x2 .given .1)) in (omega (arith, c .before .before .before .before .before .pre .0, w), ((omega (arith, w, c .before .before .before .before .before .pre .1 .0 .0), c .before .before .before .before .before .pre .1 .0 .1), c .before .before .before .before .before .pre .1 .1))
+
+free-enum-told : (t : ℕ) → free-lts.Need-enum-told (
+  node-at-reads.Asked,
+  node-at-reads.Learnt,
+  free-below t,
+  free.Post,
+) (free-at t) free.Post
+free-enum-told t c = c .match .keys3
+
+free-enum-known-v : (t : ℕ) → free-lts.Need-enum-known-v (
+  node-at-reads.Asked,
+  node-at-reads.Learnt,
+  free-below t,
+  free.Post,
+) (free-at t) free.Post
+free-enum-known-v t c = c .match .keys4
+
+free-cast-id : (t : ℕ) → free-lts.Need-cast-id (
+  node-at-reads.Asked,
+  node-at-reads.Learnt,
+  free-below t,
+  free.Post,
+) (free-at t) free.Post
+free-cast-id t c = search needs
+
+free-mul-result : (t : ℕ) → free-lts.Need-mul-result (
+  node-at-reads.Asked,
+  node-at-reads.Learnt,
+  free-below t,
+  free.Post,
+) (free-at t) free.Post
+free-mul-result t c = search needs
+
+free-element-copy-out-result : (t : ℕ) → free-lts.Need-element-copy-out-result (
+  node-at-reads.Asked,
+  node-at-reads.Learnt,
+  free-below t,
+  free.Post,
+) (free-at t) free.Post
+free-element-copy-out-result t c = omega (arith, (variable-below _ _ _ _ (c .before .before .before .before .before .pre .1 .0 .1) _ (c .before .before .before .before .before .pre .1 .0 .0) (sym (c .before .before .before .node-at .ensures) ∙ c .before .v .given .1)))
+
+free-returns-2 : (t : ℕ) → free-lts.Need-returns-2 (
+  node-at-reads.Asked,
+  node-at-reads.Learnt,
+  free-below t,
+  free.Post,
+) (free-at t) free.Post
+free-returns-2 t c = walk-infix _ _ _ _ (sym (c .before .before .before .before .before .before .node-at .ensures) ∙ c .before .before .before .before .x .given .1) (infix-below _ _ _ _ (c .before .before .before .before .before .before .before .before .pre .1 .0 .1) _ (c .before .before .before .before .before .before .before .before .pre .1 .0 .0) (sym (c .before .before .before .before .before .before .node-at .ensures) ∙ c .before .before .before .before .x .given .1)) (c .before .before .free .ensures) (not-false _ (c .before .if1 .left)) (c .free2 .ensures)
+
+free-returns-3 : (t : ℕ) → free-lts.Need-returns-3 (
+  node-at-reads.Asked,
+  node-at-reads.Learnt,
+  free-below t,
+  free.Post,
+) (free-at t) free.Post
+free-returns-3 t c = walk-negate _ _ _ _ (sym (c .before .before .before .before .node-at .ensures) ∙ c .before .before .x2 .given .1) (negate-below _ _ _ _ (c .before .before .before .before .before .before .pre .1 .0 .1) _ (c .before .before .before .before .before .before .pre .1 .0 .0) (sym (c .before .before .before .before .node-at .ensures) ∙ c .before .before .x2 .given .1)) (c .free3 .ensures)
+
+free-returns-4 : (t : ℕ) → free-lts.Need-returns-4 (
+  node-at-reads.Asked,
+  node-at-reads.Learnt,
+  free-below t,
+  free.Post,
+) (free-at t) free.Post
+free-returns-4 t c = walk-constant _ _ _ _ (sym (c .before .before .node-at .ensures) ∙ c .enum-told .given .1)
+
+free-returns-5 : (t : ℕ) → free-lts.Need-returns-5 (
+  node-at-reads.Asked,
+  node-at-reads.Learnt,
+  free-below t,
+  free.Post,
+) (free-at t) free.Post
+free-returns-5 t c = walk-variable _ _ _ _ (sym (c .before .before .before .before .node-at .ensures) ∙ c .before .before .v .given .1)
+
+pub +free-spec : {M : Type 1} → statement M
++free-spec = close μ-free λ t. free-lts.spec (
+  node-at-reads.Asked,
+  node-at-reads.Learnt,
+  free-below t,
+  free.Post,
+)
+    (free-at t)
+    free.Post
+    (free-node-at-requires t)
+    (free-enum-known-x t)
+    (free-free-requires t)
+    (free-returns t)
+    (free-free-requires-2 t)
+    (free-enum-known-x-2 t)
+    (free-free-requires-3 t)
+    (free-enum-told t)
+    (free-enum-known-v t)
+    (free-cast-id t)
+    (free-mul-result t)
+    (free-element-copy-out-result t)
+    (free-returns-2 t)
+    (free-returns-3 t)
+    (free-returns-4 t)
+    (free-returns-5 t)

@@ -1,0 +1,12 @@
+-- `flat::uses::no_marks` meets its contract. Assumes nothing.
+use Rattle.flat.proofs.uses.no_marks.Statement.{statement}
+use Rattle.flat.proofs.uses.no_marks.Tie as tie
+use mathlib.Core.Path.{refl}
+use Rattle.flat.specs.Marks.{noMarks}
+
+returns : tie.Need-returns
+unfolding noMarks
+returns c = refl
+
+pub no-marks-spec : {M : Type 1} → statement M
+no-marks-spec = tie.close (tie.spec returns)

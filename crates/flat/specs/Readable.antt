@@ -1,0 +1,29 @@
+-- What a walk over a flat record relies on: of a lent one that was accepted, and of one that evaluation wrote, which may define an id twice.
+-- That an accepted record is readable: `accepted-readable` in proofs/Reading.antt.
+use mathlib.Core.Path.{_≡_}
+use mathlib.Core.List.{List}
+use mathlib.Core.Bool.{true}
+use Prim.Native.Nat.{ℕ, _*_, _≤_, _<_}
+use lib.ListN.{length}
+use Rattle.flat.specs.Record.{next, publics, provers, definitions, equations, nodes, proversAt, definitionsAt, equationsAt, nodesAt, size, allBelow, rising, definitionsFit, nodesFit}
+
+pub record Readable (b : List ℕ) : Type 0 where
+  pub long : length b ≡ 4 * size b
+  pub publics-few : publics b ≤ 64
+  pub provers-few : provers b ≤ 4096
+  pub definitions-few : definitions b ≤ 4096
+  pub equations-few : equations b ≤ 4096
+  pub nodes-few : nodes b ≤ 16384
+  pub next-small : next b ≤ 65536
+  pub publics-below : allBelow b 6 (publics b) (next b) ≡ true
+  pub provers-below : allBelow b (proversAt b) (provers b) (next b) ≡ true
+  pub provers-rise : rising b (proversAt b) (provers b) ≡ true
+  pub definitions-fit : definitionsFit b (definitionsAt b) (definitions b) (next b) (nodes b) ≡ true
+  pub sides-below : allBelow b (equationsAt b) (2 * equations b) (nodes b) ≡ true
+  pub nodes-fit : nodesFit b (nodesAt b) (nodes b) (next b) ≡ true
+
+-- node k of a readable record, whose nodes start at word `at`
+pub record Inside (b : List ℕ) (at k : ℕ) : Type 0 where
+  pub readable : Readable b
+  pub place : at ≡ nodesAt b
+  pub below : k < nodes b

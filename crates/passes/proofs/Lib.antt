@@ -1,0 +1,13 @@
+pub mod Lists
+pub mod Simplified
+pub mod Copied
+pub mod Cutting
+pub mod Pieces
+pub mod Classified
+pub mod Counted
+pub mod Working
+pub mod Ending
+pub mod Agreement
+pub mod Loops
+pub mod Rust
+pub mod Example

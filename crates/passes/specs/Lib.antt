@@ -1,0 +1,4 @@
+pub mod Passes
+pub mod Meaning
+pub mod Statements
+pub mod Cases

@@ -1,0 +1,2 @@
+// The four passes.
+pub fn nothing() {}
