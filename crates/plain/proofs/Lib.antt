@@ -1,0 +1,4 @@
+pub mod Powers
+pub mod Values
+pub mod Terms
+pub mod Steps
