@@ -2,3 +2,4 @@ pub mod Powers
 pub mod Values
 pub mod Terms
 pub mod Steps
+pub mod Lets
