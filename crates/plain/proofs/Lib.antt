@@ -3,3 +3,4 @@ pub mod Values
 pub mod Terms
 pub mod Steps
 pub mod Lets
+pub mod Modules

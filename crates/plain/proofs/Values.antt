@@ -129,10 +129,10 @@ value-element (matching v arms) t c z h = absurd (nothing-value z h)
 abbrev pub table : Assignment → Table
 table σ = λ i. Value (σ i)
 
-some-path : (a b : Flat) → some a ≡ some b → a ≡ b
+pub some-path : (a b : Flat) → some a ≡ some b → a ≡ b
 some-path a b e = cc
 
-none-some : (a : Flat) → none ≡ some a → ⊥
+pub none-some : (a : Flat) → none ≡ some a → ⊥
 none-some a e = let o : _≡_ {A = ℕ} 0 1 = cc in omega arith
 
 joined-value : (σ : Assignment) (o : InfixOp) (a b : Option Flat) (u v : Answer) (f : Flat) → ((g : Flat) → a ≡ some g → value σ g ≡ u) → ((g : Flat) → b ≡ some g → value σ g ≡ v) → joined o a b ≡ some f → value σ f ≡ onValues o u v
