@@ -4,3 +4,4 @@ pub mod Terms
 pub mod Steps
 pub mod Lets
 pub mod Modules
+pub mod Order

@@ -96,6 +96,23 @@ choose : (c : Bool) (u v : Expr × ℕ) (Q : Expr → Type 0) → Q (u .0) → Q
 choose true u v Q f g = f
 choose false u v Q f g = g
 
+-- infix_op hands on a side or 0, or writes the operation
+pub infix-case : (Q : Expr → Type 0) (o : InfixOp) (a b : Expr) → Q a → Q b → Q (constant (pos 0)) → Q (binary o a b) → Q (infixOp o a b .0)
+unfolding infixOp
+infix-case Q Multiply a b p q z r =
+    choose (isConstant 1 a) (b, 0) (cond (isConstant 1 b) (a, 0) (cond (isConstant 0 a) (a, 0) (cond (isConstant 0 b) (b, 0) (binary Multiply a b, 1)))) Q q
+    (choose (isConstant 1 b) (a, 0) (cond (isConstant 0 a) (a, 0) (cond (isConstant 0 b) (b, 0) (binary Multiply a b, 1))) Q p
+    (choose (isConstant 0 a) (a, 0) (cond (isConstant 0 b) (b, 0) (binary Multiply a b, 1)) Q p
+    (choose (isConstant 0 b) (b, 0) (binary Multiply a b, 1) Q q r)))
+infix-case Q Divide a b p q z r = choose (isConstant 1 b) (a, 0) (binary Divide a b, 1) Q p r
+infix-case Q DivideZ a b p q z r = choose (isConstant 1 b) (a, 0) (cond (isConstant 0 a) (a, 0) (binary DivideZ a b, 1)) Q p (choose (isConstant 0 a) (a, 0) (binary DivideZ a b, 1) Q p r)
+infix-case Q IntDivide a b p q z r = choose (isConstant 1 b) (a, 0) (binary IntDivide a b, 1) Q p r
+infix-case Q Modulo a b p q z r = choose (isConstant 1 b) (constant (pos 0), 1) (binary Modulo a b, 1) Q z r
+infix-case Q Add a b p q z r = choose (isConstant 0 a) (b, 0) (cond (isConstant 0 b) (a, 0) (binary Add a b, 1)) Q q (choose (isConstant 0 b) (a, 0) (binary Add a b, 1) Q p r)
+infix-case Q Subtract a b p q z r = choose (isConstant 0 b) (a, 0) (binary Subtract a b, 1) Q p r
+infix-case Q Equal a b p q z r = r
+infix-case Q Exponentiate a b p q z r = r
+
 module _ {B : ℕ → Bool} where
   pub term-up : {n m : ℕ} {e : Expr} → n ≤ m → Term B n e → Term B m e
   term-up h (ofConstant c) = ofConstant c
@@ -113,18 +130,8 @@ module _ {B : ℕ → Bool} where
   term-value σ υ h (ofVariable {x = x} f l) = ap Value (h x f l)
   term-value σ υ h (ofNegate a) = ap negated (term-value σ υ h a)
 
-  -- infix_op hands on its sides or writes the operation
   pub infix-scoped : {n : ℕ} {Γ : List ℕ} {a b : Expr} (o : InfixOp) → isArithmetic o ≡ true → Scoped B n Γ a → Scoped B n Γ b → Scoped B n Γ (infixOp o a b .0)
-  unfolding infixOp
-  infix-scoped {n} {Γ} {a} {b} Multiply h p q = choose (isConstant 1 a) (b, 0) (cond (isConstant 1 b) (a, 0) (cond (isConstant 0 a) (a, 0) (cond (isConstant 0 b) (b, 0) (binary Multiply a b, 1)))) (Scoped B n Γ) q (choose (isConstant 1 b) (a, 0) (cond (isConstant 0 a) (a, 0) (cond (isConstant 0 b) (b, 0) (binary Multiply a b, 1))) (Scoped B n Γ) p (choose (isConstant 0 a) (a, 0) (cond (isConstant 0 b) (b, 0) (binary Multiply a b, 1)) (Scoped B n Γ) p (choose (isConstant 0 b) (b, 0) (binary Multiply a b, 1) (Scoped B n Γ) q (sBinary {o = Multiply} h p q))))
-  infix-scoped {n} {Γ} {a} {b} Divide h p q = choose (isConstant 1 b) (a, 0) (binary Divide a b, 1) (Scoped B n Γ) p (sBinary {o = Divide} h p q)
-  infix-scoped {n} {Γ} {a} {b} DivideZ h p q = choose (isConstant 1 b) (a, 0) (cond (isConstant 0 a) (a, 0) (binary DivideZ a b, 1)) (Scoped B n Γ) p (choose (isConstant 0 a) (a, 0) (binary DivideZ a b, 1) (Scoped B n Γ) p (sBinary {o = DivideZ} h p q))
-  infix-scoped {n} {Γ} {a} {b} IntDivide h p q = choose (isConstant 1 b) (a, 0) (binary IntDivide a b, 1) (Scoped B n Γ) p (sBinary {o = IntDivide} h p q)
-  infix-scoped {n} {Γ} {a} {b} Modulo h p q = choose (isConstant 1 b) (constant (pos 0), 1) (binary Modulo a b, 1) (Scoped B n Γ) sConstant (sBinary {o = Modulo} h p q)
-  infix-scoped {n} {Γ} {a} {b} Add h p q = choose (isConstant 0 a) (b, 0) (cond (isConstant 0 b) (a, 0) (binary Add a b, 1)) (Scoped B n Γ) q (choose (isConstant 0 b) (a, 0) (binary Add a b, 1) (Scoped B n Γ) p (sBinary {o = Add} h p q))
-  infix-scoped {n} {Γ} {a} {b} Subtract h p q = choose (isConstant 0 b) (a, 0) (binary Subtract a b, 1) (Scoped B n Γ) p (sBinary {o = Subtract} h p q)
-  infix-scoped Equal h p q = sBinary h p q
-  infix-scoped Exponentiate h p q = sBinary h p q
+  infix-scoped {n} {Γ} {a} {b} o h p q = infix-case (Scoped B n Γ) o a b p q sConstant (sBinary h p q)
 
 -- What evaluation keeps and promises. N is the first id drawn in evaluation, t has the inputs' elements by id
 module _ (B : ℕ → Bool) (N : ℕ) (t : Assignment) where
