@@ -5,3 +5,4 @@ pub mod Steps
 pub mod Lets
 pub mod Modules
 pub mod Order
+pub mod OrderModules

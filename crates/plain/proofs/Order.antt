@@ -139,15 +139,15 @@ pub record Uses (Q : ℕ → Type 0) (e : Expr) : Type 0 where
   pub ids : (f : Flat) → flatOf e ≡ some f → Every Q f
   pub cuts : (f : Flat) → flatOf e ≡ some f → Cuttable f
 
-uses-constant : {Q : ℕ → Type 0} {n : ℤ} → Uses Q (constant n)
+pub uses-constant : {Q : ℕ → Type 0} {n : ℤ} → Uses Q (constant n)
 unfolding flatOf
 uses-constant {Q} = record { ids = λ f h. subst (Every Q) (some-path _ f h) tt; cuts = λ f h. subst Cuttable (some-path _ f h) tt }
 
-uses-variable : {Q : ℕ → Type 0} {x : ℕ} → Q x → Uses Q (variable x)
+pub uses-variable : {Q : ℕ → Type 0} {x : ℕ} → Q x → Uses Q (variable x)
 unfolding flatOf
 uses-variable {Q} q = record { ids = λ f h. subst (Every Q) (some-path _ f h) q; cuts = λ f h. subst Cuttable (some-path _ f h) tt }
 
-uses-negate : {Q : ℕ → Type 0} {a : Expr} → Uses Q a → Uses Q (negate a)
+pub uses-negate : {Q : ℕ → Type 0} {a : Expr} → Uses Q a → Uses Q (negate a)
 unfolding flatOf opposed
 uses-negate {Q} {a} u = record { ids = λ f h. go f (flatOf a) refl h .0; cuts = λ f h. go f (flatOf a) refl h .1 }
   where
