@@ -208,7 +208,7 @@ expressions-step [] Γ Δ locals g w s = nothing g w
 expressions-step (e ∷ es) Γ Δ locals g w s = let r = expr-step e Γ Δ locals g w s in and-then r (expressions-step es Γ Δ locals _ (r .grown .well) (scope-up (r .grown .extends) s))
 
 -- nothing is bound
-empty-scope : (g : Names) → Scope [] [] [] g
+pub empty-scope : (g : Names) → Scope [] [] [] g
 unfolding member found
 empty-scope g = record { names = λ x. refl; here = λ x i e. absurd (none-some i e); bound = λ i m. absurd (false-true m) }
 

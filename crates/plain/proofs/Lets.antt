@@ -1,6 +1,6 @@
 -- Lets and definitions: what a variable pattern binds, what is there after the lets, and the promise at every level.
 use mathlib.Core.Path.{_≡_, refl, sym, ap, subst, _∙_}
-use mathlib.Core.Bool.{Bool, true, false, cond, _||_}
+use mathlib.Core.Bool.{Bool, true, false, _||_}
 use mathlib.Core.List.{List, [], _∷_}
 use mathlib.Core.Option.{Option, none, some}
 use Prim.Native.Nat.{ℕ, zero, suc, _≤_}
@@ -30,7 +30,7 @@ use Rattle.evaluation.proofs.Environments.{insert-same, insert-other}
 use Rattle.evaluation.proofs.Exchange.{restored, restored-step, Exchanged, exchange-back, binding, one-bound}
 use Rattle.plain.specs.Meaning.{Table, write, valueOf}
 use Rattle.plain.proofs.Powers.{P-above, value-path}
-use Rattle.plain.proofs.Values.{false-true, through-back, negated-back, values-back, writing, update-same, update-other, table, flat-value}
+use Rattle.plain.proofs.Values.{false-true, through-back, negated-back, values-back, writing, update-same, update-other, flat-value}
 use Rattle.plain.proofs.Terms.{run, RunValued, now, Term, ofConstant, ofVariable, ofNegate, Scoped, sConstant, sBound, sFree, sNegate, sBinary, sLet, term-up, term-value, Core, Grew, Unbound, SameBindings, Result, Stands, Agree, grew-trans, bindings-trans, unbound-same, kept-value, agree-grew, counted, following}
 use Rattle.plain.proofs.Steps.{Keeps, grew-by, core-by, infix-result, negate-result, variable-bound, variable-free}
 

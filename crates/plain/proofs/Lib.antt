@@ -6,3 +6,8 @@ pub mod Lets
 pub mod Modules
 pub mod Order
 pub mod OrderModules
+pub mod Numbered
+pub mod Working
+pub mod Divisors
+pub mod Agreement
+pub mod Example

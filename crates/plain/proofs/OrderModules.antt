@@ -1,6 +1,6 @@
 -- The order of the flat definitions, for a whole plain module.
 use mathlib.Core.Path.{_≡_, refl, sym, ap, subst, _∙_}
-use mathlib.Core.Bool.{Bool, true, false, _||_}
+use mathlib.Core.Bool.{Bool, true, false}
 use mathlib.Core.List.{List, [], _∷_, reverse, reverseAux}
 use Prim.Native.Nat.{ℕ, zero, suc, _<_, _≤_}
 use native.Mathlib.Nat.{le-refl, le-trans}
@@ -8,7 +8,7 @@ use native.Mathlib.Omega.{arith}
 use native.Mathlib.Decide.{decLt}
 use lib.Dec.{eqb}
 use lib.IntN.{pos}
-use borrow.Author.Tests.{ne-eqb, eqb-true}
+use borrow.Author.Tests.{ne-eqb}
 use Rattle.field.specs.declared.InfixOp.the-variants.{Equal}
 use Rattle.field.proofs.Units.{zero-element}
 use Rattle.source.specs.Trees.{Pat, variableP, Expr, binary, Env, empty}
@@ -19,7 +19,6 @@ use Rattle.flat.specs.Meaning.{Assignment, Elements}
 use Rattle.numbering.specs.Numbering.{Numbered}
 use Rattle.numbering.specs.Inputs.{member}
 use Rattle.evaluation.specs.Environments.{lookUp, insert, extended}
-use Rattle.evaluation.specs.Forms.{flatOf}
 use Rattle.evaluation.specs.State.{State, gives, _>>_, refuse, Done, get, setBindings}
 use Rattle.evaluation.specs.Evaluation.{evaluate, step, evaluateBinding, evaluateDef, evaluateDefs, evaluateExprs, evaluateModule, begin, flat, finished, evaluatedBy}
 use Rattle.evaluation.proofs.Runs.{refused-gives, bind-case, then-case, bind-known, return-back, got, set-back}
@@ -63,6 +62,10 @@ every-map Q S g (Flat.variable v) h = g v h
 pub all-map : {A : Type 0} (Q S : A → Type 0) → ((a : A) → Q a → S a) → (xs : List A) → All Q xs → All S xs
 all-map Q S g [] h = tt
 all-map Q S g (a ∷ xs) h = (g a (h .0), all-map Q S g xs (h .1))
+
+pub all-both : {A : Type 0} (Q S : A → Type 0) (xs : List A) → All Q xs → All S xs → All (λ a. Q a × S a) xs
+all-both Q S [] h k = tt
+all-both Q S (a ∷ xs) h k = ((h .0, k .0), all-both Q S xs (h .1) (k .1))
 
 all-reverse : {A : Type 0} (Q : A → Type 0) (xs ys : List A) → All Q xs → All Q ys → All Q (reverseAux xs ys)
 all-reverse Q [] ys h k = k

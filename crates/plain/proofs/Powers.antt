@@ -2,7 +2,7 @@
 use mathlib.Core.Path.{_≡_, refl, sym, ap, ap₂, subst, _∙_}
 use mathlib.Core.Bool.{Bool, true, false}
 use Prim.Native.Nat.{ℕ, suc, _+_, _*_, _/_, _%_, _^_, _<_, _≤_}
-use native.Mathlib.Nat.{mod-lt, pow-zero, pow-suc, one-mul, pos-of-ne-zero, mod-eq-of-lt, le-trans}
+use native.Mathlib.Nat.{pow-zero, pow-suc, one-mul, pos-of-ne-zero, mod-eq-of-lt, le-trans}
 use native.Mathlib.Omega.{arith}
 use lib.Pow.{pow-add}
 use lib.IntN.{ℤ, pos, negsuc, natAbs}
@@ -12,7 +12,7 @@ use Rattle.field.specs.declared.Answer.{Answer}
 use Rattle.field.specs.declared.Answer.the-variants.{Value, Nothing}
 use Rattle.field.specs.declared.InfixOp.the-variants.{Divide, Multiply, Exponentiate}
 use Rattle.field.specs.Prime.{P}
-use Rattle.field.specs.Element.{res, centre, elem, inv}
+use Rattle.field.specs.Element.{res, centre, elem}
 use Rattle.field.specs.Operations
 use Rattle.field.specs.Operations.{pick, inverse, quotient, power, divideOf, raised, exponentiateOf, infixOf}
 use Rattle.field.proofs.Primality.{P-prime}

@@ -1,5 +1,4 @@
 -- What a plain module says, "worked out from the top": a table of names, the values of expressions, when no divisor is zero, when the equations hold.
-use mathlib.Core.Bool.{cond}
 use mathlib.Core.Path.{_≡_}
 use mathlib.Core.List.{List, [], _∷_}
 use Prim.Native.Nat.{ℕ}
