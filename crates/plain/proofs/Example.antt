@@ -1,21 +1,24 @@
 -- A plain module with a public name, a name defined over an input, a let that hides a name, and an unused division: the theorem at it.
 -- pub x; def y = 1 / x; def x = x * (def y = x + 1; y * y); x = w
 use mathlib.Core.Path.{_≡_, refl}
-use mathlib.Core.Bool.{true, false}
+use mathlib.Core.Bool.{true, false, cond}
 use mathlib.Core.List.{[], _∷_}
 use Prim.Native.Nat.{ℕ}
 use lib.IntN.{ℤ, pos}
+use lib.Dec.{eqb}
+use Rattle.field.specs.declared.Answer.the-variants.{Value}
 use Rattle.field.specs.declared.InfixOp.the-variants.{Divide, Multiply, Add, Equal}
 use Rattle.field.specs.Prime.{P}
 use Rattle.field.specs.Element.{elem}
 use Rattle.source.specs.Trees.{variableP, binary, constant, variable, letting, matching, noArm, arm, Module}
 use Rattle.flat.specs.Trees.{Flat, FlatModule}
-use Rattle.flat.specs.Meaning.{Assignment, Elements, workedOut}
+use Rattle.flat.specs.Meaning.{update, Assignment, Elements, onValues, negated, value, orZero, workedOut}
 use Rattle.numbering.specs.Numbering.{found, sameText, named, registered}
 use Rattle.evaluation.specs.Evaluation.{flat, evaluated}
 use Rattle.evaluation.proofs.Compute.{answerOf}
 use Rattle.plain.specs.Plain.{isArithmetic, isFree, isPlainName, isPlainPattern, isPlainExpr, isEqual, isPlainEquation, arePlainPublics, arePlainDefinitions, arePlainEquations, isPlain}
-use Rattle.plain.specs.Meaning.{NoDivisorZero}
+use Rattle.plain.specs.Meaning.{write, through, valueOf, sidesOf, sides, start, NoDivisorZero}
+use Rattle.plain.specs.Meaning
 use Rattle.plain.specs.Statements.{Gives, PlainFlat, SaysTheSame}
 use Rattle.plain.proofs.Agreement.{plain-modules-agree}
 
@@ -61,6 +64,19 @@ match-not-plain = refl
 makes : evaluated 65535 (Rattle.numbering.specs.Numbering.numbered source) ≡ flat made
 unfolding answerOf
 makes = refl
+
+-- worked out from the top, at x = 2 and w = 18: x becomes 2 * (2 + 1) * (2 + 1)
+at-two : ℕ → ℤ
+at-two x = cond (eqb x 0) (pos 2) (pos 18)
+
+sides-at-two : sides (Meaning.defined (start at-two) (source .definitions)) (source .expressions) ≡ (Value (pos 18), Value (pos 18)) ∷ []
+unfolding answerOf at-two update onValues negated write through valueOf Meaning.defined sidesOf sides
+sides-at-two = refl
+
+-- and the flat list, from v9 = 2 and v13 = 18
+flat-at-two : workedOut (made .definitions) (λ i. cond (eqb i 9) (pos 2) (pos 18)) 17 ≡ pos 18
+unfolding answerOf update onValues negated value orZero workedOut
+flat-at-two = refl
 
 pub shape : PlainFlat source made
 shape = plain-modules-agree source is-plain 65535 made makes .0
