@@ -1,0 +1,4 @@
+pub mod Walks
+pub mod Shapes
+pub mod Stored
+pub mod Used

@@ -1,0 +1,12 @@
+-- `copies::no_substitutions` meets its contract. Assumes nothing.
+use Rattle.copies.proofs.no_substitutions.Statement.{statement}
+use Rattle.copies.proofs.no_substitutions.Tie as tie
+use mathlib.Core.Path.{refl}
+use Rattle.copies.specs.Substituted.{noSubstitutions}
+
+returns : tie.Need-returns
+unfolding noSubstitutions
+returns c = refl
+
+pub no-substitutions-spec : {M : Type 1} → statement M
+no-substitutions-spec = tie.close (tie.spec returns)
