@@ -1,7 +1,6 @@
 -- A module with every way to bind a name, numbered as the Rust numbers it, and its inputs.
 use mathlib.Core.Path.{_≡_, refl}
-use mathlib.Core.List.{List, [], _∷_, _++_}
-use Prim.Native.Nat.{ℕ}
+use mathlib.Core.List.{[], _∷_}
 use lib.IntN.{pos}
 use Rattle.field.specs.declared.InfixOp.the-variants.{Multiply, Add, Equal}
 use Rattle.source.specs.Trees.{unitP, nilP, asP, productP, consP, variableP, constantP, sequence, binary, negate, application, variable, function, letting, matching, last, _then_, empty, noArm, arm, Module}

@@ -1,12 +1,12 @@
 -- Lists of ids: members, every item, pointwise, rising.
-use mathlib.Core.Path.{_≡_, refl, sym, subst}
+use mathlib.Core.Path.{_≡_, refl, sym, ap, subst}
 use mathlib.Core.Bool.{Bool, true, false, _||_}
 use mathlib.Core.List.{List, [], _∷_, _++_}
 use Prim.Native.Nat.{ℕ, suc, _<_, _≤_}
 use native.Mathlib.Nat.{le-trans}
 use native.Mathlib.Omega.{arith}
 use lib.Dec.{eqb}
-use borrow.Author.Tests.{eqb-true}
+use borrow.Author.Tests.{eq-eqb, eqb-true}
 use Rattle.numbering.specs.Inputs.{member}
 use Rattle.numbering.specs.Statements.{All, Pointwise, Distinct}
 
@@ -35,6 +35,16 @@ all-member Q i (x ∷ xs) a h = go (eqb i x) refl h (all-member Q i xs (a .1))
     go true e h f = subst Q (sym (eqb-true i x e)) (a .0)
     go false e h f = f h
 
+-- every item is a member
+pub members : (Q : ℕ → Type 0) (xs : List ℕ) → ((i : ℕ) → member i xs ≡ true → Q i) → All Q xs
+unfolding member
+members Q [] f = tt
+members Q (x ∷ xs) f = (f x (ap (λ (c : Bool). c || member x xs) (eq-eqb x x refl)), members Q xs (λ i h. f i (or-right (eqb i x) h)))
+  where
+    or-right : (c : Bool) {d : Bool} → d ≡ true → (c || d) ≡ true
+    or-right true h = refl
+    or-right false h = h
+
 pub pointwise-append : (R : ℕ → ℕ → Type 0) (xs us ys vs : List ℕ) → Pointwise R xs ys → Pointwise R us vs → Pointwise R (xs ++ us) (ys ++ vs)
 pointwise-append R [] us [] vs a b = b
 pointwise-append R [] us (y ∷ ys) vs a b = absurd a
@@ -46,6 +56,13 @@ pointwise-map f [] [] a = tt
 pointwise-map f [] (y ∷ ys) a = a
 pointwise-map f (x ∷ xs) [] a = a
 pointwise-map f (x ∷ xs) (y ∷ ys) a = (f x y (a .0), pointwise-map f xs ys (a .1))
+
+-- the second list of a pointwise pair
+pub zipped : (R : ℕ → ℕ → Type 0) (Q S : ℕ → Type 0) → ((x i : ℕ) → R x i → Q x → S i) → (xs is : List ℕ) → Pointwise R xs is → All Q xs → All S is
+zipped R Q S f [] [] p a = tt
+zipped R Q S f [] (i ∷ is) p a = absurd p
+zipped R Q S f (x ∷ xs) [] p a = absurd p
+zipped R Q S f (x ∷ xs) (i ∷ is) p a = (f x i (p .0) (a .0), zipped R Q S f xs is (p .1) (a .1))
 
 -- rising from lo on, below hi
 abbrev pub Rises : ℕ → List ℕ → ℕ → Type 0

@@ -20,7 +20,7 @@ use Rattle.flat.specs.Meaning.{Assignment, Elements, workedOut}
 use Rattle.numbering.specs.Numbering.{Ids, found, _>>=_, return, numberPublics, numberModuleVariables, registered, namesOf, numbered}
 use Rattle.numbering.specs.Inputs.{member, freeInDefinitions, defining, freeInExpressions, freeInModule, inputs, inputIds}
 use Rattle.numbering.specs.Statements.{definitionBinders, expressionBinders, allBinders, All, Pointwise}
-use Rattle.numbering.proofs.Lists.{all-append, all-map, all-member, pointwise-map}
+use Rattle.numbering.proofs.Lists.{all-append, all-map, all-member, members, pointwise-map, zipped}
 use Rattle.numbering.proofs.Names.{none-some, falling-bounded, falling-named, registered-well}
 use Rattle.numbering.proofs.Facts.{publics-step, definitions-step, empty-scope, module-step}
 use Rattle.evaluation.specs.Evaluation.{flat, evaluated}
@@ -38,26 +38,9 @@ use Rattle.plain.proofs.Numbered.{both-true, Named, plain-definitions, 
 use Rattle.plain.proofs.Working.{worked-elements, worked-keeps, definitions-hold, no-zero-in-turn, sides-hold}
 use Rattle.plain.proofs.Divisors.{definitions-valued, equations-valued}
 
--- the second list of a pointwise pair
-zipped : (R : ℕ → ℕ → Type 0) (Q S : ℕ → Type 0) → ((x i : ℕ) → R x i → Q x → S i) → (xs is : List ℕ) → Pointwise R xs is → All Q xs → All S is
-zipped R Q S f [] [] p a = tt
-zipped R Q S f [] (i ∷ is) p a = absurd p
-zipped R Q S f (x ∷ xs) [] p a = absurd p
-zipped R Q S f (x ∷ xs) (i ∷ is) p a = (f x i (p .0) (a .0), zipped R Q S f xs is (p .1) (a .1))
-
 all-any : (xs : List ℕ) → All Any xs
 all-any [] = tt
 all-any (x ∷ xs) = (tt, all-any xs)
-
--- every item is a member
-members : (Q : ℕ → Type 0) (xs : List ℕ) → ((i : ℕ) → member i xs ≡ true → Q i) → All Q xs
-unfolding member
-members Q [] f = tt
-members Q (x ∷ xs) f = (f x (ap (λ (c : Bool). c || member x xs) (eq-eqb x x refl)), members Q xs (λ i h. f i (or-right (eqb i x) h)))
-  where
-    or-right : (c : Bool) {d : Bool} → d ≡ true → (c || d) ≡ true
-    or-right true h = refl
-    or-right false h = h
 
 -- lists of numbers, in the words of the flat list
 rules-all : (Q : ℕ → Type 0) (xs : List ℕ) → All Q xs → Rules.All Q xs
