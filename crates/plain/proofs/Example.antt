@@ -23,7 +23,7 @@ use Rattle.plain.specs.Statements.{Gives, PlainFlat, SaysTheSame}
 use Rattle.plain.proofs.Agreement.{plain-modules-agree}
 
 -- x is name 0, y 1, w 2
-abbrev source : Module
+abbrev pub source : Module
 source = record {
   names = (120 ∷ []) ∷ (121 ∷ []) ∷ (119 ∷ []) ∷ [];
   publics = 0 ∷ [];
@@ -35,7 +35,7 @@ source = record {
 }
 
 -- x is v9, w v13
-abbrev made : FlatModule
+abbrev pub made : FlatModule
 made = record {
   next = 18;
   publics = 9 ∷ [];
@@ -52,7 +52,7 @@ made = record {
   equations = record { left = Flat.variable 17; right = Flat.variable 13 } ∷ [];
 }
 
-is-plain : isPlain source ≡ true
+pub is-plain : isPlain source ≡ true
 unfolding isPlain isArithmetic isFree isPlainName isPlainPattern isPlainExpr isEqual isPlainEquation arePlainPublics arePlainDefinitions arePlainEquations found sameText named registered
 is-plain = refl
 
