@@ -40,11 +40,12 @@ use Rattle.evaluation.specs.Evaluation.{evaluate, step, defined, answered, boun
 use Rattle.evaluation.proofs.Runs.{refused-gives, gives-value, gives-state, bind-case, then-case, bind-known, return-back, past, got, Same, same-refl, same-trans, same-by, make-same, generate-back, push-back}
 use Rattle.evaluation.proofs.Environments.{insert-same, insert-other}
 use Rattle.evaluation.proofs.Exchange.{restored, restored-step, Exchanged, exchange-back, one-bound}
+use Rattle.evaluation.proofs.Helpers.{infix-case}
 use Rattle.plain.specs.Plain.{isArithmetic}
 use Rattle.plain.specs.Statements.{Cuttable}
 use Rattle.plain.proofs.Powers.{P-above}
 use Rattle.plain.proofs.Values.{false-true, some-path, none-some}
-use Rattle.plain.proofs.Terms.{infix-case, Term, ofConstant, ofVariable, ofNegate, Scoped, sConstant, sBound, sFree, sNegate, sBinary, sLet, term-up, term-scoped, infix-scoped}
+use Rattle.plain.proofs.Terms.{Term, ofConstant, ofVariable, ofNegate, Scoped, sConstant, sBound, sFree, sNegate, sBinary, sLet, term-up, term-scoped, infix-scoped}
 use Rattle.plain.proofs.Lets.{capture-term, expand-term, define-term, match-term}
 
 -- the binders of an expression: rising from lo on, below hi

@@ -26,6 +26,7 @@ use Rattle.evaluation.specs.Environments.{lookUp}
 use Rattle.evaluation.specs.State.{State}
 use Rattle.evaluation.specs.Simplify.{infixOp, isConstant}
 use Rattle.evaluation.proofs.Runs.{Same}
+use Rattle.evaluation.proofs.Helpers.{infix-case}
 use Rattle.plain.specs.Plain.{isArithmetic}
 use Rattle.plain.specs.Meaning.{Table, valueOf}
 use Rattle.plain.proofs.Powers.{P-above, value-path}
@@ -91,27 +92,6 @@ pub data Scoped (B : ℕ → Bool) (k : ℕ) : List ℕ → Expr → Type 0 wher
   sNegate : {Γ : List ℕ} {a : Expr} → Scoped B k Γ a → Scoped B k Γ (negate a)
   sBinary : {Γ : List ℕ} {o : InfixOp} {a b : Expr} → isArithmetic o ≡ true → Scoped B k Γ a → Scoped B k Γ b → Scoped B k Γ (binary o a b)
   sLet : {Γ : List ℕ} {x : ℕ} {v b : Expr} → B x ≡ true → Scoped B k Γ v → Scoped B k (x ∷ Γ) b → Scoped B k Γ (letting (variableP x) v b)
-
-choose : (c : Bool) (u v : Expr × ℕ) (Q : Expr → Type 0) → Q (u .0) → Q (v .0) → Q ((cond c u v) .0)
-choose true u v Q f g = f
-choose false u v Q f g = g
-
--- infix_op hands on a side or 0, or writes the operation
-pub infix-case : (Q : Expr → Type 0) (o : InfixOp) (a b : Expr) → Q a → Q b → Q (constant (pos 0)) → Q (binary o a b) → Q (infixOp o a b .0)
-unfolding infixOp
-infix-case Q Multiply a b p q z r =
-    choose (isConstant 1 a) (b, 0) (cond (isConstant 1 b) (a, 0) (cond (isConstant 0 a) (a, 0) (cond (isConstant 0 b) (b, 0) (binary Multiply a b, 1)))) Q q
-    (choose (isConstant 1 b) (a, 0) (cond (isConstant 0 a) (a, 0) (cond (isConstant 0 b) (b, 0) (binary Multiply a b, 1))) Q p
-    (choose (isConstant 0 a) (a, 0) (cond (isConstant 0 b) (b, 0) (binary Multiply a b, 1)) Q p
-    (choose (isConstant 0 b) (b, 0) (binary Multiply a b, 1) Q q r)))
-infix-case Q Divide a b p q z r = choose (isConstant 1 b) (a, 0) (binary Divide a b, 1) Q p r
-infix-case Q DivideZ a b p q z r = choose (isConstant 1 b) (a, 0) (cond (isConstant 0 a) (a, 0) (binary DivideZ a b, 1)) Q p (choose (isConstant 0 a) (a, 0) (binary DivideZ a b, 1) Q p r)
-infix-case Q IntDivide a b p q z r = choose (isConstant 1 b) (a, 0) (binary IntDivide a b, 1) Q p r
-infix-case Q Modulo a b p q z r = choose (isConstant 1 b) (constant (pos 0), 1) (binary Modulo a b, 1) Q z r
-infix-case Q Add a b p q z r = choose (isConstant 0 a) (b, 0) (cond (isConstant 0 b) (a, 0) (binary Add a b, 1)) Q q (choose (isConstant 0 b) (a, 0) (binary Add a b, 1) Q p r)
-infix-case Q Subtract a b p q z r = choose (isConstant 0 b) (a, 0) (binary Subtract a b, 1) Q p r
-infix-case Q Equal a b p q z r = r
-infix-case Q Exponentiate a b p q z r = r
 
 module _ {B : ℕ → Bool} where
   pub term-up : {n m : ℕ} {e : Expr} → n ≤ m → Term B n e → Term B m e
