@@ -22,6 +22,10 @@ pub all-append : (Q : ℕ → Type 0) (xs ys : List ℕ) → All Q xs → All Q 
 all-append Q [] ys a b = b
 all-append Q (x ∷ xs) ys a b = (a .0, all-append Q xs ys (a .1) b)
 
+pub all-split : (Q : ℕ → Type 0) (xs ys : List ℕ) → All Q (xs ++ ys) → All Q xs × All Q ys
+all-split Q [] ys h = (tt, h)
+all-split Q (x ∷ xs) ys h = let k = all-split Q xs ys (h .1) in ((h .0, k .0), k .1)
+
 pub all-map : {Q S : ℕ → Type 0} → ((i : ℕ) → Q i → S i) → (xs : List ℕ) → All Q xs → All S xs
 all-map f [] a = tt
 all-map f (x ∷ xs) a = (f x (a .0), all-map f xs (a .1))

@@ -1,14 +1,14 @@
 -- Numbering and evaluation keep what a plain module says.
 use mathlib.Core.Path.{_≡_, refl, sym, ap, subst, _∙_}
-use mathlib.Core.Bool.{Bool, true, false, cond, not, _||_}
+use mathlib.Core.Bool.{Bool, true, false, cond, not}
 use mathlib.Core.List.{List, [], _∷_}
 use mathlib.Core.Option.{some}
 use Prim.Native.Nat.{ℕ, _<_, _≤_}
 use native.Mathlib.Nat.{le-trans}
 use native.Mathlib.Omega.{arith}
 use lib.IntN.{ℤ}
-use lib.Dec.{eqb, ltb}
-use borrow.Author.Tests.{eq-eqb, lt-ltb, le-ltb}
+use lib.Dec.{ltb}
+use borrow.Author.Tests.{lt-ltb, le-ltb}
 use Rattle.field.specs.declared.Answer.the-variants.{Value}
 use Rattle.field.specs.Prime.{P}
 use Rattle.field.specs.Element.{elem}
@@ -20,7 +20,7 @@ use Rattle.flat.specs.Meaning.{Assignment, Elements, workedOut}
 use Rattle.numbering.specs.Numbering.{Ids, found, _>>=_, return, numberPublics, numberModuleVariables, registered, namesOf, numbered}
 use Rattle.numbering.specs.Inputs.{member, freeInDefinitions, defining, freeInExpressions, freeInModule, inputs, inputIds}
 use Rattle.numbering.specs.Statements.{definitionBinders, expressionBinders, allBinders, All, Pointwise}
-use Rattle.numbering.proofs.Lists.{all-append, all-map, all-member, members, pointwise-map, zipped}
+use Rattle.numbering.proofs.Lists.{all-append, all-split, all-map, all-member, members, pointwise-map, zipped}
 use Rattle.numbering.proofs.Names.{none-some, falling-bounded, falling-named, registered-well}
 use Rattle.numbering.proofs.Facts.{publics-step, definitions-step, empty-scope, module-step}
 use Rattle.evaluation.specs.Evaluation.{flat, evaluated}
@@ -34,7 +34,7 @@ use Rattle.plain.proofs.Modules.{ScopedDefinitions, ScopedEquations, fl
 use Rattle.plain.proofs.Order.{Input, not-true}
 use Rattle.plain.proofs.OrderModules.{SpansDefinitions, SpansEquations, InOrder, order-kept, input-undefined, ordered, known, cuttables, ids-below, defined-ids, every-map}
 use Rattle.plain.proofs.OrderModules
-use Rattle.plain.proofs.Numbered.{both-true, Named, plain-definitions, plain-equations, PlainDefinitions, PlainEquations, Any, all-split, rises-split, pointwise-split, free-definitions, free-equations, numbered-definitions, numbered-equations, definitions-scoped, equations-scoped, definitions-spans, equations-spans, Means, Agreed, definitions-mean, equations-mean}
+use Rattle.plain.proofs.Numbered.{both-true, Named, plain-definitions, plain-equations, PlainDefinitions, PlainEquations, Any, rises-split, pointwise-split, free-definitions, free-equations, numbered-definitions, numbered-equations, definitions-scoped, equations-scoped, definitions-spans, equations-spans, Means, Agreed, definitions-mean, equations-mean}
 use Rattle.plain.proofs.Working.{worked-elements, worked-keeps, definitions-hold, no-zero-in-turn, sides-hold}
 use Rattle.plain.proofs.Divisors.{definitions-valued, equations-valued}
 

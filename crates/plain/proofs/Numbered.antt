@@ -18,7 +18,7 @@ use Rattle.flat.specs.Meaning.{onValues, negated}
 use Rattle.numbering.specs.Numbering.{Ids, found, Names, _>>=_, return, generateId, chosen, numberVariable, numberPatternVariables, numberExprVariables, numberDefVariables, numberDefinitions, numberExpressions}
 use Rattle.numbering.specs.Inputs.{member, binding, freeVariables, freeInDefinitions, defining, freeInExpressions}
 use Rattle.numbering.specs.Statements.{patternIds, binders, definitionBinders, expressionBinders, All, Pointwise}
-use Rattle.numbering.proofs.Lists.{all-append, Rises}
+use Rattle.numbering.proofs.Lists.{all-append, all-split, Rises}
 use Rattle.numbering.proofs.Names.{entry-case, Well}
 use Rattle.numbering.proofs.Facts.{has, Scope, scope-up, pattern-step, expr-step}
 use Rattle.plain.specs.Plain.{isArithmetic, isFree, isPlainName, isPlainPattern, isPlainExpr, isEqual, isPlainEquation, arePlainDefinitions, arePlainEquations}
@@ -146,10 +146,6 @@ module _ (R : Ids) where
       plain-item e es (k .0) (plain-equations es (k .1))
 
 -- lists taken apart
-pub all-split : (Q : ℕ → Type 0) (xs ys : List ℕ) → All Q (xs ++ ys) → All Q xs × All Q ys
-all-split Q [] ys h = (tt, h)
-all-split Q (x ∷ xs) ys h = let k = all-split Q xs ys (h .1) in ((h .0, k .0), k .1)
-
 pub rises-split : (lo : ℕ) (xs ys : List ℕ) (hi : ℕ) → Rises lo (xs ++ ys) hi → (mid : ℕ) × Rises lo xs mid × Rises mid ys hi
 rises-split lo [] ys hi h = (lo, le-refl lo, h)
 rises-split lo (x ∷ xs) ys hi h = let k = rises-split (suc x) xs ys hi (h .1) in (k .0, (h .0, k .1), k .2)

@@ -6,12 +6,11 @@ use mathlib.Core.Option.{none, some}
 use Prim.Native.Nat.{ℕ, _<_, _≤_}
 use native.Mathlib.Nat.{le-trans}
 use native.Mathlib.Omega.{arith}
-use lib.IntN.{ℤ, pos}
+use lib.IntN.{ℤ}
 use lib.Dec.{eqb}
 use Rattle.field.specs.declared.Answer.{Answer}
 use Rattle.field.specs.declared.Answer.the-variants.{Value, Nothing}
 use Rattle.field.specs.declared.InfixOp.{InfixOp}
-use Rattle.field.specs.declared.InfixOp.the-variants.{Divide, DivideZ, Multiply, Add, Subtract, Equal, Exponentiate, IntDivide, Modulo}
 use Rattle.field.specs.Prime.{P}
 use Rattle.field.specs.Element.{elem}
 use Rattle.field.proofs.Primality.{P-prime}
@@ -24,7 +23,7 @@ use Rattle.flat.specs.Meaning.{update, Assignment, Elements, negated, value, or
 use Rattle.numbering.specs.Inputs.{member}
 use Rattle.evaluation.specs.Environments.{lookUp}
 use Rattle.evaluation.specs.State.{State}
-use Rattle.evaluation.specs.Simplify.{infixOp, isConstant}
+use Rattle.evaluation.specs.Simplify.{infixOp}
 use Rattle.evaluation.proofs.Runs.{Same}
 use Rattle.evaluation.proofs.Helpers.{infix-case}
 use Rattle.plain.specs.Plain.{isArithmetic}
