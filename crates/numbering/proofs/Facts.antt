@@ -3,13 +3,15 @@ use mathlib.Core.Path.{_≡_, refl, sym, ap, _∙_}
 use mathlib.Core.Bool.{Bool, true, false, cond, _||_}
 use mathlib.Core.List.{List, [], _∷_, _++_}
 use mathlib.Core.Option.{Option, none, some}
-use Prim.Native.Nat.{ℕ, _<_}
+use Prim.Native.Nat.{ℕ, suc, _+_, _<_, _≤_}
 use native.Mathlib.Nat.{le-refl, le-trans}
 use native.Mathlib.Omega.{arith}
 use lib.Dec.{eqb}
+use lib.ListN.{length}
 use borrow.Author.Tests.{eq-eqb, eqb-true}
 use Rattle.source.specs.Trees.{Pat, unitP, nilP, asP, productP, consP, variableP, constantP, Expr, unit, nil, sequence, product, cons, binary, negate, application, constant, variable, function, intrinsic, letting, matching, Items, last, _then_, Arms, noArm, arm, Module}
 use Rattle.numbering.specs.Numbering.{Ids, found, Names, _>>=_, return, generateId, chosen, numberVariable, numberPatternVariables, numberParameters, numberExprVariables, numberItems, numberArms, numberDefVariables, numberPublics, numberDefinitions, numberExpressions, numberModuleVariables, registered, namesOf, numbered}
+use Rattle.numbering.specs.Sizes.{patSize, patSizes, size, itemsSize, armsSize, definitionsSize, expressionsSize, moduleSize}
 use Rattle.numbering.specs.Inputs.{member, binding, bindings, freeVariables, freeInItems, freeInArms, freeInDefinitions, defining, freeInExpressions, freeInModule, inputs, inputIds, inputId}
 use Rattle.numbering.specs.Statements.{patternIds, parameterIds, binders, itemBinders, armBinders, definitionBinders, expressionBinders, allBinders, variables, itemVariables, armVariables, definitionVariables, expressionVariables, allVariables, All, Pointwise, WellNumbered}
 use Rattle.numbering.proofs.Lists.{false-true, not-true, all-append, all-map, all-member, pointwise-append, pointwise-map, Rises, rises-append, rises-up, rises-all, rises-distinct}
@@ -247,6 +249,87 @@ module-step m =
     let e = expressions-step (m .expressions) _ _ _ _ (d .step .grown .well) (d .scope) in
     record { publics = behind p (grown-trans (d .step .grown) (e .grown)); rest = before (p .grown) (and-then (d .step) e) }
 
+-- how many ids are drawn
+variable-draws : (x : ℕ) (g : Names) (o q : Option ℕ) → chosen x o q g .1 .next ≤ suc (g .next)
+unfolding chosen
+variable-draws x g (some i) q = omega arith
+variable-draws x g none (some i) = omega arith
+variable-draws x g none none = le-refl _
+
+pattern-draws : (p : Pat) (locals : Ids) (g : Names) → numberPatternVariables p locals g .1 .next ≤ patSize p + g .next
+unfolding numberPatternVariables generateId _>>=_ return patSize
+pattern-draws (asP p x) locals g = omega (arith, pattern-draws p locals g)
+pattern-draws (productP p q) locals g = omega (arith, pattern-draws p locals g, pattern-draws q (numberPatternVariables p locals g .0 .1) (numberPatternVariables p locals g .1))
+pattern-draws (consP p q) locals g = omega (arith, pattern-draws p locals g, pattern-draws q (numberPatternVariables p locals g .0 .1) (numberPatternVariables p locals g .1))
+pattern-draws (variableP x) locals g = omega arith
+pattern-draws (constantP n) locals g = omega arith
+pattern-draws unitP locals g = omega arith
+pattern-draws nilP locals g = omega arith
+
+parameters-draw : (ps : List Pat) (locals : Ids) (g : Names) → numberParameters ps locals g .1 .next ≤ patSizes ps + g .next
+unfolding numberParameters _>>=_ return patSizes
+parameters-draw [] locals g = omega arith
+parameters-draw (p ∷ ps) locals g = omega (arith, pattern-draws p locals g, parameters-draw ps (numberPatternVariables p locals g .0 .1) (numberPatternVariables p locals g .1))
+
+mutual
+  unfolding numberExprVariables numberItems numberArms numberVariable _>>=_ return size itemsSize armsSize
+
+  expr-draws : (e : Expr) (locals : Ids) (g : Names) → numberExprVariables e locals g .1 .next ≤ size e + g .next
+  expr-draws (sequence is) locals g = omega (arith, items-draw is locals g)
+  expr-draws (intrinsic w k ps env) locals g = omega (arith, parameters-draw ps locals g)
+  expr-draws (binary o a b) locals g = omega (arith, expr-draws a locals g, expr-draws b locals (numberExprVariables a locals g .1))
+  expr-draws (application a b) locals g = omega (arith, expr-draws a locals g, expr-draws b locals (numberExprVariables a locals g .1))
+  expr-draws (product a b) locals g = omega (arith, expr-draws a locals g, expr-draws b locals (numberExprVariables a locals g .1))
+  expr-draws (cons a b) locals g = omega (arith, expr-draws a locals g, expr-draws b locals (numberExprVariables a locals g .1))
+  expr-draws (negate a) locals g = omega (arith, expr-draws a locals g)
+  expr-draws (constant n) locals g = omega arith
+  expr-draws unit locals g = omega arith
+  expr-draws nil locals g = omega arith
+  expr-draws (variable x) locals g = omega (arith, variable-draws x g (found x locals) (found x (g .globals)))
+  expr-draws (function ps b env) locals g = omega (arith, parameters-draw ps locals g, expr-draws b (numberParameters ps locals g .0 .1) (numberParameters ps locals g .1))
+  expr-draws (letting p v b) locals g =
+      let one = numberExprVariables v locals g .1 in
+      let two = numberPatternVariables p locals one in
+      omega (arith, expr-draws v locals g, pattern-draws p locals one, expr-draws b (two .0 .1) (two .1))
+  expr-draws (matching v arms) locals g = omega (arith, expr-draws v locals g, arms-draw arms locals (numberExprVariables v locals g .1))
+
+  items-draw : (is : Items) (locals : Ids) (g : Names) → numberItems is locals g .1 .next ≤ itemsSize is + g .next
+  items-draw (last e) locals g = expr-draws e locals g
+  items-draw (e then is) locals g = omega (arith, expr-draws e locals g, items-draw is locals (numberExprVariables e locals g .1))
+
+  arms-draw : (arms : Arms) (locals : Ids) (g : Names) → numberArms arms locals g .1 .next ≤ armsSize arms + g .next
+  arms-draw noArm locals g = omega arith
+  arms-draw (arm p e arms) locals g =
+      let one = numberPatternVariables p locals g in
+      let two = numberExprVariables e (one .0 .1) (one .1) .1 in
+      omega (arith, pattern-draws p locals g, expr-draws e (one .0 .1) (one .1), arms-draw arms locals two)
+
+publics-draw : (xs : List ℕ) (g : Names) → numberPublics xs g .1 .next ≤ length xs + g .next
+unfolding numberPublics numberVariable _>>=_ return
+publics-draw [] g = omega arith
+publics-draw (x ∷ xs) g = omega (arith, variable-draws x g (found x []) (found x (g .globals)), publics-draw xs (chosen x (found x []) (found x (g .globals)) g .1))
+
+definitions-draw : (ds : List (Pat × Expr)) (locals : Ids) (g : Names) → numberDefinitions ds locals g .1 .next ≤ definitionsSize ds + g .next
+unfolding numberDefinitions numberDefVariables _>>=_ return definitionsSize
+definitions-draw [] locals g = omega arith
+definitions-draw (d ∷ ds) locals g =
+    let one = numberExprVariables (d .1) locals g .1 in
+    let two = numberPatternVariables (d .0) locals one in
+    omega (arith, expr-draws (d .1) locals g, pattern-draws (d .0) locals one, definitions-draw ds (two .0 .1) (two .1))
+
+expressions-draw : (es : List Expr) (locals : Ids) (g : Names) → numberExpressions es locals g .1 .next ≤ expressionsSize es + g .next
+unfolding numberExpressions _>>=_ return expressionsSize
+expressions-draw [] locals g = omega arith
+expressions-draw (e ∷ es) locals g = omega (arith, expr-draws e locals g, expressions-draw es locals (numberExprVariables e locals g .1))
+
+next-low : (m : Module) → namesOf m .next ≤ 9 + length (m .publics) + moduleSize m
+unfolding namesOf numberModuleVariables _>>=_ return moduleSize registered
+next-low m =
+    let g = registered (m .names) in
+    let one = numberPublics (m .publics) g .1 in
+    let two = numberDefinitions (m .definitions) [] one in
+    omega (arith, publics-draw (m .publics) g, definitions-draw (m .definitions) [] one, expressions-draw (m .expressions) (two .0 .1) (two .1))
+
 pub well-numbered : (m : Module) → WellNumbered m
 unfolding inputId numbered registered
 well-numbered m =
@@ -259,6 +342,7 @@ well-numbered m =
       binders-distinct = rises-distinct _ (allBinders (numbered m)) _ (s .rest .rises);
       binders-above = all-map (λ i h. h .0) (allBinders (numbered m)) (rises-all 9 (allBinders (numbered m)) (namesOf m .next) (s .rest .rises));
       no-binder = λ x i e. not-true (member i (allBinders (numbered m))) (λ h. none-some x (sym (all-member _ i (allBinders (numbered m)) (s .rest .binders) h .1) ∙ falling-named _ _ (w .falling) x i e));
+      next-low = next-low m;
       inputs-numbered = s .rest .free;
       publics-numbered = s .publics .free;
       ids-differ = λ x y i e f. some-is x y (sym (falling-named _ _ (w .falling) x i e) ∙ falling-named _ _ (w .falling) y i f);

@@ -21,7 +21,7 @@ unfoldable pub found : ℕ → Ids → Option ℕ
 found x [] = none
 found x (e ∷ es) = cond (eqb x (e .0)) (some (e .1)) (found x es)
 
--- what numbering changes: the globals, and VarGen's next id. Ids cannot run out (32): a node or a public draws one at most
+-- what numbering changes: the globals, and VarGen's next id. Ids cannot run out (32): a node or a public draws one at most (next-low in specs/Statements.antt)
 pub record Names : Type 0 where
   pub globals : Ids
   pub next : ℕ

@@ -3,9 +3,11 @@ use mathlib.Core.Path.{_≡_}
 use mathlib.Core.Bool.{false}
 use mathlib.Core.List.{List, [], _∷_, _++_}
 use mathlib.Core.Option.{some}
-use Prim.Native.Nat.{ℕ, _<_, _≤_}
+use Prim.Native.Nat.{ℕ, _+_, _<_, _≤_}
+use lib.ListN.{length}
 use Rattle.source.specs.Trees.{Pat, unitP, nilP, asP, productP, consP, variableP, constantP, Expr, unit, nil, sequence, product, cons, binary, negate, application, constant, variable, function, intrinsic, letting, matching, Items, last, _then_, Arms, noArm, arm, Module}
 use Rattle.numbering.specs.Numbering.{Numbered, numbered}
+use Rattle.numbering.specs.Sizes.{moduleSize}
 use Rattle.numbering.specs.Inputs.{member, inputs, inputIds, inputId}
 
 -- the ids that patterns bind, in the order in which they are drawn
@@ -120,6 +122,8 @@ pub record WellNumbered (m : Module) : Type 0 where
   pub binders-distinct : Distinct (allBinders (numbered m))
   pub binders-above : All (λ i. 9 ≤ i) (allBinders (numbered m))
   pub no-binder : (x i : ℕ) → inputId m x ≡ some i → member i (allBinders (numbered m)) ≡ false
+  -- a public or a node draws an id at most, and the intrinsics nine: ids cannot run out (32), for a record has at most 64 publics and 2,048 nodes
+  pub next-low : numbered m .next ≤ 9 + length (m .publics) + moduleSize m
   -- in each use of an input its name has its id, and another name has another
   pub inputs-numbered : Pointwise (λ x i. inputId m x ≡ some i) (inputs m) (inputIds (numbered m))
   pub publics-numbered : Pointwise (λ x i. inputId m x ≡ some i) (m .publics) (numbered m .publics)
