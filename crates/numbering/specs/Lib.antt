@@ -1,0 +1,4 @@
+pub mod Numbering
+pub mod Sizes
+pub mod Inputs
+pub mod Statements
