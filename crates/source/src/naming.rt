@@ -1,0 +1,1 @@
+// The names: their pairs and bytes, and that no two are equal.

@@ -1,0 +1,1 @@
+// The nodes and lists fit, and every node is used exactly once.
