@@ -165,12 +165,13 @@ module _ (b : List ℕ) (at : ℕ) where
   unfoldable pub nodesFit : ℕ → ℕ → Bool
   nodesFit names n = every n (λ k. childrenFit names k (childrenOf (entryOf b at k)))
 
-  -- n words from word `list` on: public name indices; pairs of a pattern and an expression; expressions. Each node is one of the first `nodes`
-  unfoldable pub publicsFit : ℕ → ℕ → ℕ → Bool
-  publicsFit names list n = every n (λ k. ltb (wordAt b (list + k)) names)
-
+  -- n definitions, n expressions from word `list` on: pairs of a pattern and an expression, and expressions, of the first `nodes` nodes
   unfoldable pub definitionsFit : ℕ → ℕ → ℕ → Bool
   definitionsFit nodes list n = every n (λ k. patternFits nodes (wordAt b (list + 2 * k)) && expressionFits nodes (wordAt b (list + 2 * k + 1)))
 
   unfoldable pub expressionsFit : ℕ → ℕ → ℕ → Bool
   expressionsFit nodes list n = every n (λ k. expressionFits nodes (wordAt b (list + k)))
+
+-- n public name indices from word `list` on
+unfoldable pub publicsFit : List ℕ → ℕ → ℕ → ℕ → Bool
+publicsFit b names list n = every n (λ k. ltb (wordAt b (list + k)) names)

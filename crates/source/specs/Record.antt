@@ -105,7 +105,7 @@ moduleOf b = record {
 unfoldable pub shaped : List ℕ → Bool
 shaped b =
     nodesFit b (nodesAt b) (names b) (nodes b)
-    && (publicsFit b (nodesAt b) (names b) (publicsAt b) (publics b)
+    && (publicsFit b (names b) (publicsAt b) (publics b)
     && (definitionsFit b (nodesAt b) (nodes b) (definitionsAt b) (definitions b)
     && expressionsFit b (nodesAt b) (nodes b) (expressionsAt b) (expressions b)))
 

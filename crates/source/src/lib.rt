@@ -2,14 +2,14 @@
 mod asking;
 mod entries;
 mod naming;
-mod reading;
 
 use entries::entry;
 use field::InfixOp;
 ghost use mathlib.Core.Path.{_≡_};
-ghost use Prim.Native.Nat.{_+_, _*_, _≤_};
+ghost use Prim.Native.Nat.{_+_, _*_, _≤_, _<_};
 ghost use lib.ListN.{length};
-ghost use Rattle.source.specs.Layout.{layoutOf, counted, listed};
+ghost use Rattle.words.specs.Words.{wordAt};
+ghost use Rattle.source.specs.Layout.{layoutOf};
 ghost use Rattle.source.specs.Nodes.{entryOf};
 
 // What the check of a source record answers.
@@ -89,6 +89,42 @@ pub struct Children {
     pub first: Child,
     pub second: Child,
     pub third: Child,
+}
+
+// A word, as a count or an index.
+fn count(s: &[u8], i: usize) -> usize
+    requires { ⌜ 4 * i + 4 ≤ length (now s) ⌝ }
+    ensures { λ r. ⌜ (r ≡ wordAt (now (s .entry)) i) × (r < 4294967296) ⌝ }
+{
+    words::word_at(s, i) as usize
+}
+
+// The layout that the header says.
+pub fn layout_of(s: &[u8]) -> Layout
+    requires { ⌜ 20 ≤ length (now s) ⌝ }
+    ensures { λ r. ⌜ r ≡ layoutOf (now (s .entry)) ⌝ }
+{
+    let names = count(s, 0);
+    let publics = count(s, 1);
+    let definitions = count(s, 2);
+    let expressions = count(s, 3);
+    let nodes = count(s, 4);
+    let publics_at = 5 + 2 * names;
+    let definitions_at = publics_at + publics;
+    let expressions_at = definitions_at + 2 * definitions;
+    let nodes_at = expressions_at + expressions;
+    Layout {
+        names,
+        publics,
+        definitions,
+        expressions,
+        nodes,
+        publics_at,
+        definitions_at,
+        expressions_at,
+        nodes_at,
+        text_at: 4 * (nodes_at + 4 * nodes),
+    }
 }
 
 // Node k of the nodes that start at word `at`.

@@ -1,1 +1,0 @@
-// The nodes and lists fit, and every node is used exactly once.
