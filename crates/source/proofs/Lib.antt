@@ -1,4 +1,6 @@
 mod Laws
 mod Nodes
 mod Names
+mod Marks
+mod Sorts
 mod Answers

@@ -2,6 +2,7 @@
 mod asking;
 mod entries;
 mod naming;
+mod reading;
 
 use entries::entry;
 use field::InfixOp;

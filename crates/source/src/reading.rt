@@ -1,0 +1,66 @@
+// Nodes and lists fit (refusal 5), and every node is used exactly once (refusal 6): an array of marks, cleared at the start, set at each use.
+use super::Chain;
+use super::Checked;
+use super::Child;
+use super::Children;
+use super::Entry;
+use super::asking::children_of;
+use super::count;
+use super::node_at;
+ghost use mathlib.Core.Path.{_≡_};
+ghost use Prim.Native.Nat.{_+_, _*_, _≤_, _<_};
+ghost use lib.ListN.{length, getD, set};
+ghost use lib.Dec.{eqb};
+ghost use Rattle.source.specs.Indices.{every};
+ghost use Rattle.source.specs.Nodes.{expressionFits, patternFits, itemFits, resultFits, chainFits, childFits, childrenFit, nodesFit, publicsFit, definitionsFit, expressionsFit};
+ghost use Rattle.source.specs.Uses.{same, resultUses, chainUses, childUses, childrenUse, byNodes, byDefinitions, byExpressions};
+ghost use Rattle.source.specs.Marks.{verdict, bump, Adds, noMarks};
+
+fn no_marks() -> [u32; 2048]
+    ensures { λ r. ⌜ r ≡ noMarks ⌝ }
+{
+    [0u32; 2048]
+}
+
+// Node x is used once more.
+fn use_node(marks: &mut [u32; 2048], x: usize)
+    requires { ⌜ x < 2048 ⌝ }
+    ensures { λ _. ⌜ now (marks .exit) ≡ set (now (marks .entry)) x (bump (getD (now (marks .entry)) x 0)) ⌝ }
+{
+    if marks[x] == 0 {
+        marks[x] = 1;
+    } else {
+        marks[x] = 2;
+    }
+}
+
+// Node k uses x, which must be an expression before it.
+fn use_expression(s: &[u8], at: usize, k: usize, x: usize, marks: &mut [u32; 2048]) -> Checked
+    requires { ⌜ (4 * (at + 4 * k) ≤ length (now s)) × (k ≤ 2048) ⌝ }
+    ensures { λ r. ⌜ (r ≡ verdict 5 (expressionFits (now (s .entry)) at k x)) × (r ≡ Checked.Accepted → Adds (now (marks .entry)) (now (marks .exit)) (same x)) ⌝ }
+{
+    if k <= x {
+        return Checked::Refused(5);
+    }
+    let Entry::Expression(_) = node_at(s, at, x) else {
+        return Checked::Refused(5);
+    };
+    use_node(marks, x);
+    Checked::Accepted
+}
+
+// Node k uses x, which must be a pattern before it.
+fn use_pattern(s: &[u8], at: usize, k: usize, x: usize, marks: &mut [u32; 2048]) -> Checked
+    requires { ⌜ (4 * (at + 4 * k) ≤ length (now s)) × (k ≤ 2048) ⌝ }
+    ensures { λ r. ⌜ (r ≡ verdict 5 (patternFits (now (s .entry)) at k x)) × (r ≡ Checked.Accepted → Adds (now (marks .entry)) (now (marks .exit)) (same x)) ⌝ }
+{
+    if k <= x {
+        return Checked::Refused(5);
+    }
+    let Entry::Pattern(_) = node_at(s, at, x) else {
+        return Checked::Refused(5);
+    };
+    use_node(marks, x);
+    Checked::Accepted
+}
+
