@@ -3,4 +3,5 @@ mod Nodes
 mod Names
 mod Marks
 mod Sorts
+mod Links
 mod Answers

@@ -64,3 +64,77 @@ fn use_pattern(s: &[u8], at: usize, k: usize, x: usize, marks: &mut [u32; 2048])
     Checked::Accepted
 }
 
+// Link k uses its item.
+fn use_item(
+    s: &[u8],
+    at: usize,
+    chain: Chain,
+    k: usize,
+    x: usize,
+    marks: &mut [u32; 2048],
+) -> Checked
+    requires { ⌜ (4 * (at + 4 * k) ≤ length (now s)) × (k ≤ 2048) ⌝ }
+    ensures { λ r. ⌜ (r ≡ verdict 5 (itemFits (now (s .entry)) at chain k x)) × (r ≡ Checked.Accepted → Adds (now (marks .entry)) (now (marks .exit)) (same x)) ⌝ }
+{
+    match chain {
+        Chain::Parameters => use_pattern(s, at, k, x, marks),
+        Chain::Arms => use_pattern(s, at, k, x, marks),
+        Chain::Items => use_expression(s, at, k, x, marks),
+    }
+}
+
+// Link k uses its arm result, where its chain has such.
+fn use_result(
+    s: &[u8],
+    at: usize,
+    chain: Chain,
+    k: usize,
+    x: usize,
+    marks: &mut [u32; 2048],
+) -> Checked
+    requires { ⌜ (4 * (at + 4 * k) ≤ length (now s)) × (k ≤ 2048) ⌝ }
+    ensures { λ r. ⌜ (r ≡ verdict 5 (resultFits (now (s .entry)) at chain k x)) × (r ≡ Checked.Accepted → Adds (now (marks .entry)) (now (marks .exit)) (resultUses chain x)) ⌝ }
+{
+    if let Chain::Arms = chain {
+        return use_expression(s, at, k, x, marks);
+    }
+    if x == 0 {
+        Checked::Accepted
+    } else {
+        Checked::Refused(5)
+    }
+}
+
+// Node k uses a chain of links, from its first link on, with what they use. Each next link stands before the one that names it.
+fn use_chain(
+    s: &[u8],
+    at: usize,
+    chain: Chain,
+    k: usize,
+    first: usize,
+    marks: &mut [u32; 2048],
+) -> Checked
+    requires { ⌜ (4 * (at + 4 * k) ≤ length (now s)) × (k ≤ 2048) ⌝ }
+    ensures { λ r. ⌜ (r ≡ verdict 5 (chainFits (now (s .entry)) at chain k first)) × (r ≡ Checked.Accepted → Adds (now (marks .entry)) (now (marks .exit)) (chainUses (now (s .entry)) at chain k first)) ⌝ }
+{
+    let mut above = k;
+    let mut link = first;
+    while link < above {
+        let Entry::Link(item, next, result) = node_at(s, at, link) else {
+            return Checked::Refused(5);
+        };
+        use_node(marks, link);
+        let Checked::Accepted = use_item(s, at, chain, link, item, marks) else {
+            return Checked::Refused(5);
+        };
+        let Checked::Accepted = use_result(s, at, chain, link, result, marks) else {
+            return Checked::Refused(5);
+        };
+        if next == 4294967295 {
+            return Checked::Accepted;
+        }
+        above = link;
+        link = next;
+    }
+    Checked::Refused(5)
+}
