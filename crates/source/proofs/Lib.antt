@@ -4,4 +4,5 @@ mod Names
 mod Marks
 mod Sorts
 mod Links
+mod Lists
 mod Answers

@@ -138,3 +138,150 @@ fn use_chain(
     }
     Checked::Refused(5)
 }
+
+// Node k, of a record with so many names, uses what one of its words names.
+fn use_child(
+    s: &[u8],
+    at: usize,
+    names: usize,
+    k: usize,
+    child: Child,
+    marks: &mut [u32; 2048],
+) -> Checked
+    requires { ⌜ (4 * (at + 4 * k) ≤ length (now s)) × (k ≤ 2048) ⌝ }
+    ensures { λ r. ⌜ (r ≡ verdict 5 (childFits (now (s .entry)) at names k child)) × (r ≡ Checked.Accepted → Adds (now (marks .entry)) (now (marks .exit)) (childUses (now (s .entry)) at k child)) ⌝ }
+{
+    match child {
+        Child::Nothing => Checked::Accepted,
+        Child::Name(v) => {
+            if v < names {
+                Checked::Accepted
+            } else {
+                Checked::Refused(5)
+            }
+        }
+        Child::Expression(x) => use_expression(s, at, k, x, marks),
+        Child::Pattern(x) => use_pattern(s, at, k, x, marks),
+        Child::Links(chain, x) => use_chain(s, at, chain, k, x, marks),
+        Child::Wrong => Checked::Refused(5),
+    }
+}
+
+fn use_children(
+    s: &[u8],
+    at: usize,
+    names: usize,
+    k: usize,
+    c: Children,
+    marks: &mut [u32; 2048],
+) -> Checked
+    requires { ⌜ (4 * (at + 4 * k) ≤ length (now s)) × (k ≤ 2048) ⌝ }
+    ensures { λ r. ⌜ (r ≡ verdict 5 (childrenFit (now (s .entry)) at names k c)) × (r ≡ Checked.Accepted → Adds (now (marks .entry)) (now (marks .exit)) (childrenUse (now (s .entry)) at k c)) ⌝ }
+{
+    let first = c.first;
+    let Checked::Accepted = use_child(s, at, names, k, first, marks) else {
+        return Checked::Refused(5);
+    };
+    let second = c.second;
+    let Checked::Accepted = use_child(s, at, names, k, second, marks) else {
+        return Checked::Refused(5);
+    };
+    let third = c.third;
+    use_child(s, at, names, k, third, marks)
+}
+
+// Whether n nodes fit; then what they use is marked.
+fn read_nodes(s: &[u8], at: usize, names: usize, n: usize, marks: &mut [u32; 2048]) -> Checked
+    requires { ⌜ (4 * (at + 4 * n) ≤ length (now s)) × (n ≤ 2048) ⌝ }
+    ensures { λ r. ⌜ (r ≡ verdict 5 (nodesFit (now (s .entry)) at names n)) × (r ≡ Checked.Accepted → Adds (now (marks .entry)) (now (marks .exit)) (byNodes (now (s .entry)) at n)) ⌝ }
+{
+    let mut k = 0usize;
+    while k < n {
+        let c = children_of(node_at(s, at, k));
+        let Checked::Accepted = use_children(s, at, names, k, c, marks) else {
+            return Checked::Refused(5);
+        };
+        k += 1;
+    }
+    Checked::Accepted
+}
+
+// Whether n words from word `list` on are names.
+fn read_publics(s: &[u8], names: usize, list: usize, n: usize) -> Checked
+    requires { ⌜ 4 * (list + n) ≤ length (now s) ⌝ }
+    ensures { λ r. ⌜ r ≡ verdict 5 (publicsFit (now (s .entry)) names list n) ⌝ }
+{
+    let mut k = 0usize;
+    while k < n {
+        if names <= count(s, list + k) {
+            return Checked::Refused(5);
+        }
+        k += 1;
+    }
+    Checked::Accepted
+}
+
+// Whether n pairs from word `list` on are a pattern and an expression of the nodes; then these are marked.
+fn read_definitions(
+    s: &[u8],
+    at: usize,
+    nodes: usize,
+    list: usize,
+    n: usize,
+    marks: &mut [u32; 2048],
+) -> Checked
+    requires { ⌜ (4 * (list + 2 * n) ≤ length (now s)) × ((4 * (at + 4 * nodes) ≤ length (now s)) × (nodes ≤ 2048)) ⌝ }
+    ensures { λ r. ⌜ (r ≡ verdict 5 (definitionsFit (now (s .entry)) at nodes list n)) × (r ≡ Checked.Accepted → Adds (now (marks .entry)) (now (marks .exit)) (byDefinitions (now (s .entry)) list n)) ⌝ }
+{
+    let mut k = 0usize;
+    while k < n {
+        let p = count(s, list + 2 * k);
+        let Checked::Accepted = use_pattern(s, at, nodes, p, marks) else {
+            return Checked::Refused(5);
+        };
+        let x = count(s, list + 2 * k + 1);
+        let Checked::Accepted = use_expression(s, at, nodes, x, marks) else {
+            return Checked::Refused(5);
+        };
+        k += 1;
+    }
+    Checked::Accepted
+}
+
+// Whether n words from word `list` on are expressions of the nodes; then these are marked.
+fn read_expressions(
+    s: &[u8],
+    at: usize,
+    nodes: usize,
+    list: usize,
+    n: usize,
+    marks: &mut [u32; 2048],
+) -> Checked
+    requires { ⌜ (4 * (list + n) ≤ length (now s)) × ((4 * (at + 4 * nodes) ≤ length (now s)) × (nodes ≤ 2048)) ⌝ }
+    ensures { λ r. ⌜ (r ≡ verdict 5 (expressionsFit (now (s .entry)) at nodes list n)) × (r ≡ Checked.Accepted → Adds (now (marks .entry)) (now (marks .exit)) (byExpressions (now (s .entry)) list n)) ⌝ }
+{
+    let mut k = 0usize;
+    while k < n {
+        let x = count(s, list + k);
+        let Checked::Accepted = use_expression(s, at, nodes, x, marks) else {
+            return Checked::Refused(5);
+        };
+        k += 1;
+    }
+    Checked::Accepted
+}
+
+// Whether each of the first n marks is 1.
+fn all_once(marks: &[u32; 2048], n: usize) -> bool
+    requires { ⌜ n ≤ 2048 ⌝ }
+    ensures { λ r. ⌜ r ≡ every n (λ k. eqb (getD (now (marks .entry)) k 0) 1) ⌝ }
+{
+    let mut k = 0usize;
+    while k < n {
+        if marks[k] != 1 {
+            return false;
+        }
+        k += 1;
+    }
+    true
+}
