@@ -4,6 +4,7 @@ use super::Checked;
 use super::Child;
 use super::Children;
 use super::Entry;
+use super::Layout;
 use super::asking::children_of;
 use super::count;
 use super::node_at;
@@ -14,7 +15,9 @@ ghost use lib.Dec.{eqb};
 ghost use Rattle.source.specs.Indices.{every};
 ghost use Rattle.source.specs.Nodes.{expressionFits, patternFits, itemFits, resultFits, chainFits, childFits, childrenFit, nodesFit, publicsFit, definitionsFit, expressionsFit};
 ghost use Rattle.source.specs.Uses.{same, resultUses, chainUses, childUses, childrenUse, byNodes, byDefinitions, byExpressions};
-ghost use Rattle.source.specs.Marks.{verdict, bump, Adds, noMarks};
+ghost use Rattle.source.specs.Marks.{verdict, outcome, bump, Adds, noMarks};
+ghost use Rattle.source.specs.Layout.{layoutOf};
+ghost use Rattle.source.specs.Record.{shaped, usedOnce};
 
 fn no_marks() -> [u32; 2048]
     ensures { λ r. ⌜ r ≡ noMarks ⌝ }
@@ -284,4 +287,45 @@ fn all_once(marks: &[u32; 2048], n: usize) -> bool
         k += 1;
     }
     true
+}
+
+// Whether nodes, publics, definitions and expressions fit (not 5), and then every node is used once (not 6).
+pub fn read_trees(s: &[u8], l: Layout) -> Checked
+    requires { ⌜ (l ≡ layoutOf (now s)) × ((l .«text_at» ≤ length (now s)) × (l .nodes ≤ 2048)) ⌝ }
+    ensures { λ r. ⌜ r ≡ outcome (shaped (now (s .entry))) (usedOnce (now (s .entry))) ⌝ }
+{
+    let mut marks = no_marks();
+    let at = l.nodes_at;
+    let nodes = l.nodes;
+    let Checked::Accepted = read_nodes(s, at, l.names, nodes, &mut marks) else {
+        return Checked::Refused(5);
+    };
+    let Checked::Accepted = read_publics(s, l.names, l.publics_at, l.publics) else {
+        return Checked::Refused(5);
+    };
+    let Checked::Accepted = read_definitions(
+        s,
+        at,
+        nodes,
+        l.definitions_at,
+        l.definitions,
+        &mut marks,
+    ) else {
+        return Checked::Refused(5);
+    };
+    let Checked::Accepted = read_expressions(
+        s,
+        at,
+        nodes,
+        l.expressions_at,
+        l.expressions,
+        &mut marks,
+    ) else {
+        return Checked::Refused(5);
+    };
+    if all_once(&marks, nodes) {
+        Checked::Accepted
+    } else {
+        Checked::Refused(6)
+    }
 }
