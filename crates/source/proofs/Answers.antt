@@ -1,6 +1,6 @@
 -- The header, and the numbers in their order. Assumes nothing.
 use Prim.Native.Nat.{ℕ, _+_, _*_, _≤_, _<_}
-use mathlib.Core.Path.{_≡_, refl, sym, ap, _∙_}
+use mathlib.Core.Path.{_≡_, refl, sym, _∙_}
 use mathlib.Core.List.{List}
 use mathlib.Core.Bool.{Bool, true, false, _&&_, _||_}
 use native.Mathlib.Omega.{arith}
@@ -11,7 +11,7 @@ use Rattle.words.specs.Words.{wordAt}
 use Rattle.source.specs.declared.Layout.{Layout}
 use Rattle.source.specs.declared.Checked.{Checked}
 use Rattle.source.specs.Indices.{every}
-use Rattle.source.specs.Layout.{layoutOf, counted, listed, names, publics, definitions, expressions, nodes, publicsAt, definitionsAt, expressionsAt, nodesAt, textAt}
+use Rattle.source.specs.Layout.{layoutOf, counted, listed, names, publics, definitions, expressions, nodes, textAt}
 use Rattle.source.specs.Names.{namesFit, namesDiffer}
 use Rattle.source.specs.Nodes.{nodesFit, publicsFit, definitionsFit, expressionsFit}
 use Rattle.source.specs.Uses.{byNodes, byDefinitions, byExpressions}

@@ -1,8 +1,9 @@
 mod Laws
-mod Nodes
 mod Names
 mod Marks
-mod Sorts
 mod Links
 mod Lists
 mod Answers
+pub mod Sorts
+pub mod Nodes
+pub mod Accepted

@@ -1,9 +1,9 @@
 -- Chains of links by falling index, and the loop along a chain. Assumes nothing.
-use Prim.Native.Nat.{ℕ, zero, suc, _+_, _*_, _≤_, _<_}
+use Prim.Native.Nat.{ℕ, zero, suc, _+_, _≤_, _<_}
 use mathlib.Core.Path.{_≡_, refl, sym, ap, _∙_}
 use mathlib.Core.List.{List, [], _∷_}
-use mathlib.Core.Bool.{Bool, true, false, _&&_, _||_, and-false}
-use mathlib.Core.Logic.{_⊎_, ⊎-elim}
+use mathlib.Core.Bool.{Bool, true, false, _&&_, _||_}
+use mathlib.Core.Logic.{⊎-elim}
 use native.Mathlib.Omega.{arith}
 use denote.Enum.Declared.{tagOf}
 use types.Run.{OneOf, miss}
@@ -19,7 +19,7 @@ use Rattle.source.specs.Indices.{pick}
 use Rattle.source.specs.Nodes.{entryOf, itemFits, resultFits, linkFits, chainFits}
 use Rattle.source.specs.Uses.{same, resultUses, linkUses, chainUses}
 use Rattle.source.specs.Marks.{verdict, bump, Adds}
-use Rattle.source.proofs.Laws.{split, alike}
+use Rattle.source.proofs.Laws.{alike}
 use Rattle.source.proofs.Marks.{accepted, refused, adds-use, adds-none, adds-more, adds-same}
 
 -- ---- by whom an arm result is used

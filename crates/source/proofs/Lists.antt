@@ -1,9 +1,8 @@
 -- What a node's words use, and the loops over nodes and lists. Assumes nothing.
-use Prim.Native.Nat.{ℕ, zero, suc, _+_, _*_, _≤_, _<_}
+use Prim.Native.Nat.{ℕ, _+_, _*_, _≤_, _<_}
 use mathlib.Core.Path.{_≡_, refl, sym, ap, _∙_}
 use mathlib.Core.List.{List}
 use mathlib.Core.Bool.{Bool, true, false, _&&_}
-use native.Mathlib.Omega.{arith}
 use lib.Dec.{ltb}
 use borrow.Author.Tests.{lt-ltb, le-ltb}
 use Rattle.words.specs.Words.{wordAt}
@@ -11,12 +10,12 @@ use Rattle.source.specs.declared.Checked.{Checked}
 use Rattle.source.specs.declared.Entry.{Entry}
 use Rattle.source.specs.declared.Child.{Child}
 use Rattle.source.specs.declared.Children.{Children}
-use Rattle.source.specs.Indices.{every, total}
+use Rattle.source.specs.Indices.{total}
 use Rattle.source.specs.Nodes.{entryOf, expressionFits, patternFits, childFits, childrenOf, childrenFit, nodesFit, publicsFit, definitionsFit, expressionsFit}
 use Rattle.source.specs.Uses.{same, childUses, childrenUse, byNodes, byDefinitions, byExpressions}
 use Rattle.source.specs.Marks.{verdict, Adds}
-use Rattle.source.proofs.Laws.{every-none, every-more, every-fails, every-all, total-more}
-use Rattle.source.proofs.Marks.{accepts, refuses, accepted, refused, adds-none, adds-more, adds-same}
+use Rattle.source.proofs.Laws.{every-none, every-more, every-fails, total-more}
+use Rattle.source.proofs.Marks.{accepted, refused, adds-none, adds-more}
 
 -- ---- a word that uses nothing
 

@@ -1,19 +1,19 @@
 -- The sort of a child, as `let .. else` tells it. Assumes nothing.
-use Prim.Native.Nat.{ℕ, zero, suc, _+_, _*_, _≤_, _<_}
-use mathlib.Core.Path.{_≡_, refl, sym, ap, _∙_}
+use Prim.Native.Nat.{ℕ, _≤_, _<_}
+use mathlib.Core.Path.{_≡_, refl, ap, _∙_}
 use mathlib.Core.List.{List, [], _∷_}
-use mathlib.Core.Bool.{Bool, true, false, _&&_, and-false}
+use mathlib.Core.Bool.{true, false, and-false}
 use denote.Enum.Declared.{tagOf}
 use types.Run.{OneOf, miss}
-use lib.Dec.{ltb, eqb}
-use borrow.Author.Tests.{le-ltb, lt-ltb, ltb-true}
+use borrow.Author.Tests.{le-ltb, lt-ltb}
 use Rattle.source.proofs.Entry
 use Rattle.source.specs.declared.Entry.{Entry as Node}
 use Rattle.source.specs.declared.Form.{Form}
 use Rattle.source.specs.declared.Shape.{Shape}
 use Rattle.source.specs.declared.Chain.{Chain}
-use Rattle.source.specs.Nodes.{entryOf, isExpression, isPattern, expressionFits, patternFits, linkFits}
-use Rattle.source.proofs.Laws.{and-left, and-right}
+use Rattle.source.specs.Nodes.{entryOf, isExpression, isPattern, expressionFits, patternFits, chainFits}
+use Rattle.source.proofs.Laws.{not-both}
+use Rattle.source.proofs.Nodes.{ExpressionBelow, PatternBelow, link-of}
 
 not-expression : (e : Node) → OneOf (1 ∷ 2 ∷ 3 ∷ []) (tagOf Entry.the-type e) → isExpression e ≡ false
 unfolding isExpression
@@ -53,3 +53,15 @@ module _ (b : List ℕ) (at k x : ℕ) where
   pub pattern-is : {e : Node} {p : Shape} → x < k → e ≡ entryOf b at x → e ≡ Node.Pattern p → patternFits b at k x ≡ true
   unfolding patternFits isPattern
   pattern-is l q h = rw (← q, h, lt-ltb x k l)
+
+-- what fits is of its sort: the `else` of a walk over an accepted record is never met
+pub sure-expression : (b : List ℕ) (at k x : ℕ) {e : Node} → ExpressionBelow b at k x → e ≡ entryOf b at x → OneOf (1 ∷ 2 ∷ 3 ∷ []) (tagOf Entry.the-type e) → ⊥
+sure-expression b at k x {e} f q o = not-both (not-expression e o) (ap isExpression q ∙ f .sort)
+
+pub sure-pattern : (b : List ℕ) (at k x : ℕ) {e : Node} → PatternBelow b at k x → e ≡ entryOf b at x → OneOf (0 ∷ 2 ∷ 3 ∷ []) (tagOf Entry.the-type e) → ⊥
+sure-pattern b at k x {e} f q o = not-both (not-pattern e o) (ap isPattern q ∙ f .sort)
+
+pub sure-link : (b : List ℕ) (at : ℕ) (h : Chain) (k x : ℕ) {e : Node} → chainFits b at h k x ≡ true → e ≡ entryOf b at x → OneOf (0 ∷ 1 ∷ 3 ∷ []) (tagOf Entry.the-type e) → ⊥
+sure-link b at h k x {e} f q o =
+    let w = link-of b at h k x f in
+    miss (0 ∷ 1 ∷ 3 ∷ []) 2 tt (rw (q ∙ w .3) at o)
