@@ -1,7 +1,9 @@
-"""Flat records, the oracle's answers to them, and the cases that the program flat_replay reads. Used by flat_cases.py and compare_flat.py.
+"""Flat records, the oracle's answers to them, and the cases that the program flat_replay reads.
 
-The oracle is the passes of the unchanged Rust around the records of document 01: `oracle batch flat` answers a hexadecimal
-flat record a line by `ok cons=HEX` with the constraint record, or by `refused N`.
+Used by flat_cases.py and compare_flat.py. The oracle is the unchanged Rust with a reader and a writer of document 01's
+records around it: `oracle batch flat` answers a hexadecimal flat record a line by `ok cons=HEX`, the constraint record, or by
+`refused N`; `oracle gen-flat SEED COUNT` and `gen-src SEED COUNT KIND` print random records, `batch src` answers source records
+with their flat records, and `asm FILE` turns a module's text form into a source record.
 
 An expression is a tuple: ("v", id), ("c", number), ("-", e), or (operator 0 to 8, e, e).
 """

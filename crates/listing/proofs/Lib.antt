@@ -4,3 +4,4 @@ pub mod Parts
 pub mod Read
 pub mod Forms
 pub mod Wide
+pub mod Listed

@@ -42,7 +42,8 @@ fn print_lines(s: &[u8], at: usize, n: usize)
     }
 }
 
-// "next N", then a line for each equality, on standard output. Nothing of a record that lacks its header.
+// The text of a record, `textOf` of specs/Reading.antt, on standard output, which no contract can speak of. Nothing of a
+// record that lacks its header, and only the lines of those equalities that the record has.
 pub fn print_equalities(s: &[u8]) {
     if s.len() < 24 {
         return;
