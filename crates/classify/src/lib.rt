@@ -139,6 +139,7 @@ fn add_witnesses(usage: &[u8; 65536], next: usize, provers: &mut [u8; 65536])
     }
 }
 
+// An array by id in which nothing is marked.
 pub fn no_marks() -> [u8; 65536]
     ensures { λ r. ⌜ r ≡ noMarks ⌝ }
 {

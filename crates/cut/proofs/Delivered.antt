@@ -2,12 +2,10 @@
 -- Assumes nothing.
 use Prim.Native.Nat.{ℕ, _+_, _-_, _*_, _/_, _≤_, _<_}
 use mathlib.Core.Path.{_≡_, refl, sym, ap, ap₂, _∙_}
-use mathlib.Core.List.{List, [], _∷_, _++_, append-assoc}
-use mathlib.Core.Bool.{Bool, true, false}
+use mathlib.Core.List.{List, _++_, append-assoc}
 use native.Mathlib.Omega.{arith}
 use lib.ListN.{length, take, drop, length-append}
 use lib.Seq.{paste, take-at, drop-append-add, drop-drop, length-take-le}
-use lib.Dec.{leb}
 use borrow.Author.Tests.{le-leb, lt-leb}
 use Rattle.words.specs.Words.{setWords, bytesOf}
 use Rattle.words.proofs.Laws.{setWords-bytes, bytesOf-append, length-bytesOf}
@@ -17,7 +15,6 @@ use Rattle.constraint.specs.Record.{headerWords, constraintWords, constraintByt
 use Rattle.flat.specs.Trees.{definitionsNodes}
 use Rattle.constraint.proofs.Lengths.{length-bytes}
 use Rattle.passes.specs.Passes.{cut}
-use Rattle.cut.specs.declared.Answer.{Answer}
 use Rattle.cut.specs.declared.Answer.the-variants.{Written, Refused}
 use Rattle.cut.specs.declared.body.Built.{Built}
 use Rattle.cut.specs.Body.{bodyWords, Made}

@@ -4,7 +4,6 @@ use mathlib.Core.List.{List, _++_}
 use lib.ListN.{length, drop}
 use lib.Dec.{leb}
 use Rattle.flat.specs.Record.{pick, Read, flatOf}
-use Rattle.constraint.specs.Trees.{ConstraintModule}
 use Rattle.constraint.specs.Record.{constraintBytes}
 use Rattle.passes.specs.Passes.{Outcome, cut, refused, cutOf}
 use Rattle.cut.specs.declared.Answer.{Answer}

@@ -1,10 +1,7 @@
+-- `cut::deliver` meets its contract. Assumes nothing.
 use borrow.Author.Needs.{needs}
 use Rattle.cut.proofs.deliver.Statement.{statement}
 use Rattle.cut.proofs.deliver.Tie as tie
-use Rattle.cut.proofs.deliver.Reads as reads
-use Rattle.cut.proofs.deliver.Lts as lts
-use Rattle.constraint.proofs.put_header.Reads as put-header-reads
-use Rattle.cut.proofs.lists.copy_to.Reads as copy-to-reads
 use borrow.Author.Needs.{needs}
 use native.Mathlib.Omega.{arith}
 use Rattle.cut.proofs.Delivered.{not-delivered, delivered}

@@ -1,21 +1,13 @@
+-- `cut::lists::copy_to` meets its contract. Assumes nothing.
 use Rattle.cut.proofs.lists.copy_to.Statement.{statement}
 use Rattle.cut.proofs.lists.copy_to.Tie as tie
-use Rattle.cut.proofs.lists.copy_to.Reads as reads
-use Rattle.cut.proofs.lists.copy_to.Lts as lts
 use borrow.Author.Needs.{needs}
 use native.Mathlib.Omega.{arith}
-use Prim.Native.Nat.{ℕ, suc, _-_, _+_, _*_, _≤_, _<_}
-use mathlib.Core.Path.{_≡_, refl, _∙_, ap, sym}
+use Prim.Native.Nat.{ℕ, suc, _-_, _+_, _≤_, _<_}
+use mathlib.Core.Path.{_≡_, refl, _∙_, ap}
 use mathlib.Core.List.{List}
 use lib.ListN.{length, set, length-set, getD}
 use lib.Seq.{paste, paste-zero, paste-suc}
-use Rattle.words.specs.Words.{wordAt, setWord, setWords}
-use Rattle.words.proofs.Laws.{length-setWord}
-use Rattle.flat.specs.Record.{rows}
-use Rattle.passes.specs.Passes.{idsFrom}
-use Rattle.classify.specs.Arrays.{marked}
-use Rattle.cut.specs.Body.{noBody, noList}
-use Rattle.cut.proofs.Turns.{row-turn, row-end, id-kept, id-left, left-written, kept-written, Writing, writing-start, writing-turn, writing-end}
 
 abbrev Inv-loop : tie.InvT-loop
 Inv-loop from n out₀ to i₀ out i = ((out ≡ paste out₀ to from i) × (i ≤ n)) × (length out ≡ length out₀)

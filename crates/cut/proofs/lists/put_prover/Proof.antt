@@ -1,23 +1,10 @@
+-- `cut::lists::put_prover` meets its contract. Assumes nothing.
 use borrow.Author.Needs.{needs}
 use Rattle.cut.proofs.lists.put_prover.Statement.{statement}
 use Rattle.cut.proofs.lists.put_prover.Tie as tie
-use Rattle.cut.proofs.lists.put_prover.Reads as reads
-use Rattle.cut.proofs.lists.put_prover.Lts as lts
-use Rattle.words.proofs.put_word.Reads as put-word-reads
 use borrow.Author.Needs.{needs}
-use native.Mathlib.Omega.{arith}
-use Prim.Native.Nat.{ℕ, _-_, _+_, _*_, _≤_, _<_}
-use mathlib.Core.Path.{_≡_, refl, _∙_, ap, sym}
-use mathlib.Core.List.{List}
-use lib.ListN.{length, set, length-set, getD}
-use lib.Seq.{paste, paste-zero, paste-suc}
-use Rattle.words.specs.Words.{wordAt, setWord, setWords}
-use Rattle.words.proofs.Laws.{length-setWord}
-use Rattle.flat.specs.Record.{rows}
-use Rattle.passes.specs.Passes.{idsFrom}
-use Rattle.classify.specs.Arrays.{marked}
-use Rattle.cut.specs.Body.{noBody, noList}
-use Rattle.cut.proofs.Turns.{row-turn, row-end, id-kept, id-left, left-written, kept-written, Writing, writing-start, writing-turn, writing-end}
+use mathlib.Core.Path.{_∙_}
+use Rattle.cut.proofs.Turns.{id-kept, id-left, left-written, kept-written}
 
 element-copy-out-if1 : tie.Need-element-copy-out-if1
 element-copy-out-if1 c = search needs

@@ -1,22 +1,11 @@
+-- `cut::lists::put_provers` meets its contract. Assumes nothing.
 use Rattle.cut.proofs.lists.put_provers.Statement.{statement}
 use Rattle.cut.proofs.lists.put_provers.Tie as tie
-use Rattle.cut.proofs.lists.put_provers.Reads as reads
-use Rattle.cut.proofs.lists.put_provers.Lts as lts
-use Rattle.cut.proofs.lists.put_prover.Reads as put-prover-reads
 use borrow.Author.Needs.{needs}
 use native.Mathlib.Omega.{arith}
-use Prim.Native.Nat.{ℕ, _-_, _+_, _*_, _≤_, _<_}
-use mathlib.Core.Path.{_≡_, refl, _∙_, ap, sym}
-use mathlib.Core.List.{List}
-use lib.ListN.{length, set, length-set, getD}
-use lib.Seq.{paste, paste-zero, paste-suc}
-use Rattle.words.specs.Words.{wordAt, setWord, setWords}
-use Rattle.words.proofs.Laws.{length-setWord}
-use Rattle.flat.specs.Record.{rows}
-use Rattle.passes.specs.Passes.{idsFrom}
+use Prim.Native.Nat.{_-_}
 use Rattle.classify.specs.Arrays.{marked}
-use Rattle.cut.specs.Body.{noBody, noList}
-use Rattle.cut.proofs.Turns.{row-turn, row-end, id-kept, id-left, left-written, kept-written, Writing, writing-start, writing-turn, writing-end}
+use Rattle.cut.proofs.Turns.{Writing, writing-start, writing-turn, writing-end}
 
 abbrev Inv-loop : tie.InvT-loop
 Inv-loop provers next body₀ at to₀ v₀ body to v = Writing (marked provers) next at v to body body₀

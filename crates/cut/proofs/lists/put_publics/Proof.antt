@@ -1,23 +1,16 @@
+-- `cut::lists::put_publics` meets its contract. Assumes nothing.
 use Rattle.cut.proofs.lists.put_publics.Statement.{statement}
 use Rattle.cut.proofs.lists.put_publics.Tie as tie
-use Rattle.cut.proofs.lists.put_publics.Reads as reads
-use Rattle.cut.proofs.lists.put_publics.Lts as lts
-use Rattle.words.proofs.put_word.Reads as put-word-reads
-use Rattle.words.proofs.word_at.Reads as word-at-reads
 use borrow.Author.Needs.{needs}
 use native.Mathlib.Omega.{arith}
-use Prim.Native.Nat.{ℕ, _-_, _+_, _*_, _≤_, _<_}
-use mathlib.Core.Path.{_≡_, refl, _∙_, ap, sym}
+use Prim.Native.Nat.{ℕ, _-_, _+_, _≤_}
+use mathlib.Core.Path.{_≡_, refl, _∙_, ap}
 use mathlib.Core.List.{List}
-use lib.ListN.{length, set, length-set, getD}
-use lib.Seq.{paste, paste-zero, paste-suc}
-use Rattle.words.specs.Words.{wordAt, setWord, setWords}
+use lib.ListN.{length}
+use Rattle.words.specs.Words.{wordAt, setWords}
 use Rattle.words.proofs.Laws.{length-setWord}
 use Rattle.flat.specs.Record.{rows}
-use Rattle.passes.specs.Passes.{idsFrom}
-use Rattle.classify.specs.Arrays.{marked}
-use Rattle.cut.specs.Body.{noBody, noList}
-use Rattle.cut.proofs.Turns.{row-turn, row-end, id-kept, id-left, left-written, kept-written, Writing, writing-start, writing-turn, writing-end}
+use Rattle.cut.proofs.Turns.{row-turn, row-end}
 
 abbrev Inv-loop : tie.InvT-loop
 Inv-loop s n body₀ k₀ body k = ((setWords body k (rows (n - k) k (λ j. wordAt s (6 + j))) ≡ setWords body₀ 0 (rows n 0 (λ j. wordAt s (6 + j)))) × (k ≤ n)) × (length body ≡ length body₀)

@@ -1,0 +1,13 @@
+-- `cutting::simplify::plain` meets its contract. Assumes nothing.
+use Rattle.cutting.proofs.simplify.plain.Statement.{statement}
+use Rattle.cutting.proofs.simplify.plain.Tie as tie
+use mathlib.Core.Path.{refl}
+use Rattle.cutting.specs.Cutting.{equalityOf}
+use Rattle.constraint.specs.Trees.{written, operation, first, second}
+
+returns : tie.Need-returns
+unfolding equalityOf written operation first second
+returns c = refl
+
+pub plain-spec : {M : Type 1} → statement M
+plain-spec = tie.close (tie.spec returns)

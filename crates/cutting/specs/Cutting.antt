@@ -1,0 +1,83 @@
+-- What the code of the last pass answers, by the definitions of the passes.
+use mathlib.Core.List.{List}
+use mathlib.Core.Bool.{not}
+use mathlib.Core.Option.{Option, none, some}
+use Prim.Native.Nat.{ℕ, _+_, _*_, _≤_}
+use lib.ListN.{length}
+use Rattle.words.specs.Words.{setWords}
+use Rattle.flat.specs.Trees.{Flat, Definition, Equation}
+use Rattle.flat.specs.Record.{moduleOf}
+use Rattle.constraint.specs.declared.Term.{Term}
+use Rattle.constraint.specs.declared.Equality.{Equality as Written}
+use Rattle.constraint.specs.Trees.{Side, Equality, written}
+use Rattle.constraint.specs.Record.{equalitiesWords}
+use Rattle.passes.specs.Passes.{those, isNever, usage, classifyDefs, Substitutions, copyPropagateExpr, copyPropagateDefs, afterDefs, copyPropagateEquations, alive, flattenExprTo3ac, flattenDefs, flattenEquations, Cut as Cutting, Cuts}
+use Rattle.copies.specs.declared.Copied.{Copied}
+use Rattle.cutting.specs.declared.Target.{Target}
+use Rattle.cutting.specs.declared.Target.the-variants.{New, Given}
+use Rattle.cutting.specs.declared.Cut.{Cut}
+use Rattle.cutting.specs.declared.Place.{Place}
+use Rattle.cutting.specs.declared.Sides.{Sides}
+use Rattle.cutting.specs.declared.Sides.the-variants.{Left, Right, Neither}
+
+-- the equality of a left term and a right side
+unfoldable pub equalityOf : Term → Side → Written
+equalityOf left right = written (record { left = left; right = right })
+
+-- a left side that is given, or none
+unfoldable pub targetOf : Target → Option Term
+targetOf New = none
+targetOf (Given t) = some t
+
+-- a tree with the substitutions made, cut
+unfoldable pub treeCut : Target → ℕ → Substitutions → Flat → ℕ → Cutting
+treeCut target steps s e next = flattenExprTo3ac (targetOf target) (copyPropagateExpr steps s e) next
+
+-- the body with equalities from word `at` on, and the word after them: "an equality is seven words"
+unfoldable pub putEqualities : List ℕ → ℕ → List Equality → List ℕ
+putEqualities body at qs = setWords body at (equalitiesWords qs)
+
+unfoldable pub after : ℕ → List Equality → ℕ
+after at qs = at + 7 * length qs
+
+-- the code's answer for a cut whose equalities are written from word `at` on
+unfoldable pub cutFrom : ℕ → Cutting → Cut
+cutFrom at c = record { term = c .term; next = c .next; at = after at (c .equalities) }
+
+-- room for an equality of each of n nodes, and ids for them
+pub record Room (n at next : ℕ) (body : List ℕ) : Type 0 where
+  pub words : 4 * (at + 7 * n) ≤ length body
+  pub ids : next + n ≤ 131072
+
+-- ---- lists
+
+-- the code's answer for cuts whose equalities are written from word `at` on
+unfoldable pub placeFrom : ℕ → Cuts → Place
+placeFrom at c = record { next = c .next; at = after at (c .equalities) }
+
+-- of the record with the bytes b: the prover ids after classify_defs, and those of some definitions that are used
+unfoldable pub proversOf : List ℕ → List ℕ
+proversOf b = classifyDefs (moduleOf b) .provers
+
+unfoldable pub usedOf : List ℕ → List Definition → List Definition
+usedOf b ds = those (λ v. not (isNever (usage (moduleOf b) v))) ds
+
+-- definitions of that record, those that are used, with the substitutions made one after the other: cut, and the substitutions after them
+unfoldable pub defsCut : List ℕ → ℕ → Substitutions → List Definition → ℕ → Cuts
+defsCut b steps s ds next = flattenDefs (proversOf b) (copyPropagateDefs (proversOf b) steps s (usedOf b ds)) next
+
+unfoldable pub defsAfter : List ℕ → ℕ → Substitutions → List Definition → Substitutions
+defsAfter b steps s ds = afterDefs (proversOf b) steps s (usedOf b ds)
+
+-- equations with the substitutions made, those that are not obviously true: cut
+unfoldable pub equationsCut : ℕ → Substitutions → List Equation → ℕ → Cuts
+equationsCut steps s es next = flattenEquations (alive (copyPropagateEquations steps s es)) next
+
+-- which side of an equation is the left term, by the sides' roots: "a left variable, else a right variable, else a left constant, else a right constant"
+unfoldable pub sidesOf : Copied → Copied → Sides
+sidesOf Copied.Tree Copied.Tree = Neither
+sidesOf Copied.Tree (Copied.Leaf y) = Right y
+sidesOf (Copied.Leaf x) Copied.Tree = Left x
+sidesOf (Copied.Leaf (Term.Variable v)) (Copied.Leaf y) = Left (Term.Variable v)
+sidesOf (Copied.Leaf (Term.Constant c)) (Copied.Leaf (Term.Variable w)) = Right (Term.Variable w)
+sidesOf (Copied.Leaf (Term.Constant c)) (Copied.Leaf (Term.Constant d)) = Left (Term.Constant c)
