@@ -1,4 +1,4 @@
--- The theorem at a module: pub x; def y = 1 / x; def x = x * (def y = x + 1; y * y); x = w.
+-- The theorem at a module: pub x; def y = 1 / x; def x = x * (def x = x + 1; x * x); x = w.
 -- The unused division leaves no equality. Where x is not 0, w is x * (x + 1) * (x + 1) just if the equalities have a solution, and then one only
 use mathlib.Core.Path.{_≡_, refl}
 use mathlib.Core.List.{[], _∷_}

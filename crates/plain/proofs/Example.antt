@@ -1,5 +1,5 @@
--- A plain module with a public name, a name defined over an input, a let that hides a name, and an unused division: the theorem at it.
--- pub x; def y = 1 / x; def x = x * (def y = x + 1; y * y); x = w
+-- A plain module with a public name, a name defined over an input, a let that hides the name it reads, and an unused division: the theorem at it.
+-- pub x; def y = 1 / x; def x = x * (def x = x + 1; x * x); x = w
 use mathlib.Core.Path.{_≡_, refl}
 use mathlib.Core.Bool.{true, false, cond}
 use mathlib.Core.List.{[], _∷_}
@@ -29,7 +29,7 @@ source = record {
   publics = 0 ∷ [];
   definitions =
       (variableP 1, binary Divide (constant (pos 1)) (variable 0))
-      ∷ (variableP 0, binary Multiply (variable 0) (letting (variableP 1) (binary Add (variable 0) (constant (pos 1))) (binary Multiply (variable 1) (variable 1))))
+      ∷ (variableP 0, binary Multiply (variable 0) (letting (variableP 0) (binary Add (variable 0) (constant (pos 1))) (binary Multiply (variable 0) (variable 0))))
       ∷ [];
   expressions = binary Equal (variable 0) (variable 2) ∷ [];
 }

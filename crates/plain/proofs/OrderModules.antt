@@ -147,6 +147,10 @@ module _ (B : ℕ → Bool) (N : ℕ) (beyond : (x : ℕ) → N ≤ x → B x �
       (subst (All (Sides (s2 .next))) (sym (w .equations ∙ b .equations)) (sides-up (s .next) (s2 .next) n (s .equations) tm)) in
       record { tidy = rest .tidy; next = le-trans n (rest .next); free = rest .free; scope = rest .scope; sides = rest .sides }
 
+  -- an equation joins those that were there
+  pushed : (n : ℕ) (q : Equation) (es fs gs : List Equation) → gs ≡ q ∷ fs → fs ≡ es → Sides n q → All (Sides n) es → All (Sides n) gs
+  pushed n q es fs gs e f h k = subst (All (Sides n)) (sym (e ∙ ap (λ (l : List Equation). q ∷ l) f)) (h, k)
+
   equation-shape : {k lo one two : ℕ} {Γ : List ℕ} (l : ℕ) (a b : Expr) (s u : State) (v : Expr) → Scoped B k Γ a → Scoped B k Γ b → Spans lo a one → Spans one b two → two ≤ N → evaluate l (binary Equal a b) s ≡ gives v u → k ≤ s .next → Tidy B N beyond lo s → Free B N beyond s → InScope B N beyond Γ s → All (Sides (s .next)) (s .equations) → Behind two Γ s u
   unfolding evaluate step refuse
   equation-shape zero a b s u v p q sp sq hn e h c f g tm = absurd (refused-gives 19 v u e)
@@ -165,8 +169,8 @@ module _ (B : ℕ → Bool) (N : ℕ) (beyond : (x : ℕ) → N ≤ x → B x �
         next = n;
         free = free-alike B N beyond al f;
         scope = scope-alike B N beyond n al g;
-        sides = subst (All (Sides (u .next))) (sym (x .equations ∙ ap (λ (l : List Equation). record { left = x .left-tree; right = x .right-tree } ∷ l) (r′ .equations ∙ r .equations)))
-            ((ul .ids (x .left-tree) (x .left-is), ur .ids (x .right-tree) (x .right-is), ul .cuts (x .left-tree) (x .left-is), ur .cuts (x .right-tree) (x .right-is)), sides-up (s .next) (u .next) n (s .equations) tm);
+        sides = pushed (u .next) (record { left = x .left-tree; right = x .right-tree }) (s .equations) (s2 .equations) (u .equations) (x .equations) (r′ .equations ∙ r .equations)
+            (ul .ids (x .left-tree) (x .left-is), ur .ids (x .right-tree) (x .right-is), ul .cuts (x .left-tree) (x .left-is), ur .cuts (x .right-tree) (x .right-is)) (sides-up (s .next) (u .next) n (s .equations) tm);
       }
 
   equations-shape : {k lo hi : ℕ} {Γ : List ℕ} {es : List Expr} (l : ℕ) (s u : State) (y : Done) → ScopedEquations B k Γ es → SpansEquations lo es hi → hi ≤ N → evaluateExprs l es s ≡ gives y u → k ≤ s .next → Tidy B N beyond lo s → Free B N beyond s → InScope B N beyond Γ s → All (Sides (s .next)) (s .equations) → Behind hi Γ s u
