@@ -1,1 +1,8 @@
 pub mod Trees
+pub mod Indices
+pub mod Layout
+pub mod Names
+pub mod Nodes
+pub mod Uses
+pub mod Record
+pub mod Marks

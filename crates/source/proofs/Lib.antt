@@ -1,0 +1,4 @@
+mod Laws
+mod Nodes
+mod Names
+mod Answers
