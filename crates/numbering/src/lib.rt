@@ -1,0 +1,1 @@
+// Variable numbering: names become ids.
