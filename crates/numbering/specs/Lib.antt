@@ -1,3 +1,5 @@
 pub mod Numbering
 pub mod Inputs
 pub mod Statements
+pub mod Numbers
+pub mod Walks

@@ -1,0 +1,101 @@
+-- For the contracts of numbering's private functions: what its rows hold, how its undo list is unwound, and what a walk over a node leaves.
+use Prim.Native.Nat.{ℕ, zero, suc, _+_, _*_, _-_, _≤_, _<_}
+use mathlib.Core.Path.{_≡_}
+use mathlib.Core.List.{List}
+use mathlib.Core.Bool.{Bool, true, false}
+use mathlib.Core.Option.{Option, none, some}
+use lib.ListN.{length, getD, set}
+use lib.Dec.{eqb}
+use Rattle.source.specs.declared.Chain.{Chain}
+use Rattle.source.specs.Trees.{Pat, Expr, Items, Arms}
+use Rattle.source.specs.Indices.{total}
+use Rattle.source.specs.Nodes.{entryOf, childrenOf, isExpression, isPattern, chainFits, nodesFit}
+use Rattle.source.specs.Uses.{same, chainUses, childrenUse}
+use Rattle.source.specs.Record.{tree}
+use Rattle.numbering.specs.Numbering.{Ids, Names, Naming, found, numberVariable, numberPatternVariables, numberParameters, numberExprVariables, numberItems, numberArms}
+use Rattle.numbering.specs.Numbers.{numberedTree}
+
+-- ---- rows: for each name 0, or one more than its id
+
+unfoldable pub coded : Option ℕ → ℕ
+coded none = 0
+coded (some i) = suc i
+
+abbrev pub Holds : List ℕ → Ids → Type 0
+Holds row ids = (x : ℕ) → x < 512 → getD row x 0 ≡ coded (found x ids)
+
+abbrev pub names : Ids → ℕ → Names
+names g n = record { globals = g; next = n }
+
+-- ---- the undo list: names, and what their rows held before; n entries from `base` on are undone from the last to the first
+unfoldable pub unwound : List ℕ → List ℕ → ℕ → ℕ → List ℕ → List ℕ
+unwound undo old base zero row = row
+unwound undo old base (suc n) row = unwound undo old base n (set row (getD undo (base + n) 0) (getD old (base + n) 0))
+
+-- two lists are the same below an index
+abbrev pub SameBelow : ℕ → List ℕ → List ℕ → Type 0
+SameBelow n s t = (i : ℕ) → i < n → getD t i 0 ≡ getD s i 0
+
+-- ---- the nodes of a node's tree
+
+module _ (b : List ℕ) (at : ℕ) where
+  -- the sum of `own` over the nodes of the tree of node k, of the first n: its own, and those of the nodes that it uses
+  unfoldable pub summed : (ℕ → ℕ) → ℕ → ℕ → ℕ
+  summed own zero k = 0
+  summed own (suc n) k = elim (eqb k n) [ true ↦ own n + total n (λ c. childrenUse b at n (childrenOf (entryOf b at n)) c * summed own n c) | false ↦ summed own n k ]
+
+  unfoldable pub weight : (ℕ → ℕ) → ℕ → ℕ
+  weight own k = summed own (suc k) k
+
+  -- over the chain from link l on, of the first n nodes
+  unfoldable pub chainWeight : ℕ → (ℕ → ℕ) → Chain → ℕ → ℕ
+  chainWeight n own h l = total n (λ c. chainUses b at h (suc l) l c * weight own c)
+
+-- how many nodes; how often node j
+unfoldable pub each : ℕ → ℕ
+each k = 1
+
+-- ---- what a walk is asked
+
+-- n nodes that fit, of a record with so many names
+pub record Walkable (b : List ℕ) (at names n : ℕ) : Type 0 where
+  pub fit : nodesFit b at names n ≡ true
+  pub long : 4 * (at + 4 * n) ≤ length b
+  pub few-names : names ≤ 512
+  pub few-nodes : n ≤ 2048
+
+-- a walk over nodes whose weight is w: each is met once, and there is room for an undo entry and an id at each
+pub record Room (w : (ℕ → ℕ) → ℕ) (next top : ℕ) : Type 0 where
+  pub met-once : (j : ℕ) → w (same j) ≤ 1
+  pub entries : top + w each ≤ 2048
+  pub ids : next + w each ≤ 65536
+
+-- ---- what a walk leaves
+
+-- an array has changed only at the nodes of the walk, and another agrees with it there
+abbrev pub Else : ((ℕ → ℕ) → ℕ) → List ℕ → List ℕ → Type 0
+Else w s t = (j : ℕ) → w (same j) ≡ 0 → getD t j 0 ≡ getD s j 0
+
+abbrev pub Agree : ((ℕ → ℕ) → ℕ) → List ℕ → List ℕ → Type 0
+Agree w s t = (j : ℕ) → 0 < w (same j) → getD t j 0 ≡ getD s j 0
+
+-- what a walk has of patterns: `numbering` is the definition for what is walked over, `value` what it then stands for by an array of ids
+pub record Bound {A : Type 0} (w : (ℕ → ℕ) → ℕ) (numbering : Ids → Naming (A × Ids)) (value : List ℕ → A) (next top : ℕ) (locals undo old ids : List ℕ) (next′ : ℕ) (locals′ undo′ old′ ids′ : List ℕ) : Type 0 where
+  pub more : next ≤ next′
+  pub few : next′ ≤ next + w each
+  pub undo-below : SameBelow top undo undo′
+  pub old-below : SameBelow top old old′
+  pub undo-names : (i : ℕ) → top ≤ i → i < top + (next′ - next) → getD undo′ i 0 < 512
+  pub unwinds : unwound undo′ old′ top (next′ - next) locals′ ≡ locals
+  pub elsewhere : Else w ids ids′
+  pub numbers : (l : Ids) (g : Names) (final : List ℕ) → Holds locals l → g .next ≡ next → Agree w ids′ final → (l′ : Ids) × ((numbering l g ≡ ((value final, l′), names (g .globals) next′)) × Holds locals′ l′)
+
+-- what it leaves of expressions: the locals are as they were
+pub record Walked {A : Type 0} (w : (ℕ → ℕ) → ℕ) (numbering : Ids → Naming A) (value : List ℕ → A) (next top : ℕ) (locals globals undo old ids : List ℕ) (next′ : ℕ) (locals′ globals′ undo′ old′ ids′ : List ℕ) : Type 0 where
+  pub more : next ≤ next′
+  pub few : next′ ≤ next + w each
+  pub undo-below : SameBelow top undo undo′
+  pub old-below : SameBelow top old old′
+  pub same-locals : locals′ ≡ locals
+  pub elsewhere : Else w ids ids′
+  pub numbers : (l : Ids) (g : Names) (final : List ℕ) → Holds locals l → Holds globals (g .globals) → g .next ≡ next → Agree w ids′ final → (gs : Ids) × ((numbering l g ≡ (value final, names gs next′)) × Holds globals′ gs)
