@@ -2,3 +2,6 @@ pub mod Lists
 pub mod Names
 pub mod Facts
 pub mod Cases
+mod Laws
+mod Sums
+mod Weights
