@@ -8,4 +8,3 @@ pub struct Built {
     pub kept: usize,
     pub nodes: usize,
 }
-

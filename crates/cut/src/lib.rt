@@ -38,9 +38,16 @@ fn deliver(built: Built, publics: usize, body: &[u8], list: &[u8], out: &mut [u8
     if out.len() < size {
         return Answer::Refused(33);
     }
-    put_header(out, built.next, publics as u32, (start - publics) as u32, ((equalities - start) / 7) as u32, ((kept - equalities) / 2) as u32, nodes as u32);
+    put_header(
+        out,
+        built.next,
+        publics as u32,
+        (start - publics) as u32,
+        ((equalities - start) / 7) as u32,
+        ((kept - equalities) / 2) as u32,
+        nodes as u32,
+    );
     copy_to(body, 4 * kept, out, 24);
     copy_to(list, 16 * nodes, out, 24 + 4 * kept);
     Answer::Written(size)
 }
-

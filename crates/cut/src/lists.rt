@@ -1,6 +1,5 @@
 // The lists that the body takes over as they are, and copies of bytes.
 ghost use mathlib.Core.Path.{_≡_};
-
 ghost use Prim.Native.Nat.{_+_, _*_, _≤_, _<_};
 ghost use lib.ListN.{length};
 ghost use lib.Seq.{paste};

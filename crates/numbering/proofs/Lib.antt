@@ -5,3 +5,4 @@ pub mod Cases
 mod Laws
 mod Sums
 mod Weights
+mod Held

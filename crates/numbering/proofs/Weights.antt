@@ -127,7 +127,7 @@ module _ (b : List ℕ) (at : ℕ) where
         same-no (k .item) c (λ z. omega (arith, item-below h x (k .item) (k .item-fits))),
         result-below h x (k .result) c (k .result-fits) (omega arith),
         pick-zero (eqb (k .next) 4294967295) (chainUses b at h x (k .next) c)
-        (λ z. ap (λ (m : ℕ). chainUses b at h m (k .next) c) g ∙ chain-below h n (k .next) c (sym (ap (λ (m : ℕ). chainFits b at h m (k .next)) g) ∙ or-second _ _ (k .rest-fits) z) (omega arith)),
+            (λ z. ap (λ (m : ℕ). chainUses b at h m (k .next) c) g ∙ chain-below h n (k .next) c (sym (ap (λ (m : ℕ). chainFits b at h m (k .next)) g) ∙ or-second _ _ (k .rest-fits) z) (omega arith)),
       ))
       (λ (g : x ≡ n → ⊥).
       chain-settled h (suc n) x c (f .0) ∙ sym (chain-settled h n x c (omega (arith, f .0))) ∙ chain-below h n x c (fits-less h n x g e) (omega arith))
@@ -259,9 +259,9 @@ module _ (b : List ℕ) (at : ℕ) where
         let w = weight b at own in
         let u : ℕ → ℕ → ℕ = λ j c. childrenUse b at j (childrenOf (entryOf b at j)) c in
         let s1 : total n w ≡ total n (λ c. byNodes b at n c * w c) + total n (λ c. root c * w c) =
-            total-same n _ _ (λ c l. sym (one-mul (w c)) ∙ ap (λ (x : ℕ). x * w c) (sym (one c l))) ∙ total-add n (byNodes b at n) root w in
+        total-same n _ _ (λ c l. sym (one-mul (w c)) ∙ ap (λ (x : ℕ). x * w c) (sym (one c l))) ∙ total-add n (byNodes b at n) root w in
         let s2 : total n w ≡ total n own + total n (λ j. total n (λ c. u j c * w c)) =
-            total-same n _ _ (λ k l. uses-weigh own k l) ∙ total-sum n own (λ j. total n (λ c. u j c * w c)) in
+        total-same n _ _ (λ k l. uses-weigh own k l) ∙ total-sum n own (λ j. total n (λ c. u j c * w c)) in
         let s3 : total n (λ c. byNodes b at n c * w c) ≡ total n (λ j. total n (λ c. u j c * w c)) =
-            total-same n _ _ (λ c l. total-times n (λ j. u j c) (w c)) ∙ total-exchange n n (λ j c. u j c * w c) in
+        total-same n _ _ (λ c l. total-times n (λ j. u j c) (w c)) ∙ total-exchange n n (λ j c. u j c * w c) in
         omega arith

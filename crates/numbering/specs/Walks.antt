@@ -7,6 +7,7 @@ use mathlib.Core.Option.{Option, none, some}
 use lib.ListN.{length, getD, set}
 use lib.Dec.{eqb}
 use Rattle.source.specs.declared.Chain.{Chain}
+use Rattle.source.specs.declared.Entry.{Entry}
 use Rattle.source.specs.Trees.{Pat, Expr, Items, Arms}
 use Rattle.source.specs.Indices.{total}
 use Rattle.source.specs.Nodes.{entryOf, childrenOf, isExpression, isPattern, chainFits, nodesFit}
@@ -58,17 +59,38 @@ each k = 1
 -- ---- what a walk is asked
 
 -- n nodes that fit, of a record with so many names
-pub record Walkable (b : List ℕ) (at names n : ℕ) : Type 0 where
-  pub fit : nodesFit b at names n ≡ true
+pub record Walkable (b : List ℕ) (at n : ℕ) : Type 0 where
+  pub count : ℕ
+  pub fit : nodesFit b at count n ≡ true
   pub long : 4 * (at + 4 * n) ≤ length b
-  pub few-names : names ≤ 512
+  pub few-names : count ≤ 512
   pub few-nodes : n ≤ 2048
+
+-- an array's length is part of its type, and not of its list
+pub record Sizes (locals undo old ids : List ℕ) : Type 0 where
+  pub rows : length locals ≡ 512
+  pub undone : length undo ≡ 2048
+  pub olds : length old ≡ 2048
+  pub nodes : length ids ≡ 2048
 
 -- a walk over nodes whose weight is w: each is met once, and there is room for an undo entry and an id at each
 pub record Room (w : (ℕ → ℕ) → ℕ) (next top : ℕ) : Type 0 where
   pub met-once : (j : ℕ) → w (same j) ≤ 1
   pub entries : top + w each ≤ 2048
   pub ids : next + w each ≤ 65536
+
+-- at node k, of a sort; at the chain from link l on
+pub record Ready (b : List ℕ) (at n : ℕ) (sort : Entry → Bool) (k next top : ℕ) : Type 0 where
+  pub walk : Walkable b at n
+  pub below : k < n
+  pub sorted : sort (entryOf b at k) ≡ true
+  pub room : Room (λ own. weight b at own k) next top
+
+pub record ReadyChain (b : List ℕ) (at n : ℕ) (h : Chain) (l next top : ℕ) : Type 0 where
+  pub walk : Walkable b at n
+  pub below : l < n
+  pub chained : chainFits b at h (suc l) l ≡ true
+  pub room : Room (λ own. chainWeight b at n own h l) next top
 
 -- ---- what a walk leaves
 
@@ -86,6 +108,7 @@ pub record Bound {A : Type 0} (w : (ℕ → ℕ) → ℕ) (numbering : Ids → N
   pub undo-below : SameBelow top undo undo′
   pub old-below : SameBelow top old old′
   pub undo-names : (i : ℕ) → top ≤ i → i < top + (next′ - next) → getD undo′ i 0 < 512
+  pub sizes : Sizes locals′ undo′ old′ ids′
   pub unwinds : unwound undo′ old′ top (next′ - next) locals′ ≡ locals
   pub elsewhere : Else w ids ids′
   pub numbers : (l : Ids) (g : Names) (final : List ℕ) → Holds locals l → g .next ≡ next → Agree w ids′ final → (l′ : Ids) × ((numbering l g ≡ ((value final, l′), names (g .globals) next′)) × Holds locals′ l′)
@@ -96,6 +119,32 @@ pub record Walked {A : Type 0} (w : (ℕ → ℕ) → ℕ) (numbering : Ids → 
   pub few : next′ ≤ next + w each
   pub undo-below : SameBelow top undo undo′
   pub old-below : SameBelow top old old′
+  pub sizes : Sizes locals′ undo′ old′ ids′
+  pub row : length globals′ ≡ 512
   pub same-locals : locals′ ≡ locals
   pub elsewhere : Else w ids ids′
   pub numbers : (l : Ids) (g : Names) (final : List ℕ) → Holds locals l → Holds globals (g .globals) → g .next ≡ next → Agree w ids′ final → (gs : Ids) × ((numbering l g ≡ (value final, names gs next′)) × Holds globals′ gs)
+
+-- what is left by the walk over a variable of no pattern
+pub record Chosen (x next : ℕ) (locals globals : List ℕ) (id next′ : ℕ) (globals′ : List ℕ) : Type 0 where
+  pub more : next ≤ next′
+  pub few : next′ ≤ next + 1
+  pub row : length globals′ ≡ 512
+  pub numbers : (l : Ids) (g : Names) → Holds locals l → Holds globals (g .globals) → g .next ≡ next → (gs : Ids) × ((numberVariable x l g ≡ (id, names gs next′)) × Holds globals′ gs)
+
+-- ---- the walks, by the definitions
+
+abbrev pub PatternWalk : List ℕ → ℕ → ℕ → ℕ → ℕ → ℕ → List ℕ → List ℕ → List ℕ → List ℕ → ℕ → List ℕ → List ℕ → List ℕ → List ℕ → Type 0
+PatternWalk b at n k = Bound (λ own. weight b at own k) (numberPatternVariables (tree b at n k .pattern)) (λ ids. numberedTree ids b at n k .pattern)
+
+abbrev pub ParameterWalk : List ℕ → ℕ → ℕ → ℕ → ℕ → ℕ → List ℕ → List ℕ → List ℕ → List ℕ → ℕ → List ℕ → List ℕ → List ℕ → List ℕ → Type 0
+ParameterWalk b at n l = Bound (λ own. chainWeight b at n own Chain.Parameters l) (numberParameters (tree b at n l .parameters)) (λ ids. numberedTree ids b at n l .parameters)
+
+abbrev pub ExpressionWalk : List ℕ → ℕ → ℕ → ℕ → ℕ → ℕ → List ℕ → List ℕ → List ℕ → List ℕ → List ℕ → ℕ → List ℕ → List ℕ → List ℕ → List ℕ → List ℕ → Type 0
+ExpressionWalk b at n k = Walked (λ own. weight b at own k) (numberExprVariables (tree b at n k .expression)) (λ ids. numberedTree ids b at n k .expression)
+
+abbrev pub ItemWalk : List ℕ → ℕ → ℕ → ℕ → ℕ → ℕ → List ℕ → List ℕ → List ℕ → List ℕ → List ℕ → ℕ → List ℕ → List ℕ → List ℕ → List ℕ → List ℕ → Type 0
+ItemWalk b at n l = Walked (λ own. chainWeight b at n own Chain.Items l) (numberItems (tree b at n l .items)) (λ ids. numberedTree ids b at n l .items)
+
+abbrev pub ArmWalk : List ℕ → ℕ → ℕ → ℕ → ℕ → ℕ → List ℕ → List ℕ → List ℕ → List ℕ → List ℕ → ℕ → List ℕ → List ℕ → List ℕ → List ℕ → List ℕ → Type 0
+ArmWalk b at n l = Walked (λ own. chainWeight b at n own Chain.Arms l) (numberArms (tree b at n l .arms)) (λ ids. numberedTree ids b at n l .arms)

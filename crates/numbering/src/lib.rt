@@ -1,1 +1,2 @@
 // Variable numbering: names become ids.
+mod rows;

@@ -9,7 +9,6 @@ use borrow.Author.Needs.{needs}
 use native.Mathlib.Omega.{arith}
 use Rattle.cut.proofs.Delivered.{not-delivered, delivered}
 
-
 mul-size : tie.Need-mul-size
 mul-size c = search needs
 

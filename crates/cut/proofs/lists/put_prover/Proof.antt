@@ -19,7 +19,6 @@ use Rattle.classify.specs.Arrays.{marked}
 use Rattle.cut.specs.Body.{noBody, noList}
 use Rattle.cut.proofs.Turns.{row-turn, row-end, id-kept, id-left, left-written, kept-written, Writing, writing-start, writing-turn, writing-end}
 
-
 element-copy-out-if1 : tie.Need-element-copy-out-if1
 element-copy-out-if1 c = search needs
 

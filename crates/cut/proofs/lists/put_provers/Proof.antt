@@ -18,7 +18,6 @@ use Rattle.classify.specs.Arrays.{marked}
 use Rattle.cut.specs.Body.{noBody, noList}
 use Rattle.cut.proofs.Turns.{row-turn, row-end, id-kept, id-left, left-written, kept-written, Writing, writing-start, writing-turn, writing-end}
 
-
 abbrev Inv-loop : tie.InvT-loop
 Inv-loop provers next body₀ at to₀ v₀ body to v = Writing (marked provers) next at v to body body₀
 

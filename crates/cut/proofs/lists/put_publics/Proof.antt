@@ -19,7 +19,6 @@ use Rattle.classify.specs.Arrays.{marked}
 use Rattle.cut.specs.Body.{noBody, noList}
 use Rattle.cut.proofs.Turns.{row-turn, row-end, id-kept, id-left, left-written, kept-written, Writing, writing-start, writing-turn, writing-end}
 
-
 abbrev Inv-loop : tie.InvT-loop
 Inv-loop s n body₀ k₀ body k = ((setWords body k (rows (n - k) k (λ j. wordAt s (6 + j))) ≡ setWords body₀ 0 (rows n 0 (λ j. wordAt s (6 + j)))) × (k ≤ n)) × (length body ≡ length body₀)
 
