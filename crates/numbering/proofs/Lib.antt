@@ -6,3 +6,4 @@ mod Laws
 mod Sums
 mod Weights
 mod Held
+mod Scopes
