@@ -7,3 +7,4 @@ mod Sums
 mod Weights
 mod Held
 mod Scopes
+mod Grown
