@@ -8,3 +8,5 @@ mod Weights
 mod Held
 mod Scopes
 mod Grown
+mod Children
+mod Binding

@@ -109,8 +109,8 @@ bound-as-is f′ value′ make p is val r = record {
   unwinds = r .unwinds;
   elsewhere = λ j z. r .elsewhere j (omega (arith, p (same j)));
   numbers = λ l g final h e a.
-    let q = r .numbers l g final h e (λ j z. a j (omega (arith, p (same j)))) in
-    (q .0, (rw (val final) (is l g _ _ _ (q .1 .0)), q .1 .1));
+      let q = r .numbers l g final h e (λ j z. a j (omega (arith, p (same j)))) in
+      (q .0, (rw (val final) (is l g _ _ _ (q .1 .0)), q .1 .1));
 }
 
 -- one pattern, then another
@@ -121,23 +121,23 @@ bound-two {u = u} {v = v} {next = next} {top = top} {locals = locals} {undo = un
   undo-below = λ i l. s .undo-below i (omega arith) ∙ r .undo-below i l;
   old-below = λ i l. s .old-below i (omega arith) ∙ r .old-below i l;
   undo-names = λ i l m. ⊎-elim
-    (λ (q : i < top₁). let e = s .undo-below i q in omega (arith, e, r .undo-names i l (omega arith)))
-    (λ (q : top₁ ≤ i). s .undo-names i q (omega (arith, r .more, s .more)))
-    (split i top₁);
+      (λ (q : i < top₁). let e = s .undo-below i q in omega (arith, e, r .undo-names i l (omega arith)))
+      (λ (q : top₁ ≤ i). s .undo-names i q (omega (arith, r .more, s .more)))
+      (split i top₁);
   sizes = s .sizes;
   unwinds =
-    let e : next₂ - next ≡ (next₁ - next) + (next₂ - next₁) = omega (arith, r .more, s .more) in
-    ap (λ (m : ℕ). unwound undo₂ old₂ top m locals₂) e
-    ∙ unwound-parts undo₂ old₂ top (next₁ - next) (next₂ - next₁) locals₂
-    ∙ ap (λ (m : ℕ). unwound undo₂ old₂ top (next₁ - next) (unwound undo₂ old₂ m (next₂ - next₁) locals₂)) (sym t)
-    ∙ ap (unwound undo₂ old₂ top (next₁ - next)) (s .unwinds)
-    ∙ unwound-same undo₁ old₁ undo₂ old₂ top (next₁ - next) locals₁ (λ i l. s .undo-below i (omega arith)) (λ i l. s .old-below i (omega arith))
-    ∙ r .unwinds;
+      let e : next₂ - next ≡ (next₁ - next) + (next₂ - next₁) = omega (arith, r .more, s .more) in
+      ap (λ (m : ℕ). unwound undo₂ old₂ top m locals₂) e
+      ∙ unwound-parts undo₂ old₂ top (next₁ - next) (next₂ - next₁) locals₂
+      ∙ ap (λ (m : ℕ). unwound undo₂ old₂ top (next₁ - next) (unwound undo₂ old₂ m (next₂ - next₁) locals₂)) (sym t)
+      ∙ ap (unwound undo₂ old₂ top (next₁ - next)) (s .unwinds)
+      ∙ unwound-same undo₁ old₁ undo₂ old₂ top (next₁ - next) locals₁ (λ i l. s .undo-below i (omega arith)) (λ i l. s .old-below i (omega arith))
+      ∙ r .unwinds;
   elsewhere = both-else ids ids₁ ids₂ p (r .elsewhere) (s .elsewhere);
   numbers = λ l g final h e a.
-    let q = r .numbers l g final h e (earlier ids₁ ids₂ final p (room .met-once) (s .elsewhere) a) in
-    let z = s .numbers (q .0) (names (g .globals) next₁) final (q .1 .1) refl (later ids₂ final p a) in
-    (z .0, (rw (val final) (is l g _ _ _ _ _ _ (q .1 .0) (z .1 .0)), z .1 .1));
+      let q = r .numbers l g final h e (earlier ids₁ ids₂ final p (room .met-once) (s .elsewhere) a) in
+      let z = s .numbers (q .0) (names (g .globals) next₁) final (q .1 .1) refl (later ids₂ final p a) in
+      (z .0, (rw (val final) (is l g _ _ _ _ _ _ (q .1 .0) (z .1 .0)), z .1 .1));
 }
 
 -- ---- expressions
@@ -181,8 +181,8 @@ walked-as-is f′ value′ make p is val r = record {
   same-locals = r .same-locals;
   elsewhere = λ j z. r .elsewhere j (omega (arith, p (same j)));
   numbers = λ l g final h k e a.
-    let q = r .numbers l g final h k e (λ j z. a j (omega (arith, p (same j)))) in
-    (q .0, (rw (val final) (is l g _ _ (q .1 .0)), q .1 .1));
+      let q = r .numbers l g final h k e (λ j z. a j (omega (arith, p (same j)))) in
+      (q .0, (rw (val final) (is l g _ _ (q .1 .0)), q .1 .1));
 }
 
 -- one expression, then another
@@ -197,19 +197,19 @@ walked-two {ids = ids} {next₁ = next₁} {ids₁ = ids₁} {ids₂ = ids₂} b
   same-locals = s .same-locals ∙ r .same-locals;
   elsewhere = both-else ids ids₁ ids₂ p (r .elsewhere) (s .elsewhere);
   numbers = λ l g final h k e a.
-    let q = r .numbers l g final h k e (earlier ids₁ ids₂ final p (room .met-once) (s .elsewhere) a) in
-    let z = s .numbers l (names (q .0) next₁) final (λ x m. ap (λ (t : List ℕ). getD t x 0) (r .same-locals) ∙ h x m) (q .1 .1) refl (later ids₂ final p a) in
-    (z .0, (rw (val final) (is l g _ _ _ _ (q .1 .0) (z .1 .0)), z .1 .1));
+      let q = r .numbers l g final h k e (earlier ids₁ ids₂ final p (room .met-once) (s .elsewhere) a) in
+      let z = s .numbers l (names (q .0) next₁) final (λ x m. ap (λ (t : List ℕ). getD t x 0) (r .same-locals) ∙ h x m) (q .1 .1) refl (later ids₂ final p a) in
+      (z .0, (rw (val final) (is l g _ _ _ _ (q .1 .0) (z .1 .0)), z .1 .1));
 }
 
 -- what a pattern binds, for an expression; then the rows are unwound
 pub walked-scope : {A B C : Type 0} {w u v : Weight} {f : Ids → Naming (A × Ids)} {one : List ℕ → A} {g : Ids → Naming B} {two : List ℕ → B} {next top : ℕ} {locals globals undo old ids : List ℕ} {next₁ : ℕ} {locals₁ undo₁ old₁ ids₁ : List ℕ} {next₂ top₁ : ℕ} {locals₂ globals₂ undo₂ old₂ ids₂ locals₃ : List ℕ} (both : Ids → Naming C) (value : List ℕ → C) (make : A → B → C) → Parts w u v → Room w next top → ((l : Ids) (s : Names) (a : A) (l₁ : Ids) (s₁ : Names) (b : B) (s₂ : Names) → f l s ≡ ((a, l₁), s₁) → g l₁ s₁ ≡ (b, s₂) → both l s ≡ (make a b, s₂)) → ((s : List ℕ) → value s ≡ make (one s) (two s)) → length locals ≡ 512 → Bound u f one next top locals undo old ids next₁ locals₁ undo₁ old₁ ids₁ → top₁ ≡ top + (next₁ - next) → Walked v g two next₁ top₁ locals₁ globals undo₁ old₁ ids₁ next₂ locals₂ globals₂ undo₂ old₂ ids₂ → locals₃ ≡ unwound undo₂ old₂ top (next₁ - next) locals₂ → Walked w both value next top locals globals undo old ids next₂ locals₃ globals₂ undo₂ old₂ ids₂
 walked-scope {next = next} {top = top} {locals = locals} {ids = ids} {next₁ = next₁} {locals₁ = locals₁} {undo₁ = undo₁} {old₁ = old₁} {ids₁ = ids₁} {top₁ = top₁} {undo₂ = undo₂} {old₂ = old₂} {ids₂ = ids₂} {locals₃ = locals₃} both value make p room is val long r t s u =
     let back : locals₃ ≡ locals =
-        u
-        ∙ ap (unwound undo₂ old₂ top (next₁ - next)) (s .same-locals)
-        ∙ unwound-same undo₁ old₁ undo₂ old₂ top (next₁ - next) locals₁ (λ i l. s .undo-below i (omega arith)) (λ i l. s .old-below i (omega arith))
-        ∙ r .unwinds in
+    u
+    ∙ ap (unwound undo₂ old₂ top (next₁ - next)) (s .same-locals)
+    ∙ unwound-same undo₁ old₁ undo₂ old₂ top (next₁ - next) locals₁ (λ i l. s .undo-below i (omega arith)) (λ i l. s .old-below i (omega arith))
+    ∙ r .unwinds in
     record {
       more = omega (arith, r .more, s .more);
       few = omega (arith, p .hold each, r .few, s .few);
@@ -220,7 +220,7 @@ walked-scope {next = next} {top = top} {locals = locals} {ids = ids} {next₁ = 
       same-locals = back;
       elsewhere = both-else ids ids₁ ids₂ p (r .elsewhere) (s .elsewhere);
       numbers = λ l g final h k e a.
-        let q = r .numbers l g final h e (earlier ids₁ ids₂ final p (room .met-once) (s .elsewhere) a) in
-        let z = s .numbers (q .0) (names (g .globals) next₁) final (q .1 .1) k refl (later ids₂ final p a) in
-        (z .0, (rw (val final) (is l g _ _ _ _ _ (q .1 .0) (z .1 .0)), z .1 .1));
+          let q = r .numbers l g final h e (earlier ids₁ ids₂ final p (room .met-once) (s .elsewhere) a) in
+          let z = s .numbers (q .0) (names (g .globals) next₁) final (q .1 .1) k refl (later ids₂ final p a) in
+          (z .0, (rw (val final) (is l g _ _ _ _ _ (q .1 .0) (z .1 .0)), z .1 .1));
     }

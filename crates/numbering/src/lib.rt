@@ -1,2 +1,3 @@
 // Variable numbering: names become ids.
+mod patterns;
 mod rows;
