@@ -4,6 +4,7 @@ use mathlib.Core.Path.{_≡_, refl, sym, ap, ap₂, _∙_}
 use mathlib.Core.List.{List, [], _∷_}
 use mathlib.Core.Bool.{Bool, true, false}
 use native.Mathlib.Omega.{arith}
+use mathlib.Core.Logic.{⊎-elim}
 use lib.ListN.{length, getD, set}
 use lib.IntN.{ℤ}
 use Rattle.source.specs.declared.Entry.{Entry}
@@ -11,14 +12,15 @@ use Rattle.source.specs.declared.Shape.{Shape}
 use Rattle.source.specs.declared.Chain.{Chain}
 use Rattle.source.specs.declared.Child.{Child}
 use Rattle.source.specs.Trees.{Pat}
-use Rattle.source.specs.Nodes.{entryOf, childrenOf, three, isPattern, chainFits}
+use Rattle.source.specs.Nodes.{entryOf, childrenOf, three, isPattern, itemFits, chainFits}
 use Rattle.source.specs.Record.{tree, patternOf}
 use Rattle.numbering.specs.Numbering.{Ids, Names, Naming, _>>=_, return, generateId, numberPatternVariables, numberParameters}
 use Rattle.numbering.specs.Numbers.{entryWith, shapeWith, numberedTree}
 use Rattle.numbering.specs.Walks.{names, weight, chainWeight, each, Sizes, Room, Walkable, Ready, ReadyChain, Bound, PatternWalk, ParameterWalk}
-use Rattle.numbering.proofs.Weights.{childWeight}
-use Rattle.numbering.proofs.Grown.{Growing, trees-grow, numbered-grow, entry-with, stem-is, as-is, productP-is, consP-is}
-use Rattle.numbering.proofs.Children.{Child-facts, child-facts, pattern-child, name-child}
+use Rattle.numbering.proofs.Laws.{alike}
+use Rattle.numbering.proofs.Weights.{childWeight, resultWeight}
+use Rattle.numbering.proofs.Grown.{Growing, trees-grow, numbered-grow, entry-with, stem-is, as-is, productP-is, consP-is, parameters-last, parameters-more}
+use Rattle.numbering.proofs.Children.{Child-facts, child-facts, pattern-child, name-child, Link-facts, link-facts, pattern-item}
 use Rattle.numbering.proofs.Scopes.{Weight, Parts, room-first, room-second, room-inner, bound-none, drawn, bound-one, bound-as-is, bound-two}
 
 abbrev pub Paired : Shape → ℕ → ℕ → Type 0
@@ -125,3 +127,50 @@ module _ (b : List ℕ) (at n k : ℕ) {next top : ℕ} (R : Ready b at n isPatt
     pub constant-way : {c : ℤ} → entryOf b at k ≡ Entry.Pattern (Shape.Constant c) → PatternWalk b at n k next top locals undo old ids next locals undo old ids
     unfolding numberPatternVariables return entryWith shapeWith patternOf
     constant-way e = bound-none (λ l g s. rw (stem-is (tree b at) (entryOf b at) (trees-grow b at) n k (R .below) e, stem-is (numberedTree s b at) _ (numbered-grow s b at) n k (R .below) (entry-with s b at k e))) z
+
+-- parameters
+module _ (b : List ℕ) (at n l : ℕ) {next top : ℕ} (R : ReadyChain b at n Chain.Parameters l next top) {x y z : ℕ} (e : entryOf b at l ≡ Entry.Link x y z) where
+  facts : Link-facts b at n (R .walk) Chain.Parameters l x y z
+  facts = link-facts b at n (R .walk) Chain.Parameters l (R .below) (R .chained) e
+
+  last-parts : y ≡ 4294967295 → (own : ℕ → ℕ) → weight b at own x ≤ chainWeight b at n own Chain.Parameters l
+  last-parts m own = omega (arith, facts .weighs-last m own)
+
+  more-parts : (y ≡ 4294967295 → ⊥) → Parts (λ own. chainWeight b at n own Chain.Parameters l) (λ own. weight b at own x) (λ own. chainWeight b at n own Chain.Parameters y)
+  more-parts m = record { hold = λ own. omega (arith, facts .weighs-more m own) }
+
+  item-parts : Parts (λ own. chainWeight b at n own Chain.Parameters l) (λ own. weight b at own x) (λ own. 0)
+  item-parts = record {
+    hold = λ own. ⊎-elim (λ (m : y ≡ 4294967295). omega (arith, last-parts m own)) (λ (m : y ≡ 4294967295 → ⊥). omega (arith, more-parts m .hold own)) (alike y 4294967295);
+  }
+
+  pub parameter-first : (x < l) × Ready b at n isPattern x next top
+  unfolding itemFits
+  parameter-first =
+      let c = pattern-item b at n (R .walk) l x (facts .item-fits) in
+      (c .0, record { walk = R .walk; below = omega (arith, c .0, R .below); sorted = c .1; room = room-first item-parts (R .room) })
+
+  pub parameter-rest : (next′ : ℕ) → (y ≡ 4294967295 → ⊥) → next ≤ next′ → next′ ≤ next + weight b at each x → (y < l) × ReadyChain b at n Chain.Parameters y next′ (top + (next′ - next))
+  parameter-rest next′ m u v =
+      let c = facts .rest m in
+      (c .0, record { walk = R .walk; below = omega (arith, c .0, R .below); chained = c .1; room = room-inner next′ (more-parts m) (R .room) u v })
+
+  pub parameter-room : (next′ : ℕ) → next ≤ next′ → next′ ≤ next + weight b at each x → top + (next′ - next) ≤ 2048
+  parameter-room next′ u v = omega (arith, item-parts .hold each, R .room .entries)
+
+  module _ {locals undo old ids : List ℕ} {next₁ : ℕ} {locals₁ undo₁ old₁ ids₁ : List ℕ} where
+    pub parameter-last-way : y ≡ 4294967295 → PatternWalk b at n x next top locals undo old ids next₁ locals₁ undo₁ old₁ ids₁ → ParameterWalk b at n l next top locals undo old ids next₁ locals₁ undo₁ old₁ ids₁
+    unfolding numberParameters _>>=_ return entryWith
+    parameter-last-way m u =
+        bound-as-is _ _ (λ p. p ∷ []) (last-parts m)
+        (λ s g a s₁ h q. rw (parameters-last (tree b at) (entryOf b at) (trees-grow b at) n l (R .below) e (facts .before) m, q))
+        (λ s. parameters-last (numberedTree s b at) _ (numbered-grow s b at) n l (R .below) (entry-with s b at l e) (facts .before) m)
+        u
+
+    pub parameter-more-way : {next₂ : ℕ} {locals₂ undo₂ old₂ ids₂ : List ℕ} → (y ≡ 4294967295 → ⊥) → PatternWalk b at n x next top locals undo old ids next₁ locals₁ undo₁ old₁ ids₁ → ParameterWalk b at n y next₁ (top + (next₁ - next)) locals₁ undo₁ old₁ ids₁ next₂ locals₂ undo₂ old₂ ids₂ → ParameterWalk b at n l next top locals undo old ids next₂ locals₂ undo₂ old₂ ids₂
+    unfolding numberParameters _>>=_ return entryWith
+    parameter-more-way m u v =
+        bound-two _ _ (λ p ps. p ∷ ps) (more-parts m) (R .room)
+        (λ s g a s₁ g₁ c s₂ g₂ q r. rw (parameters-more (tree b at) (entryOf b at) (trees-grow b at) n l (R .below) e (facts .before) m (facts .rest m .0), q, r))
+        (λ s. parameters-more (numberedTree s b at) _ (numbered-grow s b at) n l (R .below) (entry-with s b at l e) (facts .before) m (facts .rest m .0))
+        u refl v

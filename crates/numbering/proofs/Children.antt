@@ -2,20 +2,21 @@
 use Prim.Native.Nat.{ℕ, zero, suc, _+_, _*_, _≤_, _<_}
 use mathlib.Core.Path.{_≡_, refl, sym, ap, ap₂, _∙_}
 use mathlib.Core.List.{List}
-use mathlib.Core.Bool.{Bool, true, false, _&&_}
+use mathlib.Core.Bool.{Bool, true, false, _&&_, _||_}
 use native.Mathlib.Omega.{arith}
 use lib.Dec.{eqb, ltb}
-use borrow.Author.Tests.{ltb-true}
+use borrow.Author.Tests.{ltb-true, eq-eqb, ne-eqb}
 use Rattle.source.specs.declared.Entry.{Entry}
 use Rattle.source.specs.declared.Form.{Form}
 use Rattle.source.specs.declared.Shape.{Shape}
 use Rattle.source.specs.declared.Chain.{Chain}
 use Rattle.source.specs.declared.Child.{Child}
 use Rattle.source.specs.declared.Children.{Children}
-use Rattle.source.specs.Nodes.{entryOf, childrenOf, three, isExpression, isPattern, expressionFits, patternFits, chainFits, childFits, childrenFit}
+use Rattle.source.specs.Indices.{pick}
+use Rattle.source.specs.Nodes.{entryOf, childrenOf, three, isExpression, isPattern, expressionFits, patternFits, itemFits, resultFits, linkFits, chainFits, childFits, childrenFit}
 use Rattle.numbering.specs.Walks.{weight, chainWeight, Walkable}
-use Rattle.numbering.proofs.Laws.{and-left, and-right, not-both}
-use Rattle.numbering.proofs.Weights.{childWeight, children-fit, grows, chain-first}
+use Rattle.numbering.proofs.Laws.{alike, and-left, and-right, or-second, not-both}
+use Rattle.numbering.proofs.Weights.{Linked, childWeight, resultWeight, children-fit, grows, chain-first, chain-grows, item-below}
 
 -- a sort that a node has not
 pub no-pattern-expression : (b : List ℕ) (at k : ℕ) {f : Form} → isPattern (entryOf b at k) ≡ true → entryOf b at k ≡ Entry.Expression f → ⊥
@@ -78,3 +79,60 @@ module _ (b : List ℕ) (at n : ℕ) (W : Walkable b at n) where
   pub name-child : (k v : ℕ) → childFits b at (W .count) k (Child.Name v) ≡ true → v < 512
   unfolding childFits
   name-child k v e = omega (arith, ltb-true v (W .count) e, W .few-names)
+
+  -- ---- links
+
+  link-fits : (h : Chain) (l x y z : ℕ) → chainFits b at h (suc l) l ≡ true → entryOf b at l ≡ Entry.Link x y z → (itemFits b at h l x && (resultFits b at h l z && (eqb y 4294967295 || chainFits b at h l y))) ≡ true
+  unfolding chainFits linkFits
+  link-fits h l x y z c e = ap (linkFits b at h (chainFits b at h l) l) (sym e) ∙ (rw (eq-eqb l l refl, chainFits) at c)
+
+  pub record Link-facts (h : Chain) (l x y z : ℕ) : Type 0 where
+    pub before : x < l
+    pub item-fits : itemFits b at h l x ≡ true
+    pub result-fits : resultFits b at h l z ≡ true
+    pub rest : (y ≡ 4294967295 → ⊥) → (y < l) × (chainFits b at h (suc y) y ≡ true)
+    pub weighs-last : y ≡ 4294967295 → (own : ℕ → ℕ) → chainWeight b at n own h l ≡ weight b at own l + (weight b at own x + resultWeight b at own h z)
+    pub weighs-more : (y ≡ 4294967295 → ⊥) → (own : ℕ → ℕ) → chainWeight b at n own h l ≡ weight b at own l + (weight b at own x + (resultWeight b at own h z + chainWeight b at n own h y))
+
+  pub link-facts : (h : Chain) (l : ℕ) {x y z : ℕ} → l < n → chainFits b at h (suc l) l ≡ true → entryOf b at l ≡ Entry.Link x y z → Link-facts h l x y z
+  unfolding pick
+  link-facts h l {x} {y} {z} q c e =
+      let f = link-fits h l x y z c e in
+      let f1 = and-left (itemFits b at h l x) _ f in
+      let f2 = and-right (itemFits b at h l x) _ f in
+      let f3 = and-left (resultFits b at h l z) _ f2 in
+      let f4 = and-right (resultFits b at h l z) _ f2 in
+      let k : Linked b at h l = record { item = x; next = y; result = z; says = e; item-fits = f1; result-fits = f3; rest-fits = f4 } in
+      record {
+        before = item-below b at h l x f1;
+        item-fits = f1;
+        result-fits = f3;
+        rest = λ m. chain-first b at h l y (or-second _ _ f4 (ne-eqb _ _ m));
+        weighs-last = λ m own.
+            let t = ap (λ (t : Bool). weight b at own l + (weight b at own x + (resultWeight b at own h z + pick t 0 (chainWeight b at n own h y)))) (eq-eqb y 4294967295 m) in
+            let u : resultWeight b at own h z + 0 ≡ resultWeight b at own h z = omega arith in
+            chain-grows b at (W .count) n (W .fit) own h l k q ∙ t ∙ ap (λ (v : ℕ). weight b at own l + (weight b at own x + v)) u;
+        weighs-more = λ m own.
+            chain-grows b at (W .count) n (W .fit) own h l k q ∙ ap (λ (t : Bool). weight b at own l + (weight b at own x + (resultWeight b at own h z + pick t 0 (chainWeight b at n own h y)))) (ne-eqb y 4294967295 m);
+      }
+
+  pub pattern-item : (l x : ℕ) → patternFits b at l x ≡ true → (x < l) × (isPattern (entryOf b at x) ≡ true)
+  unfolding patternFits
+  pattern-item l x e = (ltb-true x l (and-left (ltb x l) _ e), and-right (ltb x l) _ e)
+
+  pub expression-item : (l x : ℕ) → expressionFits b at l x ≡ true → (x < l) × (isExpression (entryOf b at x) ≡ true)
+  unfolding expressionFits
+  expression-item l x e = (ltb-true x l (and-left (ltb x l) _ e), and-right (ltb x l) _ e)
+
+-- an entry of a chain is a link
+pub no-chain-expression : (b : List ℕ) (at : ℕ) (h : Chain) (l : ℕ) {f : Form} → chainFits b at h (suc l) l ≡ true → entryOf b at l ≡ Entry.Expression f → ⊥
+unfolding chainFits linkFits
+no-chain-expression b at h l c e = not-both (ap (linkFits b at h (chainFits b at h l) l) e) (rw (eq-eqb l l refl, chainFits) at c)
+
+pub no-chain-pattern : (b : List ℕ) (at : ℕ) (h : Chain) (l : ℕ) {f : Shape} → chainFits b at h (suc l) l ≡ true → entryOf b at l ≡ Entry.Pattern f → ⊥
+unfolding chainFits linkFits
+no-chain-pattern b at h l c e = not-both (ap (linkFits b at h (chainFits b at h l) l) e) (rw (eq-eqb l l refl, chainFits) at c)
+
+pub no-chain-bad : (b : List ℕ) (at : ℕ) (h : Chain) (l : ℕ) → chainFits b at h (suc l) l ≡ true → entryOf b at l ≡ Entry.Bad → ⊥
+unfolding chainFits linkFits
+no-chain-bad b at h l c e = not-both (ap (linkFits b at h (chainFits b at h l) l) e) (rw (eq-eqb l l refl, chainFits) at c)

@@ -72,3 +72,44 @@ pub fn number_pattern_variables(
         Entry::Bad => next,
     }
 }
+
+// The parameters from link l on, from the first to the last.
+pub fn number_parameters(
+    s: &[u8],
+    at: usize,
+    n: usize,
+    l: usize,
+    locals: &mut [u32; 512],
+    undo: &mut [u32; 2048],
+    old: &mut [u32; 2048],
+    ids: &mut [u32; 2048],
+    next: u32,
+    top: u32,
+) -> u32
+    requires { ⌜ ReadyChain (now s) at n Parameters l next top × Sizes (now locals) (now undo) (now old) (now ids) ⌝ }
+    ensures { λ r. ⌜ ParameterWalk (now (s .entry)) at n l next top (now (locals .entry)) (now (undo .entry)) (now (old .entry)) (now (ids .entry)) r (now (locals .exit)) (now (undo .exit)) (now (old .exit)) (now (ids .exit)) ⌝ }
+{
+    match node_at(s, at, l) {
+        Entry::Link(item, rest, _) => {
+            let one = number_pattern_variables(s, at, n, item, locals, undo, old, ids, next, top);
+            if rest == 4294967295 {
+                return one;
+            }
+            number_parameters(
+                s,
+                at,
+                n,
+                rest,
+                locals,
+                undo,
+                old,
+                ids,
+                one,
+                top + (one - next),
+            )
+        }
+        Entry::Expression(_) => next,
+        Entry::Pattern(_) => next,
+        Entry::Bad => next,
+    }
+}
