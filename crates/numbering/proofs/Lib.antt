@@ -10,3 +10,4 @@ mod Scopes
 mod Grown
 mod Children
 mod Binding
+mod Ways

@@ -13,7 +13,7 @@ use Rattle.source.specs.Indices.{total}
 use Rattle.source.specs.Nodes.{entryOf, childrenOf, isExpression, isPattern, chainFits, nodesFit}
 use Rattle.source.specs.Uses.{same, chainUses, childrenUse}
 use Rattle.source.specs.Record.{tree}
-use Rattle.numbering.specs.Numbering.{Ids, Names, Naming, found, numberVariable, numberPatternVariables, numberParameters, numberExprVariables, numberItems, numberArms}
+use Rattle.numbering.specs.Numbering.{Ids, Names, Naming, _>>=_, return, found, numberVariable, numberPatternVariables, numberParameters, numberExprVariables, numberItems, numberArms}
 use Rattle.numbering.specs.Numbers.{numberedTree}
 
 -- ---- rows: for each name 0, or one more than its id
@@ -86,6 +86,25 @@ pub record Ready (b : List ℕ) (at n : ℕ) (sort : Entry → Bool) (k next top
   pub sorted : sort (entryOf b at k) ≡ true
   pub room : Room (λ own. weight b at own k) next top
 
+-- at two nodes before m, the second an expression
+pub record ReadyTwo (b : List ℕ) (at n : ℕ) (sort : Entry → Bool) (m x y next top : ℕ) : Type 0 where
+  pub walk : Walkable b at n
+  pub within : m ≤ n
+  pub first-below : x < m
+  pub second-below : y < m
+  pub first-sorted : sort (entryOf b at x) ≡ true
+  pub second-sorted : isExpression (entryOf b at y) ≡ true
+  pub room : Room (λ own. weight b at own x + weight b at own y) next top
+
+-- at the parameters from link l on, and a body
+pub record ReadyFunction (b : List ℕ) (at n l y next top : ℕ) : Type 0 where
+  pub walk : Walkable b at n
+  pub first-below : l < n
+  pub second-below : y < n
+  pub chained : chainFits b at Chain.Parameters (suc l) l ≡ true
+  pub second-sorted : isExpression (entryOf b at y) ≡ true
+  pub room : Room (λ own. chainWeight b at n own Chain.Parameters l + weight b at own y) next top
+
 pub record ReadyChain (b : List ℕ) (at n : ℕ) (h : Chain) (l next top : ℕ) : Type 0 where
   pub walk : Walkable b at n
   pub below : l < n
@@ -142,6 +161,34 @@ ParameterWalk b at n l = Bound (λ own. chainWeight b at n own Chain.Parameters 
 
 abbrev pub ExpressionWalk : List ℕ → ℕ → ℕ → ℕ → ℕ → ℕ → List ℕ → List ℕ → List ℕ → List ℕ → List ℕ → ℕ → List ℕ → List ℕ → List ℕ → List ℕ → List ℕ → Type 0
 ExpressionWalk b at n k = Walked (λ own. weight b at own k) (numberExprVariables (tree b at n k .expression)) (λ ids. numberedTree ids b at n k .expression)
+
+-- two expressions; a pattern, and an expression in its scope
+unfoldable pub numberTwo : Expr → Expr → Ids → Naming (Expr × Expr)
+numberTwo a b locals = do
+  a′ ← numberExprVariables a locals
+  b′ ← numberExprVariables b locals
+  return (a′, b′)
+
+unfoldable pub numberScope : Pat → Expr → Ids → Naming (Pat × Expr)
+numberScope p e locals = do
+  (p′, inner) ← numberPatternVariables p locals
+  e′ ← numberExprVariables e inner
+  return (p′, e′)
+
+abbrev pub TwoWalk : List ℕ → ℕ → ℕ → ℕ → ℕ → ℕ → ℕ → List ℕ → List ℕ → List ℕ → List ℕ → List ℕ → ℕ → List ℕ → List ℕ → List ℕ → List ℕ → List ℕ → Type 0
+TwoWalk b at n x y = Walked (λ own. weight b at own x + weight b at own y) (numberTwo (tree b at n x .expression) (tree b at n y .expression)) (λ ids. (numberedTree ids b at n x .expression, numberedTree ids b at n y .expression))
+
+abbrev pub ScopeWalk : List ℕ → ℕ → ℕ → ℕ → ℕ → ℕ → ℕ → List ℕ → List ℕ → List ℕ → List ℕ → List ℕ → ℕ → List ℕ → List ℕ → List ℕ → List ℕ → List ℕ → Type 0
+ScopeWalk b at n p y = Walked (λ own. weight b at own p + weight b at own y) (numberScope (tree b at n p .pattern) (tree b at n y .expression)) (λ ids. (numberedTree ids b at n p .pattern, numberedTree ids b at n y .expression))
+
+unfoldable pub numberFunction : List Pat → Expr → Ids → Naming (List Pat × Expr)
+numberFunction ps e locals = do
+  (ps′, inner) ← numberParameters ps locals
+  e′ ← numberExprVariables e inner
+  return (ps′, e′)
+
+abbrev pub FunctionWalk : List ℕ → ℕ → ℕ → ℕ → ℕ → ℕ → ℕ → List ℕ → List ℕ → List ℕ → List ℕ → List ℕ → ℕ → List ℕ → List ℕ → List ℕ → List ℕ → List ℕ → Type 0
+FunctionWalk b at n l y = Walked (λ own. chainWeight b at n own Chain.Parameters l + weight b at own y) (numberFunction (tree b at n l .parameters) (tree b at n y .expression)) (λ ids. (numberedTree ids b at n l .parameters, numberedTree ids b at n y .expression))
 
 abbrev pub ItemWalk : List ℕ → ℕ → ℕ → ℕ → ℕ → ℕ → List ℕ → List ℕ → List ℕ → List ℕ → List ℕ → ℕ → List ℕ → List ℕ → List ℕ → List ℕ → List ℕ → Type 0
 ItemWalk b at n l = Walked (λ own. chainWeight b at n own Chain.Items l) (numberItems (tree b at n l .items)) (λ ids. numberedTree ids b at n l .items)

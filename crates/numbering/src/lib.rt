@@ -1,3 +1,4 @@
 // Variable numbering: names become ids.
+mod expressions;
 mod patterns;
 mod rows;

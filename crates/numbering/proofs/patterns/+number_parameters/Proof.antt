@@ -16,7 +16,6 @@ use lib.ListN.{length, length-set}
 use Rattle.numbering.proofs.Children.{no-chain-expression, no-chain-pattern, no-chain-bad}
 use Rattle.numbering.proofs.Binding.{parameter-first, parameter-rest, parameter-room, parameter-last-way, parameter-more-way}
 
-
 abbrev μ-number-parameters : Measures 5 number-parameters-kinds.ps ℕ
 μ-number-parameters κs a = a .1 .1 .1 .0
 
