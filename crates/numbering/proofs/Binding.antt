@@ -15,7 +15,7 @@ use Rattle.source.specs.Trees.{Pat}
 use Rattle.source.specs.Nodes.{entryOf, childrenOf, three, isPattern, itemFits, chainFits}
 use Rattle.source.specs.Record.{tree, patternOf}
 use Rattle.numbering.specs.Numbering.{Ids, Names, Naming, _>>=_, return, generateId, numberPatternVariables, numberParameters}
-use Rattle.numbering.specs.Numbers.{entryWith, shapeWith, numberedTree}
+use Rattle.numbering.specs.Numbers.{isName, bears, entryWith, shapeWith, numberedTree}
 use Rattle.numbering.specs.Walks.{names, weight, chainWeight, each, Sizes, Room, Walkable, Ready, ReadyChain, Bound, PatternWalk, ParameterWalk}
 use Rattle.numbering.proofs.Laws.{alike}
 use Rattle.numbering.proofs.Weights.{childWeight, resultWeight}
@@ -96,7 +96,7 @@ module _ (b : List ℕ) (at n k : ℕ) {next top : ℕ} (R : Ready b at n isPatt
         u refl v
 
     pub as-way : {p x : ℕ} → entryOf b at k ≡ Entry.Pattern (Shape.As p x) → PatternWalk b at n p next top locals undo old ids next₁ locals₁ undo₁ old₁ ids₁ → ((next₂ ≡ next₁ + 1) × (locals₂ ≡ set locals₁ x (next₁ + 1))) × ((undo₂ ≡ set undo₁ (top + (next₁ - next)) x) × (old₂ ≡ set old₁ (top + (next₁ - next)) (getD locals₁ x 0)) × (ids₂ ≡ set ids₁ k next₁)) → PatternWalk b at n k next top locals undo old ids next₂ locals₂ undo₂ old₂ ids₂
-    unfolding numberPatternVariables _>>=_ return generateId entryWith shapeWith
+    unfolding numberPatternVariables _>>=_ return generateId entryWith shapeWith bears isName
     as-way {p} {x} e u v =
         let i = as-first e .0 in
         let q = as-bind next₁ e (u .more) (u .few) in
@@ -104,17 +104,17 @@ module _ (b : List ℕ) (at n k : ℕ) {next top : ℕ} (R : Ready b at n isPatt
         (λ l s a l₁ s₁ c l₂ s₂ g h. rw (as-is (tree b at) (entryOf b at) (trees-grow b at) n k (R .below) e i, g) (ap (λ (t : (ℕ × Ids) × Names). ((Pat.asP a (t .0 .0), t .0 .1), t .1)) h))
         (λ s. as-is (numberedTree s b at) _ (numbered-grow s b at) n k (R .below) (entry-with s b at k e) i)
         u refl
-        (bound-one x k (q .0 .0) (q .0 .1) (q .1 .1) (u .sizes) (v .0 .0) (v .0 .1) (v .1 .0) (v .1 .1) (v .1 .2))
+        (bound-one x k (ap bears e) (q .0 .0) (q .0 .1) (q .1 .1) (u .sizes) (v .0 .0) (v .0 .1) (v .1 .0) (v .1 .1) (v .1 .2))
 
   module _ {locals undo old ids : List ℕ} (z : Sizes locals undo old ids) where
     pub variable-way : {x next₁ : ℕ} {locals₁ undo₁ old₁ ids₁ : List ℕ} → entryOf b at k ≡ Entry.Pattern (Shape.Variable x) → ((next₁ ≡ next + 1) × (locals₁ ≡ set locals x (next + 1))) × ((undo₁ ≡ set undo top x) × (old₁ ≡ set old top (getD locals x 0)) × (ids₁ ≡ set ids k next)) → PatternWalk b at n k next top locals undo old ids next₁ locals₁ undo₁ old₁ ids₁
-    unfolding numberPatternVariables _>>=_ return generateId entryWith shapeWith patternOf
+    unfolding numberPatternVariables _>>=_ return generateId entryWith shapeWith patternOf bears isName
     variable-way {x} e v =
         let q = variable-bind e in
         bound-as-is _ _ Pat.variableP (λ own. omega (arith, variable-facts e .weighs own))
         (λ l g a l₁ h r. rw (stem-is (tree b at) (entryOf b at) (trees-grow b at) n k (R .below) e) (ap (λ (t : (ℕ × Ids) × Names). ((Pat.variableP (t .0 .0), t .0 .1), t .1)) r))
         (λ s. stem-is (numberedTree s b at) _ (numbered-grow s b at) n k (R .below) (entry-with s b at k e))
-        (bound-one x k (q .0 .0) (q .0 .1) (q .1 .1) z (v .0 .0) (v .0 .1) (v .1 .0) (v .1 .1) (v .1 .2))
+        (bound-one x k (ap bears e) (q .0 .0) (q .0 .1) (q .1 .1) z (v .0 .0) (v .0 .1) (v .1 .0) (v .1 .1) (v .1 .2))
 
     pub unit-way : entryOf b at k ≡ Entry.Pattern Shape.Unit → PatternWalk b at n k next top locals undo old ids next locals undo old ids
     unfolding numberPatternVariables return entryWith shapeWith patternOf

@@ -16,7 +16,7 @@ use Rattle.source.specs.Trees.{Pat, Expr, Items, Arms, Env}
 use Rattle.source.specs.Nodes.{entryOf, childrenOf, three, isExpression, isPattern, itemFits, resultFits, chainFits}
 use Rattle.source.specs.Record.{tree, expressionOf}
 use Rattle.numbering.specs.Numbering.{Ids, Names, Naming, _>>=_, return, numberExprVariables, numberItems, numberArms}
-use Rattle.numbering.specs.Numbers.{entryWith, formWith, numberedTree}
+use Rattle.numbering.specs.Numbers.{isName, bears, entryWith, formWith, numberedTree}
 use Rattle.numbering.specs.Walks.{names, weight, chainWeight, each, unwound, Sizes, Room, Walkable, Ready, ReadyTwo, ReadyFunction, ReadyChain, Chosen, Bound, Walked, numberTwo, numberScope, numberFunction, PatternWalk, ParameterWalk, ExpressionWalk, TwoWalk, ScopeWalk, FunctionWalk, ItemWalk, ArmWalk}
 use Rattle.numbering.proofs.Laws.{alike}
 use Rattle.numbering.proofs.Weights.{childWeight, resultWeight}
@@ -260,12 +260,12 @@ module _ (b : List ℕ) (at n k : ℕ) {next top : ℕ} (R : Ready b at n isExpr
   variable-ready {x} e = (name-child b at n (R .walk) k x (variable-facts e .first-fits), (omega (arith, variable-facts e .weighs each, R .room .ids), omega (arith, R .below, R .walk .few-nodes)))
 
   pub variable-way : {x : ℕ} {locals globals undo old ids : List ℕ} {id next₁ : ℕ} {globals₁ : List ℕ} → entryOf b at k ≡ Entry.Expression (Form.Variable x) → Sizes locals undo old ids → Chosen x next locals globals id next₁ globals₁ → ExpressionWalk b at n k next top locals globals undo old ids next₁ locals globals₁ undo old (set ids k id)
-  unfolding numberExprVariables _>>=_ return entryWith formWith expressionOf
+  unfolding numberExprVariables _>>=_ return entryWith formWith expressionOf bears isName
   variable-way {x} e z c =
       walked-as-is _ _ Expr.variable (λ own. omega (arith, variable-facts e .weighs own))
       (λ s g a h q. rw (leaf-is (tree b at) (entryOf b at) (trees-grow b at) n k (R .below) e, q))
       (λ s. leaf-is (numberedTree s b at) _ (numbered-grow s b at) n k (R .below) (entry-with s b at k e))
-      (walked-variable x k (variable-ready e .1 .1) z c)
+      (walked-variable x k (ap bears e) (variable-ready e .1 .1) z c)
 
   -- a function
   function-facts : {x y : ℕ} → entryOf b at k ≡ Entry.Expression (Form.Function x y) → Child-facts b at n (R .walk) k (Child.Links Chain.Parameters x) (Child.Expression y) Child.Nothing

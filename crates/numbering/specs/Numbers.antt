@@ -1,17 +1,18 @@
 -- The numbered module of a source record with the bytes b, by an array that has an id for each node that names a variable, and an array with an id for each public.
 use Prim.Native.Nat.{ℕ, zero, suc, _+_, _*_}
 use mathlib.Core.List.{List}
-use mathlib.Core.Bool.{Bool, true, false}
+use mathlib.Core.Bool.{Bool, true, false, _||_}
 use lib.ListN.{getD}
 use lib.Dec.{eqb}
 use Rattle.words.specs.Words.{wordAt}
 use Rattle.source.specs.declared.Entry.{Entry}
 use Rattle.source.specs.declared.Form.{Form}
 use Rattle.source.specs.declared.Shape.{Shape}
+use Rattle.source.specs.declared.Child.{Child}
 use Rattle.source.specs.Trees.{Pat, Expr}
 use Rattle.source.specs.Indices.{rows}
 use Rattle.source.specs.Layout.{publics, definitions, expressions, nodes, definitionsAt, expressionsAt, nodesAt}
-use Rattle.source.specs.Nodes.{entryOf}
+use Rattle.source.specs.Nodes.{entryOf, childrenOf}
 use Rattle.source.specs.Record.{Tree, asExpression, grown}
 use Rattle.numbering.specs.Numbering.{Numbered}
 
@@ -45,6 +46,18 @@ entryWith i (Entry.Expression f) = Entry.Expression (formWith i f)
 entryWith i (Entry.Pattern p) = Entry.Pattern (shapeWith i p)
 entryWith i (Entry.Link item next result) = Entry.Link item next result
 entryWith i Entry.Bad = Entry.Bad
+
+-- whether a node has a name: a variable, a pattern variable, or an `as`
+unfoldable pub isName : Child → Bool
+isName Child.Nothing = false
+isName (Child.Name v) = true
+isName (Child.Expression x) = false
+isName (Child.Pattern x) = false
+isName (Child.Links h x) = false
+isName Child.Wrong = false
+
+unfoldable pub bears : Entry → Bool
+bears e = isName (childrenOf e .first) || isName (childrenOf e .second)
 
 -- what node k of the first n stands for, as `tree`, with the ids of the array
 unfoldable pub numberedTree : List ℕ → List ℕ → ℕ → ℕ → ℕ → Tree

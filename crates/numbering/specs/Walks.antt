@@ -14,7 +14,7 @@ use Rattle.source.specs.Nodes.{entryOf, childrenOf, isExpression, isPattern, ch
 use Rattle.source.specs.Uses.{same, chainUses, childrenUse}
 use Rattle.source.specs.Record.{tree}
 use Rattle.numbering.specs.Numbering.{Ids, Names, Naming, _>>=_, return, found, numberVariable, numberPatternVariables, numberParameters, numberExprVariables, numberItems, numberArms}
-use Rattle.numbering.specs.Numbers.{numberedTree}
+use Rattle.numbering.specs.Numbers.{bears, numberedTree}
 
 -- ---- rows: for each name 0, or one more than its id
 
@@ -120,8 +120,9 @@ Else w s t = (j : ℕ) → w (same j) ≡ 0 → getD t j 0 ≡ getD s j 0
 abbrev pub Agree : ((ℕ → ℕ) → ℕ) → List ℕ → List ℕ → Type 0
 Agree w s t = (j : ℕ) → 0 < w (same j) → getD t j 0 ≡ getD s j 0
 
+-- `named` says which nodes have a name: no other node's id changes
 -- what a walk has of patterns: `numbering` is the definition for what is walked over, `value` what it then stands for by an array of ids
-pub record Bound {A : Type 0} (w : (ℕ → ℕ) → ℕ) (numbering : Ids → Naming (A × Ids)) (value : List ℕ → A) (next top : ℕ) (locals undo old ids : List ℕ) (next′ : ℕ) (locals′ undo′ old′ ids′ : List ℕ) : Type 0 where
+pub record Bound {A : Type 0} (named : ℕ → Bool) (w : (ℕ → ℕ) → ℕ) (numbering : Ids → Naming (A × Ids)) (value : List ℕ → A) (next top : ℕ) (locals undo old ids : List ℕ) (next′ : ℕ) (locals′ undo′ old′ ids′ : List ℕ) : Type 0 where
   pub more : next ≤ next′
   pub few : next′ ≤ next + w each
   pub undo-below : SameBelow top undo undo′
@@ -130,10 +131,11 @@ pub record Bound {A : Type 0} (w : (ℕ → ℕ) → ℕ) (numbering : Ids → N
   pub sizes : Sizes locals′ undo′ old′ ids′
   pub unwinds : unwound undo′ old′ top (next′ - next) locals′ ≡ locals
   pub elsewhere : Else w ids ids′
+  pub unnamed : (j : ℕ) → named j ≡ false → getD ids′ j 0 ≡ getD ids j 0
   pub numbers : (l : Ids) (g : Names) (final : List ℕ) → Holds locals l → g .next ≡ next → Agree w ids′ final → (l′ : Ids) × ((numbering l g ≡ ((value final, l′), names (g .globals) next′)) × Holds locals′ l′)
 
 -- what it leaves of expressions: the locals are as they were
-pub record Walked {A : Type 0} (w : (ℕ → ℕ) → ℕ) (numbering : Ids → Naming A) (value : List ℕ → A) (next top : ℕ) (locals globals undo old ids : List ℕ) (next′ : ℕ) (locals′ globals′ undo′ old′ ids′ : List ℕ) : Type 0 where
+pub record Walked {A : Type 0} (named : ℕ → Bool) (w : (ℕ → ℕ) → ℕ) (numbering : Ids → Naming A) (value : List ℕ → A) (next top : ℕ) (locals globals undo old ids : List ℕ) (next′ : ℕ) (locals′ globals′ undo′ old′ ids′ : List ℕ) : Type 0 where
   pub more : next ≤ next′
   pub few : next′ ≤ next + w each
   pub undo-below : SameBelow top undo undo′
@@ -142,6 +144,7 @@ pub record Walked {A : Type 0} (w : (ℕ → ℕ) → ℕ) (numbering : Ids → 
   pub row : length globals′ ≡ 512
   pub same-locals : locals′ ≡ locals
   pub elsewhere : Else w ids ids′
+  pub unnamed : (j : ℕ) → named j ≡ false → getD ids′ j 0 ≡ getD ids j 0
   pub numbers : (l : Ids) (g : Names) (final : List ℕ) → Holds locals l → Holds globals (g .globals) → g .next ≡ next → Agree w ids′ final → (gs : Ids) × ((numbering l g ≡ (value final, names gs next′)) × Holds globals′ gs)
 
 -- what is left by the walk over a variable of no pattern
@@ -154,13 +157,13 @@ pub record Chosen (x next : ℕ) (locals globals : List ℕ) (id next′ : ℕ) 
 -- ---- the walks, by the definitions
 
 abbrev pub PatternWalk : List ℕ → ℕ → ℕ → ℕ → ℕ → ℕ → List ℕ → List ℕ → List ℕ → List ℕ → ℕ → List ℕ → List ℕ → List ℕ → List ℕ → Type 0
-PatternWalk b at n k = Bound (λ own. weight b at own k) (numberPatternVariables (tree b at n k .pattern)) (λ ids. numberedTree ids b at n k .pattern)
+PatternWalk b at n k = Bound (λ j. bears (entryOf b at j)) (λ own. weight b at own k) (numberPatternVariables (tree b at n k .pattern)) (λ ids. numberedTree ids b at n k .pattern)
 
 abbrev pub ParameterWalk : List ℕ → ℕ → ℕ → ℕ → ℕ → ℕ → List ℕ → List ℕ → List ℕ → List ℕ → ℕ → List ℕ → List ℕ → List ℕ → List ℕ → Type 0
-ParameterWalk b at n l = Bound (λ own. chainWeight b at n own Chain.Parameters l) (numberParameters (tree b at n l .parameters)) (λ ids. numberedTree ids b at n l .parameters)
+ParameterWalk b at n l = Bound (λ j. bears (entryOf b at j)) (λ own. chainWeight b at n own Chain.Parameters l) (numberParameters (tree b at n l .parameters)) (λ ids. numberedTree ids b at n l .parameters)
 
 abbrev pub ExpressionWalk : List ℕ → ℕ → ℕ → ℕ → ℕ → ℕ → List ℕ → List ℕ → List ℕ → List ℕ → List ℕ → ℕ → List ℕ → List ℕ → List ℕ → List ℕ → List ℕ → Type 0
-ExpressionWalk b at n k = Walked (λ own. weight b at own k) (numberExprVariables (tree b at n k .expression)) (λ ids. numberedTree ids b at n k .expression)
+ExpressionWalk b at n k = Walked (λ j. bears (entryOf b at j)) (λ own. weight b at own k) (numberExprVariables (tree b at n k .expression)) (λ ids. numberedTree ids b at n k .expression)
 
 -- two expressions; a pattern, and an expression in its scope
 unfoldable pub numberTwo : Expr → Expr → Ids → Naming (Expr × Expr)
@@ -176,10 +179,10 @@ numberScope p e locals = do
   return (p′, e′)
 
 abbrev pub TwoWalk : List ℕ → ℕ → ℕ → ℕ → ℕ → ℕ → ℕ → List ℕ → List ℕ → List ℕ → List ℕ → List ℕ → ℕ → List ℕ → List ℕ → List ℕ → List ℕ → List ℕ → Type 0
-TwoWalk b at n x y = Walked (λ own. weight b at own x + weight b at own y) (numberTwo (tree b at n x .expression) (tree b at n y .expression)) (λ ids. (numberedTree ids b at n x .expression, numberedTree ids b at n y .expression))
+TwoWalk b at n x y = Walked (λ j. bears (entryOf b at j)) (λ own. weight b at own x + weight b at own y) (numberTwo (tree b at n x .expression) (tree b at n y .expression)) (λ ids. (numberedTree ids b at n x .expression, numberedTree ids b at n y .expression))
 
 abbrev pub ScopeWalk : List ℕ → ℕ → ℕ → ℕ → ℕ → ℕ → ℕ → List ℕ → List ℕ → List ℕ → List ℕ → List ℕ → ℕ → List ℕ → List ℕ → List ℕ → List ℕ → List ℕ → Type 0
-ScopeWalk b at n p y = Walked (λ own. weight b at own p + weight b at own y) (numberScope (tree b at n p .pattern) (tree b at n y .expression)) (λ ids. (numberedTree ids b at n p .pattern, numberedTree ids b at n y .expression))
+ScopeWalk b at n p y = Walked (λ j. bears (entryOf b at j)) (λ own. weight b at own p + weight b at own y) (numberScope (tree b at n p .pattern) (tree b at n y .expression)) (λ ids. (numberedTree ids b at n p .pattern, numberedTree ids b at n y .expression))
 
 unfoldable pub numberFunction : List Pat → Expr → Ids → Naming (List Pat × Expr)
 numberFunction ps e locals = do
@@ -188,10 +191,10 @@ numberFunction ps e locals = do
   return (ps′, e′)
 
 abbrev pub FunctionWalk : List ℕ → ℕ → ℕ → ℕ → ℕ → ℕ → ℕ → List ℕ → List ℕ → List ℕ → List ℕ → List ℕ → ℕ → List ℕ → List ℕ → List ℕ → List ℕ → List ℕ → Type 0
-FunctionWalk b at n l y = Walked (λ own. chainWeight b at n own Chain.Parameters l + weight b at own y) (numberFunction (tree b at n l .parameters) (tree b at n y .expression)) (λ ids. (numberedTree ids b at n l .parameters, numberedTree ids b at n y .expression))
+FunctionWalk b at n l y = Walked (λ j. bears (entryOf b at j)) (λ own. chainWeight b at n own Chain.Parameters l + weight b at own y) (numberFunction (tree b at n l .parameters) (tree b at n y .expression)) (λ ids. (numberedTree ids b at n l .parameters, numberedTree ids b at n y .expression))
 
 abbrev pub ItemWalk : List ℕ → ℕ → ℕ → ℕ → ℕ → ℕ → List ℕ → List ℕ → List ℕ → List ℕ → List ℕ → ℕ → List ℕ → List ℕ → List ℕ → List ℕ → List ℕ → Type 0
-ItemWalk b at n l = Walked (λ own. chainWeight b at n own Chain.Items l) (numberItems (tree b at n l .items)) (λ ids. numberedTree ids b at n l .items)
+ItemWalk b at n l = Walked (λ j. bears (entryOf b at j)) (λ own. chainWeight b at n own Chain.Items l) (numberItems (tree b at n l .items)) (λ ids. numberedTree ids b at n l .items)
 
 abbrev pub ArmWalk : List ℕ → ℕ → ℕ → ℕ → ℕ → ℕ → List ℕ → List ℕ → List ℕ → List ℕ → List ℕ → ℕ → List ℕ → List ℕ → List ℕ → List ℕ → List ℕ → Type 0
-ArmWalk b at n l = Walked (λ own. chainWeight b at n own Chain.Arms l) (numberArms (tree b at n l .arms)) (λ ids. numberedTree ids b at n l .arms)
+ArmWalk b at n l = Walked (λ j. bears (entryOf b at j)) (λ own. chainWeight b at n own Chain.Arms l) (numberArms (tree b at n l .arms)) (λ ids. numberedTree ids b at n l .arms)
