@@ -11,3 +11,4 @@ mod Grown
 mod Children
 mod Binding
 mod Ways
+mod Listed

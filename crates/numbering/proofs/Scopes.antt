@@ -50,13 +50,13 @@ room-inner next′ p r l q = record {
 -- ---- arrays that agree
 
 -- a later part changes nothing of an earlier one
-earlier : {w u v : Weight} (s t final : List ℕ) → Parts w u v → ((j : ℕ) → w (same j) ≤ 1) → Else v s t → Agree w t final → Agree u s final
+pub earlier : {w u v : Weight} (s t final : List ℕ) → Parts w u v → ((j : ℕ) → w (same j) ≤ 1) → Else v s t → Agree w t final → Agree u s final
 earlier s t final p o e a j l = a j (omega (arith, p .hold (same j))) ∙ e j (omega (arith, p .hold (same j), o j))
 
-later : {w u v : Weight} (t final : List ℕ) → Parts w u v → Agree w t final → Agree v t final
+pub later : {w u v : Weight} (t final : List ℕ) → Parts w u v → Agree w t final → Agree v t final
 later t final p a j l = a j (omega (arith, p .hold (same j)))
 
-both-else : {w u v : Weight} (r s t : List ℕ) → Parts w u v → Else u r s → Else v s t → Else w r t
+pub both-else : {w u v : Weight} (r s t : List ℕ) → Parts w u v → Else u r s → Else v s t → Else w r t
 both-else r s t p e f j z = f j (omega (arith, p .hold (same j))) ∙ e j (omega (arith, p .hold (same j)))
 
 -- ---- patterns

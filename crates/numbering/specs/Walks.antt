@@ -6,15 +6,16 @@ use mathlib.Core.Bool.{Bool, true, false}
 use mathlib.Core.Option.{Option, none, some}
 use lib.ListN.{length, getD, set}
 use lib.Dec.{eqb}
+use Rattle.words.specs.Words.{wordAt}
 use Rattle.source.specs.declared.Chain.{Chain}
 use Rattle.source.specs.declared.Entry.{Entry}
 use Rattle.source.specs.Trees.{Pat, Expr, Items, Arms}
-use Rattle.source.specs.Indices.{total}
+use Rattle.source.specs.Indices.{total, rows}
 use Rattle.source.specs.Nodes.{entryOf, childrenOf, isExpression, isPattern, chainFits, nodesFit}
 use Rattle.source.specs.Uses.{same, chainUses, childrenUse}
-use Rattle.source.specs.Record.{tree}
-use Rattle.numbering.specs.Numbering.{Ids, Names, Naming, _>>=_, return, found, numberVariable, numberPatternVariables, numberParameters, numberExprVariables, numberItems, numberArms}
-use Rattle.numbering.specs.Numbers.{bears, numberedTree}
+use Rattle.source.specs.Record.{tree, definitionAt, expressionAt}
+use Rattle.numbering.specs.Numbering.{Ids, Names, Naming, _>>=_, return, found, numberVariable, numberPatternVariables, numberParameters, numberExprVariables, numberItems, numberArms, numberDefVariables, numberDefinitions, numberExpressions}
+use Rattle.numbering.specs.Numbers.{bears, numberedTree, numberedDefinition, numberedExpression}
 
 -- ---- rows: for each name 0, or one more than its id
 
@@ -198,3 +199,45 @@ ItemWalk b at n l = Walked (λ j. bears (entryOf b at j)) (λ own. chainWeight b
 
 abbrev pub ArmWalk : List ℕ → ℕ → ℕ → ℕ → ℕ → ℕ → List ℕ → List ℕ → List ℕ → List ℕ → List ℕ → ℕ → List ℕ → List ℕ → List ℕ → List ℕ → List ℕ → Type 0
 ArmWalk b at n l = Walked (λ j. bears (entryOf b at j)) (λ own. chainWeight b at n own Chain.Arms l) (numberArms (tree b at n l .arms)) (λ ids. numberedTree ids b at n l .arms)
+
+-- ---- the lists of a module
+
+-- the sum of f over n indices from i on
+unfoldable pub sumFrom : ℕ → ℕ → (ℕ → ℕ) → ℕ
+sumFrom zero i f = 0
+sumFrom (suc n) i f = f i + sumFrom n (suc i) f
+
+abbrev pub definitionsWeight : List ℕ → ℕ → ℕ → ℕ → ℕ → (ℕ → ℕ) → ℕ
+definitionsWeight b at list m i own = sumFrom m i (λ k. weight b at own (wordAt b (list + 2 * k)) + weight b at own (wordAt b (list + 2 * k + 1)))
+
+abbrev pub expressionsWeight : List ℕ → ℕ → ℕ → ℕ → ℕ → (ℕ → ℕ) → ℕ
+expressionsWeight b at list m i own = sumFrom m i (λ k. weight b at own (wordAt b (list + k)))
+
+-- what a walk over definitions leaves: their names are locals from then on
+pub record Defined {A : Type 0} (named : ℕ → Bool) (w : (ℕ → ℕ) → ℕ) (numbering : Ids → Naming (A × Ids)) (value : List ℕ → A) (next : ℕ) (locals globals ids : List ℕ) (next′ : ℕ) (locals′ globals′ undo′ old′ ids′ : List ℕ) : Type 0 where
+  pub more : next ≤ next′
+  pub few : next′ ≤ next + w each
+  pub sizes : Sizes locals′ undo′ old′ ids′
+  pub row : length globals′ ≡ 512
+  pub elsewhere : Else w ids ids′
+  pub unnamed : (j : ℕ) → named j ≡ false → getD ids′ j 0 ≡ getD ids j 0
+  pub numbers : (l : Ids) (g : Names) (final : List ℕ) → Holds locals l → Holds globals (g .globals) → g .next ≡ next → Agree w ids′ final → (l′ : Ids) × ((gs : Ids) × ((numbering l g ≡ ((value final, l′), names gs next′)) × (Holds locals′ l′ × Holds globals′ gs)))
+
+-- definition (p, v)
+abbrev pub DefinitionWalk : List ℕ → ℕ → ℕ → ℕ → ℕ → ℕ → List ℕ → List ℕ → List ℕ → ℕ → List ℕ → List ℕ → List ℕ → List ℕ → List ℕ → Type 0
+DefinitionWalk b at n p v = Defined (λ j. bears (entryOf b at j)) (λ own. weight b at own p + weight b at own v) (numberDefVariables (tree b at n p .pattern, tree b at n v .expression)) (λ ids. (numberedTree ids b at n p .pattern, numberedTree ids b at n v .expression))
+
+-- m definitions, m expressions from the i-th on
+abbrev pub DefinitionsWalk : List ℕ → ℕ → ℕ → ℕ → ℕ → ℕ → ℕ → List ℕ → List ℕ → List ℕ → ℕ → List ℕ → List ℕ → List ℕ → List ℕ → List ℕ → Type 0
+DefinitionsWalk b at n list m i = Defined (λ j. bears (entryOf b at j)) (definitionsWeight b at list m i) (numberDefinitions (rows m i (definitionAt b at n list))) (λ ids. rows m i (numberedDefinition ids b at n list))
+
+abbrev pub ExpressionsWalk : List ℕ → ℕ → ℕ → ℕ → ℕ → ℕ → ℕ → ℕ → List ℕ → List ℕ → List ℕ → List ℕ → List ℕ → ℕ → List ℕ → List ℕ → List ℕ → List ℕ → List ℕ → Type 0
+ExpressionsWalk b at n list m i = Walked (λ j. bears (entryOf b at j)) (expressionsWeight b at list m i) (numberExpressions (rows m i (expressionAt b at n list))) (λ ids. rows m i (numberedExpression ids b at n list))
+
+pub record ReadyDefinitions (b : List ℕ) (at n list m i next : ℕ) : Type 0 where
+  pub walk : Walkable b at n
+  pub room : Room (definitionsWeight b at list m i) next 0
+
+pub record ReadyExpressions (b : List ℕ) (at n list m i next : ℕ) : Type 0 where
+  pub walk : Walkable b at n
+  pub room : Room (expressionsWeight b at list m i) next 0

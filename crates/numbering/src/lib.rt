@@ -1,4 +1,5 @@
 // Variable numbering: names become ids.
 mod expressions;
+mod listing;
 mod patterns;
 mod rows;
