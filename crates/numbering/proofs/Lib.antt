@@ -12,3 +12,4 @@ mod Children
 mod Binding
 mod Ways
 mod Listed
+mod First

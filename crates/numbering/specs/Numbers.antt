@@ -1,8 +1,9 @@
 -- The numbered module of a source record with the bytes b, by an array that has an id for each node that names a variable, and an array with an id for each public.
-use Prim.Native.Nat.{ℕ, zero, suc, _+_, _*_}
+use Prim.Native.Nat.{ℕ, zero, suc, _+_, _*_, _≤_}
+use mathlib.Core.Path.{_≡_}
 use mathlib.Core.List.{List}
 use mathlib.Core.Bool.{Bool, true, false, _||_}
-use lib.ListN.{getD}
+use lib.ListN.{length, getD}
 use lib.Dec.{eqb}
 use Rattle.words.specs.Words.{wordAt}
 use Rattle.source.specs.declared.Entry.{Entry}
@@ -13,8 +14,8 @@ use Rattle.source.specs.Trees.{Pat, Expr}
 use Rattle.source.specs.Indices.{rows}
 use Rattle.source.specs.Layout.{publics, definitions, expressions, nodes, definitionsAt, expressionsAt, nodesAt}
 use Rattle.source.specs.Nodes.{entryOf, childrenOf}
-use Rattle.source.specs.Record.{Tree, asExpression, grown}
-use Rattle.numbering.specs.Numbering.{Numbered}
+use Rattle.source.specs.Record.{Tree, asExpression, grown, moduleOf}
+use Rattle.numbering.specs.Numbering.{Numbered, numbered}
 
 -- a node with the id i in place of its name: "Names then become ids"
 unfoldable pub formWith : ℕ → Form → Form
@@ -78,3 +79,12 @@ numberedModule b ids public next = record {
   definitions = rows (definitions b) 0 (numberedDefinition ids b (nodesAt b) (nodes b) (definitionsAt b));
   expressions = rows (expressions b) 0 (numberedExpression ids b (nodesAt b) (nodes b) (expressionsAt b));
 }
+
+-- what numbering leaves in the arrays: the ids of the numbered module; every entry that is no id of it is as it was
+pub record NumberedIn (b ids public : List ℕ) (next : ℕ) (ids′ public′ : List ℕ) : Type 0 where
+  pub numbers : numbered (moduleOf b) ≡ numberedModule b ids′ public′ next
+  pub ids-unnamed : (j : ℕ) → bears (entryOf b (nodesAt b) j) ≡ false → getD ids′ j 0 ≡ getD ids j 0
+  pub ids-behind : (j : ℕ) → nodes b ≤ j → getD ids′ j 0 ≡ getD ids j 0
+  pub public-behind : (j : ℕ) → publics b ≤ j → getD public′ j 0 ≡ getD public j 0
+  pub ids-long : length ids′ ≡ length ids
+  pub public-long : length public′ ≡ length public

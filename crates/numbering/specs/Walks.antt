@@ -1,20 +1,21 @@
 -- For the contracts of numbering's private functions: what its rows hold, how its undo list is unwound, and what a walk over a node leaves.
 use Prim.Native.Nat.{ℕ, zero, suc, _+_, _*_, _-_, _≤_, _<_}
 use mathlib.Core.Path.{_≡_}
-use mathlib.Core.List.{List}
+use mathlib.Core.List.{List, [], _++_}
 use mathlib.Core.Bool.{Bool, true, false}
 use mathlib.Core.Option.{Option, none, some}
-use lib.ListN.{length, getD, set}
+use lib.ListN.{length, getD, set, replicate}
 use lib.Dec.{eqb}
 use Rattle.words.specs.Words.{wordAt}
 use Rattle.source.specs.declared.Chain.{Chain}
 use Rattle.source.specs.declared.Entry.{Entry}
+use Rattle.source.specs.Names.{nameOf}
 use Rattle.source.specs.Trees.{Pat, Expr, Items, Arms}
 use Rattle.source.specs.Indices.{total, rows}
 use Rattle.source.specs.Nodes.{entryOf, childrenOf, isExpression, isPattern, chainFits, nodesFit}
 use Rattle.source.specs.Uses.{same, chainUses, childrenUse}
 use Rattle.source.specs.Record.{tree, definitionAt, expressionAt}
-use Rattle.numbering.specs.Numbering.{Ids, Names, Naming, _>>=_, return, found, numberVariable, numberPatternVariables, numberParameters, numberExprVariables, numberItems, numberArms, numberDefVariables, numberDefinitions, numberExpressions}
+use Rattle.numbering.specs.Numbering.{Ids, Names, Naming, _>>=_, return, found, numberVariable, numberPatternVariables, numberParameters, numberExprVariables, numberItems, numberArms, numberDefVariables, numberDefinitions, numberExpressions, numberPublics, named}
 use Rattle.numbering.specs.Numbers.{bears, numberedTree, numberedDefinition, numberedExpression}
 
 -- ---- rows: for each name 0, or one more than its id
@@ -241,3 +242,24 @@ pub record ReadyDefinitions (b : List ℕ) (at n list m i next : ℕ) : Type 0 w
 pub record ReadyExpressions (b : List ℕ) (at n list m i next : ℕ) : Type 0 where
   pub walk : Walkable b at n
   pub room : Room (expressionsWeight b at list m i) next 0
+
+-- what the walk over m publics from the i-th on leaves: an id for each, at its position
+pub record Published (b : List ℕ) (list m i next : ℕ) (locals globals public : List ℕ) (next′ : ℕ) (globals′ public′ : List ℕ) : Type 0 where
+  pub more : next ≤ next′
+  pub few : next′ ≤ next + m
+  pub row : length globals′ ≡ 512
+  pub long : length public′ ≡ 64
+  pub before : (j : ℕ) → j < i → getD public′ j 0 ≡ getD public j 0
+  pub behind : (j : ℕ) → i + m ≤ j → getD public′ j 0 ≡ getD public j 0
+  pub numbers : (g : Names) → Holds locals [] → Holds globals (g .globals) → g .next ≡ next → (gs : Ids) × ((numberPublics (rows m i (λ k. wordAt b (list + k))) g ≡ (rows m i (λ k. getD public′ k 0), names gs next′)) × Holds globals′ gs)
+
+-- a text registered: its name has the id, before what the row held
+pub record Registered (b t : List ℕ) (text count id : ℕ) (globals globals′ : List ℕ) : Type 0 where
+  pub row : length globals′ ≡ 512
+  pub holds : (gs : Ids) → Holds globals gs → Holds globals′ (named t id 0 (rows count 0 (nameOf b text)) ++ gs)
+
+unfoldable pub noRow : List ℕ
+noRow = replicate 512 0
+
+unfoldable pub noEntries : List ℕ
+noEntries = replicate 2048 0

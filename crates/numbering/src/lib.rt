@@ -2,4 +2,5 @@
 mod expressions;
 mod listing;
 mod patterns;
+mod registering;
 mod rows;
