@@ -1,18 +1,18 @@
 -- Names, as the reader's loops meet them. Assumes nothing.
-use Prim.Native.Nat.{ℕ, zero, suc, _+_, _-_, _*_, _≤_, _<_}
+use Prim.Native.Nat.{ℕ, _+_, _-_, _*_, _≤_, _<_}
 use mathlib.Core.Path.{_≡_, refl, sym, ap, _∙_}
 use mathlib.Core.List.{List}
 use mathlib.Core.Bool.{Bool, true, false, not, _&&_}
 use native.Mathlib.Numerals.{add-one}
 use native.Mathlib.Omega.{arith}
-use mathlib.Core.Logic.{_⊎_, ⊎-elim}
+use mathlib.Core.Logic.{⊎-elim}
 use lib.ListN.{length, getD, List·getD-eq-default}
 use lib.Dec.{leb, eqb}
 use borrow.Author.Tests.{eq-eqb, ne-eqb, le-leb, lt-leb, leb-true, eqb-true, eqb-false}
 use Rattle.words.specs.Words.{wordAt}
 use Rattle.source.specs.Indices.{every}
 use Rattle.source.specs.Names.{offsetOf, lengthOf, endOf, printed, nameFits, namesFit, sameBytes, sameName, nameNew, namesDiffer}
-use Rattle.source.proofs.Laws.{and-no, and-on, and-left, and-right, not-both, split, every-fails, every-more, every-all, every-at, every-none}
+use Rattle.source.proofs.Laws.{and-no, and-left, and-right, not-both, split, every-fails, every-more, every-all, every-at, every-none}
 
 eqb-sym-at : (t : Bool) (a b : ℕ) → eqb a b ≡ t → t ≡ eqb b a
 eqb-sym-at true a b e = sym (eq-eqb b a (sym (eqb-true a b e)))

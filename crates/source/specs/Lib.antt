@@ -5,4 +5,5 @@ pub mod Names
 pub mod Nodes
 pub mod Uses
 pub mod Record
+pub mod Readable
 pub mod Marks

@@ -11,6 +11,11 @@ unfoldable pub verdict : ℕ → Bool → Checked
 verdict n true = Checked.Accepted
 verdict n false = Checked.Refused n
 
+-- refused 5 where the first test fails, else 6 where the second does
+unfoldable pub outcome : Bool → Bool → Checked
+outcome true once = verdict 6 once
+outcome false once = Checked.Refused 5
+
 -- a mark is 0, 1, or 2 for more uses
 unfoldable pub capped : ℕ → ℕ
 capped zero = 0

@@ -83,6 +83,10 @@ unfoldable pub tree : List ℕ → ℕ → ℕ → ℕ → Tree
 tree b at zero k = asExpression Expr.unit
 tree b at (suc n) k = elim (eqb k n) [ true ↦ grown (tree b at n) (entryOf b at n) | false ↦ tree b at n k ]
 
+-- node k, which no later node changes
+abbrev pub nodeTree : List ℕ → ℕ → ℕ → Tree
+nodeTree b at k = tree b at (k + 1) k
+
 -- ---- the module
 
 unfoldable pub definitionAt : List ℕ → ℕ → ℕ → ℕ → ℕ → Pat × Expr

@@ -21,14 +21,14 @@ resultUses Chain.Parameters x k = 0
 resultUses Chain.Arms x k = same x k
 resultUses Chain.Items x k = 0
 
-module _ (b : List ℕ) (at : ℕ) where
-  -- by link j, where `rest` says how often the chain from a link on uses node k: the link's item, its arm result, the next link and what follows
-  unfoldable pub linkUses : Chain → (ℕ → ℕ) → Entry → ℕ → ℕ
-  linkUses h rest (Entry.Expression f) k = 0
-  linkUses h rest (Entry.Pattern p) k = 0
-  linkUses h rest (Entry.Link item next result) k = same item k + (resultUses h result k + pick (eqb next 4294967295) 0 (rest next))
-  linkUses h rest Entry.Bad k = 0
+-- by a link, where `rest` says how often the chain from a link on uses node k: its item, its arm result, the next link and what follows
+unfoldable pub linkUses : Chain → (ℕ → ℕ) → Entry → ℕ → ℕ
+linkUses h rest (Entry.Expression f) k = 0
+linkUses h rest (Entry.Pattern p) k = 0
+linkUses h rest (Entry.Link item next result) k = same item k + (resultUses h result k + pick (eqb next 4294967295) 0 (rest next))
+linkUses h rest Entry.Bad k = 0
 
+module _ (b : List ℕ) (at : ℕ) where
   -- by whoever names link x, of the links before n: x itself, and what it uses
   unfoldable pub chainUses : Chain → ℕ → ℕ → ℕ → ℕ
   chainUses h zero x k = 0
