@@ -10,15 +10,16 @@ use borrow.Author.Tests.{eqb-true}
 use lib.Dec.{eqb}
 use Rattle.words.specs.Words.{wordAt}
 use Rattle.source.specs.declared.Layout.{Layout}
+use Rattle.source.specs.Trees.{Pat, Expr}
 use Rattle.source.specs.Indices.{every, total, rows}
 use Rattle.source.specs.Layout.{names, publics, definitions, expressions, nodes, publicsAt, definitionsAt, expressionsAt, nodesAt, textAt, layoutOf}
-use Rattle.source.specs.Names.{nameOf}
-use Rattle.source.specs.Nodes.{entryOf, patternFits, definitionsFit, expressionsFit}
+use Rattle.source.specs.Names.{namesFit, nameOf}
+use Rattle.source.specs.Nodes.{entryOf, patternFits, publicsFit, definitionsFit, expressionsFit}
 use Rattle.source.specs.Uses.{same, byNodes, byDefinitions, byExpressions}
 use Rattle.source.specs.Record.{moduleOf, usedOnce, definitionAt, expressionAt}
 use Rattle.source.specs.Readable.{Readable}
-use Rattle.numbering.specs.Numbering.{Ids, Names, _>>=_, return, found, named, freshText, iterText, foldText, registered, numberModuleVariables, namesOf, numbered}
-use Rattle.numbering.specs.Numbers.{NumberedIn, numberedModule}
+use Rattle.numbering.specs.Numbering.{Ids, Names, Numbered, _>>=_, return, found, named, freshText, iterText, foldText, registered, numberModuleVariables, namesOf, numbered}
+use Rattle.numbering.specs.Numbers.{NumberedIn, numberedModule, numberedDefinition, numberedExpression}
 use Rattle.numbering.specs.Walks.{weight, each, coded, Holds, names as both, noRow, noEntries, Sizes, Room, Walkable, Ready, ReadyDefinitions, ReadyExpressions, sumFrom, definitionsWeight, expressionsWeight, Published, Registered, DefinitionsWalk, ExpressionsWalk}
 use Rattle.numbering.proofs.Laws.{every-at, and-left, and-right}
 use Rattle.numbering.proofs.Sums.{total-same, total-sum, total-zero, total-add, total-extend, one-at-most, same-no, used-by}
@@ -28,7 +29,7 @@ use Rattle.numbering.proofs.Scopes.{Weight, Parts, room-first, room-sec
 
 -- ---- rows at the start
 
-nothing : (n x : ℕ) → getD (replicate n 0) x 0 ≡ 0
+nothing : (n x : ℕ) → _≡_ {A = ℕ} (getD (replicate n 0) x 0) 0
 nothing zero x = refl
 nothing (suc n) zero = refl
 nothing (suc n) (suc x) = nothing n x
@@ -39,11 +40,11 @@ no-row-holds e x l = ap (λ (r : List ℕ). getD r x 0) e ∙ nothing 512 x
 
 pub no-row-long : {row : List ℕ} → row ≡ noRow → length row ≡ 512
 unfolding noRow
-no-row-long e = ap length e ∙ length-replicate 512 0
+no-row-long e = ap length e ∙ length-replicate {A = ℕ} 512 0
 
 pub no-entries-long : {row : List ℕ} → row ≡ noEntries → length row ≡ 2048
 unfolding noEntries
-no-entries-long e = ap length e ∙ length-replicate 2048 0
+no-entries-long e = ap length e ∙ length-replicate {A = ℕ} 2048 0
 
 append-none : (l : Ids) → l ++ [] ≡ l
 append-none [] = refl
@@ -56,6 +57,9 @@ three-registered b text count r s t h =
     let q = t .holds _ (s .holds _ (r .holds [] h)) in
     let e = append-none (named freshText 0 0 (rows count 0 (nameOf b text))) in
     rw e at q
+
+abbrev numbers-of : ℕ → List ℕ → List (Pat × Expr) → List Expr → Numbered
+numbers-of n ps ds es = record { next = n; publics = ps; definitions = ds; expressions = es }
 
 -- ---- sums over lists
 
@@ -159,11 +163,34 @@ module _ (b : List ℕ) (Q : Readable b) where
         let once = room 0 (omega arith) .met-once in
         let dn = d .numbers [] (both (pn .0) next₁) ids₃ hl (pn .1 .1) refl (earlier ids₂ ids₃ ids₃ lists-parts once (x .elsewhere) (λ j l. refl)) in
         let xn = x .numbers (dn .0) (both (dn .1 .0) next₂) ids₃ (dn .1 .1 .1 .0) (dn .1 .1 .1 .1) refl (later ids₃ ids₃ lists-parts (λ j l. refl)) in
+        let run : numberModuleVariables (moduleOf b) g ≡ ((rows (publics b) 0 (λ k. getD public₁ k 0), rows (definitions b) 0 (numberedDefinition ids₃ b (nodesAt b) (nodes b) (definitionsAt b)), rows (expressions b) 0 (numberedExpression ids₃ b (nodesAt b) (nodes b) (expressionsAt b))), both (xn .0) next₃) = rw (pn .1 .0, dn .1 .1 .0, xn .1 .0) in
         record {
-          numbers = rw (pn .1 .0, dn .1 .1 .0, xn .1 .0);
+          numbers = ap (λ (t : (List ℕ × List (Pat × Expr) × List Expr) × Names). numbers-of (t .1 .next) (t .0 .0) (t .0 .1) (t .0 .2)) run;
           ids-unnamed = λ j z. x .unnamed j z ∙ d .unnamed j z;
           ids-behind = λ j l. x .elsewhere j (omega (arith, none-behind j l, lists-weigh (same j))) ∙ d .elsewhere j (omega (arith, none-behind j l, lists-weigh (same j)));
           public-behind = λ j l. p .behind j (omega arith);
           ids-long = x .sizes .nodes ∙ sym li;
           public-long = p .long ∙ sym lp;
         }
+
+-- the same by a layout in a local
+module _ (b : List ℕ) (Q : Readable b) (l : Layout) (e : l ≡ layoutOf b) where
+  pub publics-asked : ((4 * (l .«publics_at» + l .publics) ≤ length b) × (publicsFit b (l .names) (l .«publics_at») (l .publics) ≡ true)) × ((l .names ≤ 512) × (l .publics ≤ 64))
+  unfolding layoutOf
+  publics-asked = rw e ((omega (arith, Q .long), Q .publics-fit), (Q .names-few, Q .publics-few))
+
+  pub definitions-asked : (next : ℕ) → next ≤ 9 + l .publics → ((4 * (l .«definitions_at» + 2 * l .definitions) ≤ length b) × (definitionsFit b (l .«nodes_at») (l .nodes) (l .«definitions_at») (l .definitions) ≡ true)) × ReadyDefinitions b (l .«nodes_at») (l .nodes) (l .«definitions_at») (l .definitions) 0 next
+  unfolding layoutOf
+  definitions-asked = rw e (λ next q. ((omega (arith, Q .long), Q .definitions-fit), definitions-ready b Q next (omega (arith, Q .publics-few))))
+
+  pub expressions-asked : (next next′ : ℕ) → next ≤ 9 + l .publics → next′ ≤ next + definitionsWeight b (l .«nodes_at») (l .«definitions_at») (l .definitions) 0 each → ((4 * (l .«expressions_at» + l .expressions) ≤ length b) × (expressionsFit b (l .«nodes_at») (l .nodes) (l .«expressions_at») (l .expressions) ≡ true)) × ReadyExpressions b (l .«nodes_at») (l .nodes) (l .«expressions_at») (l .expressions) 0 next′
+  unfolding layoutOf
+  expressions-asked = rw e (λ next next′ q r. ((omega (arith, Q .long), Q .expressions-fit), expressions-ready b Q next next′ (omega (arith, Q .publics-few)) r))
+
+  pub names-asked : ((namesFit b (l .«text_at») (l .names) ≡ true) × (4 * (5 + 2 * l .names) ≤ length b)) × (l .names ≤ 512)
+  unfolding layoutOf
+  names-asked = rw e ((Q .names-fit, omega (arith, Q .long)), Q .names-few)
+
+  pub entire-at : {locals globals public ids : List ℕ} {next₁ : ℕ} {globals₁ public₁ : List ℕ} {next₂ : ℕ} {locals₂ globals₂ undo₂ old₂ ids₂ : List ℕ} {next₃ : ℕ} {locals₃ globals₃ undo₃ old₃ ids₃ : List ℕ} → Published b (l .«publics_at») (l .publics) 0 9 locals globals public next₁ globals₁ public₁ → DefinitionsWalk b (l .«nodes_at») (l .nodes) (l .«definitions_at») (l .definitions) 0 next₁ locals globals₁ ids next₂ locals₂ globals₂ undo₂ old₂ ids₂ → ExpressionsWalk b (l .«nodes_at») (l .nodes) (l .«expressions_at») (l .expressions) 0 next₂ 0 locals₂ globals₂ undo₂ old₂ ids₂ next₃ locals₃ globals₃ undo₃ old₃ ids₃ → Holds locals [] → Holds globals (registered (rows (l .names) 0 (nameOf b (l .«text_at»))) .globals) → length ids ≡ 2048 → length public ≡ 64 → NumberedIn b ids public next₃ ids₃ public₁
+  unfolding layoutOf
+  entire-at = rw e (λ p d x hl hg li lp. entire b Q p d x hl hg li lp)

@@ -13,3 +13,4 @@ mod Binding
 mod Ways
 mod Listed
 mod First
+mod Entire

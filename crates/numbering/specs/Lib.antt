@@ -3,3 +3,4 @@ pub mod Inputs
 pub mod Statements
 pub mod Numbers
 pub mod Walks
+pub mod Outcome

@@ -15,7 +15,6 @@ use Rattle.source.specs.Names.{nameOf}
 use Rattle.numbering.specs.Numbering.{named}
 use Rattle.numbering.proofs.First.{text-at, text-fits, found-start, found-no, found-yes, found-none}
 
-
 abbrev Inv-loop : tie.InvT-loop
 Inv-loop s text count t id globals₀ k₀ globals k = ((named t id k (rows (count - k) k (nameOf s text)) ≡ named t id 0 (rows count 0 (nameOf s text))) × ((k ≤ count) × (globals ≡ globals₀)))
 
@@ -77,7 +76,7 @@ loop-less : tie.Need-loop-less Inv-loop μ-loop
 loop-less c = search needs
 
 loop-again : tie.Need-loop-again Inv-loop μ-loop
-loop-again c = (found-no (c .before .before .before .before .before .before .before .before .args .s .now) (c .before .before .before .before .before .before .before .before .args .t .now) (c .before .before .before .before .before .before .before .before .args .text) (c .before .before .before .before .before .before .before .before .args .count) (c .before .before .before .before .before .before .before .before .args .id) _ (c .before .before .before .before .loop-test .taken) (text-at _ _ _ _ (c .before .before .before .word-at .ensures) (c .before .before .word-at2 .ensures) (c .before .same-text .ensures)) (not-false _ (c .if1 .left)) (c .before .before .before .before .before .loop .inv .0), (omega arith, c .before .before .before .before .before .loop .inv .1 .1))
+loop-again c = (found-no (c .before .before .before .before .before .before .before .before .args .s .now) (c .before .before .before .before .before .before .before .before .args .t .now) (c .before .before .before .before .before .before .before .before .args .text) (c .before .before .before .before .before .before .before .before .args .count) (c .before .before .before .before .before .before .before .before .args .id) _ (c .before .before .before .before .loop-test .taken) (text-at _ _ _ _ (c .before .before .before .word-at .ensures) (c .before .before .word-at2 .ensures) (c .before .same-text .ensures)) (c .if1 .left) (c .before .before .before .before .before .loop .inv .0), (omega arith, c .before .before .before .before .before .loop .inv .1 .1))
 
 returns-2 : tie.Need-returns-2 Inv-loop μ-loop
 returns-2 c = rw (c .before .loop .inv .1 .1) (found-none (c .before .before .before .before .args .s .now) (c .before .before .before .before .args .t .now) (c .before .before .before .before .args .text) (c .before .before .before .before .args .count) (c .before .before .before .before .args .id) _ (c .loop-test .left) (c .before .before .before .before .pre .1 .0 .1) (c .before .loop .inv .0))
