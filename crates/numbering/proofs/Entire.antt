@@ -9,6 +9,7 @@ use lib.ListN.{length, getD, replicate, length-replicate}
 use borrow.Author.Tests.{eqb-true}
 use lib.Dec.{eqb}
 use Rattle.words.specs.Words.{wordAt}
+use Rattle.source.specs.declared.Checked.{Checked}
 use Rattle.source.specs.declared.Layout.{Layout}
 use Rattle.source.specs.Trees.{Pat, Expr}
 use Rattle.source.specs.Indices.{every, total, rows}
@@ -16,7 +17,7 @@ use Rattle.source.specs.Layout.{names, publics, definitions, expressions, nodes
 use Rattle.source.specs.Names.{namesFit, nameOf}
 use Rattle.source.specs.Nodes.{entryOf, patternFits, publicsFit, definitionsFit, expressionsFit}
 use Rattle.source.specs.Uses.{same, byNodes, byDefinitions, byExpressions}
-use Rattle.source.specs.Record.{moduleOf, usedOnce, definitionAt, expressionAt}
+use Rattle.source.specs.Record.{Read, checked, moduleOf, usedOnce, definitionAt, expressionAt}
 use Rattle.source.specs.Readable.{Readable}
 use Rattle.numbering.specs.Numbering.{Ids, Names, Numbered, _>>=_, return, found, named, freshText, iterText, foldText, registered, numberModuleVariables, namesOf, numbered}
 use Rattle.numbering.specs.Numbers.{NumberedIn, numberedModule, numberedDefinition, numberedExpression}
@@ -194,3 +195,9 @@ module _ (b : List ℕ) (Q : Readable b) (l : Layout) (e : l ≡ layoutOf b) whe
   pub entire-at : {locals globals public ids : List ℕ} {next₁ : ℕ} {globals₁ public₁ : List ℕ} {next₂ : ℕ} {locals₂ globals₂ undo₂ old₂ ids₂ : List ℕ} {next₃ : ℕ} {locals₃ globals₃ undo₃ old₃ ids₃ : List ℕ} → Published b (l .«publics_at») (l .publics) 0 9 locals globals public next₁ globals₁ public₁ → DefinitionsWalk b (l .«nodes_at») (l .nodes) (l .«definitions_at») (l .definitions) 0 next₁ locals globals₁ ids next₂ locals₂ globals₂ undo₂ old₂ ids₂ → ExpressionsWalk b (l .«nodes_at») (l .nodes) (l .«expressions_at») (l .expressions) 0 next₂ 0 locals₂ globals₂ undo₂ old₂ ids₂ next₃ locals₃ globals₃ undo₃ old₃ ids₃ → Holds locals [] → Holds globals (registered (rows (l .names) 0 (nameOf b (l .«text_at»))) .globals) → length ids ≡ 2048 → length public ≡ 64 → NumberedIn b ids public next₃ ids₃ public₁
   unfolding layoutOf
   entire-at = rw e (λ p d x hl hg li lp. entire b Q p d x hl hg li lp)
+
+-- a refused record
+pub refused-is : (r : Read) {n : ℕ} → Checked.Refused n ≡ checked r → r ≡ Read.refused n
+unfolding checked
+refused-is (Read.module-of m) e = let z : _≡_ {A = ℕ} 0 1 = cc in absurd (omega arith)
+refused-is (Read.refused m) {n} e = let z : n ≡ m = cc in ap Read.refused (sym z)
