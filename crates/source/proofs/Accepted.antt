@@ -12,20 +12,9 @@ use Rattle.source.specs.Trees.{Module}
 use Rattle.source.specs.Layout.{counted, listed, names, publics, definitions, expressions, nodes, publicsAt, definitionsAt, expressionsAt, nodesAt, textAt}
 use Rattle.source.specs.Names.{namesFit, namesDiffer}
 use Rattle.source.specs.Nodes.{nodesFit, publicsFit, definitionsFit, expressionsFit}
-use Rattle.source.specs.Record.{Read, shaped, usedOnce, moduleOf, sourceOf, checked}
+use Rattle.source.specs.Record.{Read, shaped, usedOnce, moduleOf, unless, sourceOf, checked}
 use Rattle.source.specs.Readable.{Readable}
 use Rattle.source.proofs.Laws.{and-left, and-right}
-
--- the seven tests, in order, and what they leave
-abbrev answer : Bool → Bool → Bool → Bool → Bool → Bool → Bool → Module → Read
-answer false c l n d s u m = Read.refused 1
-answer true false l n d s u m = Read.refused 2
-answer true true false n d s u m = Read.refused 1
-answer true true true false d s u m = Read.refused 3
-answer true true true true false s u m = Read.refused 4
-answer true true true true true false u m = Read.refused 5
-answer true true true true true true false m = Read.refused 6
-answer true true true true true true true m = Read.module-of m
 
 -- the tests that an accepted record passes
 pub record Passed (b : List ℕ) : Type 0 where
@@ -40,37 +29,36 @@ pub record Passed (b : List ℕ) : Type 0 where
 no : {A : Type 0} {m : Module} {n : ℕ} → Read.refused n ≡ Read.module-of m → A
 no e = let z : _≡_ {A = ℕ} 0 1 = cc in absurd (omega arith)
 
-module _ (b : List ℕ) (m : Module) where
-  pass : (h c l n d s u : Bool) → leb 20 (length b) ≡ h → counted b ≡ c → listed b ≡ l → namesFit b (textAt b) (names b) ≡ n → namesDiffer b (textAt b) (names b) ≡ d → shaped b ≡ s → usedOnce b ≡ u → answer h c l n d s u (moduleOf b) ≡ Read.module-of m → Passed b × (m ≡ moduleOf b)
-  pass false c l n d s u e1 e2 e3 e4 e5 e6 e7 q = no q
-  pass true false l n d s u e1 e2 e3 e4 e5 e6 e7 q = no q
-  pass true true false n d s u e1 e2 e3 e4 e5 e6 e7 q = no q
-  pass true true true false d s u e1 e2 e3 e4 e5 e6 e7 q = no q
-  pass true true true true false s u e1 e2 e3 e4 e5 e6 e7 q = no q
-  pass true true true true true false u e1 e2 e3 e4 e5 e6 e7 q = no q
-  pass true true true true true true false e1 e2 e3 e4 e5 e6 e7 q = no q
-  pass true true true true true true true e1 e2 e3 e4 e5 e6 e7 q = (record { header = e1; counts = e2; lists = e3; names-fit = e4; names-differ = e5; shapes = e6; used-once = e7 }, cc)
-
-pub answer-is : (b : List ℕ) → sourceOf b ≡ answer (leb 20 (length b)) (counted b) (listed b) (namesFit b (textAt b) (names b)) (namesDiffer b (textAt b) (names b)) (shaped b) (usedOnce b) (moduleOf b)
-unfolding sourceOf
-answer-is b = cases (leb 20 (length b)) (counted b) (listed b) (namesFit b (textAt b) (names b)) (namesDiffer b (textAt b) (names b)) (shaped b) (usedOnce b)
-  where
-    cases : (h c l n d s u : Bool) → elim h [ false ↦ Read.refused 1 | true ↦ elim c [ false ↦ Read.refused 2 | true ↦ elim l [ false ↦ Read.refused 1 | true ↦ elim n [ false ↦ Read.refused 3 | true ↦ elim d [ false ↦ Read.refused 4 | true ↦ elim s [ false ↦ Read.refused 5 | true ↦ elim u [ false ↦ Read.refused 6 | true ↦ Read.module-of (moduleOf b) ] ] ] ] ] ] ] ≡ answer h c l n d s u (moduleOf b)
-    cases false c l n d s u = refl
-    cases true false l n d s u = refl
-    cases true true false n d s u = refl
-    cases true true true false d s u = refl
-    cases true true true true false s u = refl
-    cases true true true true true false u = refl
-    cases true true true true true true false = refl
-    cases true true true true true true true = refl
+-- a test that was passed
+pass : (t : Bool) (n : ℕ) (r : Read) (m : Module) → unless t n r ≡ Read.module-of m → (t ≡ true) × (r ≡ Read.module-of m)
+unfolding unless
+pass true n r m e = (refl, e)
+pass false n r m e = no e
 
 pub passed : (b : List ℕ) (m : Module) → sourceOf b ≡ Read.module-of m → Passed b × (m ≡ moduleOf b)
-passed b m q = pass b m _ _ _ _ _ _ _ refl refl refl refl refl refl refl (sym (answer-is b) ∙ q)
+unfolding sourceOf
+passed b m q =
+    let r7 = Read.module-of (moduleOf b) in
+    let r6 = unless (usedOnce b) 6 r7 in
+    let r5 = unless (shaped b) 5 r6 in
+    let r4 = unless (namesDiffer b (textAt b) (names b)) 4 r5 in
+    let r3 = unless (namesFit b (textAt b) (names b)) 3 r4 in
+    let r2 = unless (listed b) 1 r3 in
+    let r1 = unless (counted b) 2 r2 in
+    let p1 = pass (leb 20 (length b)) 1 r1 m q in
+    let p2 = pass (counted b) 2 r2 m (p1 .1) in
+    let p3 = pass (listed b) 1 r3 m (p2 .1) in
+    let p4 = pass (namesFit b (textAt b) (names b)) 3 r4 m (p3 .1) in
+    let p5 = pass (namesDiffer b (textAt b) (names b)) 4 r5 m (p4 .1) in
+    let p6 = pass (shaped b) 5 r6 m (p5 .1) in
+    let p7 = pass (usedOnce b) 6 r7 m (p6 .1) in
+    let e : Read.module-of (moduleOf b) ≡ Read.module-of m = p7 .1 in
+    (record { header = p1 .0; counts = p2 .0; lists = p3 .0; names-fit = p4 .0; names-differ = p5 .0; shapes = p6 .0; used-once = p7 .0 }, cc)
 
 -- whatever passes is accepted
 pub accepts-passed : (b : List ℕ) → Passed b → sourceOf b ≡ Read.module-of (moduleOf b)
-accepts-passed b p = answer-is b ∙ rw (p .header, p .counts, p .lists, p .names-fit, p .names-differ, p .shapes, p .used-once)
+unfolding sourceOf unless
+accepts-passed b p = rw (p .header, p .counts, p .lists, p .names-fit, p .names-differ, p .shapes, p .used-once)
 
 -- ---- what a walk relies on
 

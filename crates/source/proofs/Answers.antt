@@ -15,7 +15,7 @@ use Rattle.source.specs.Layout.{layoutOf, counted, listed, names, public
 use Rattle.source.specs.Names.{namesFit, namesDiffer}
 use Rattle.source.specs.Nodes.{nodesFit, publicsFit, definitionsFit, expressionsFit}
 use Rattle.source.specs.Uses.{byNodes, byDefinitions, byExpressions}
-use Rattle.source.specs.Record.{shaped, usedOnce, sourceOf, checked}
+use Rattle.source.specs.Record.{shaped, usedOnce, unless, sourceOf, checked}
 use Rattle.source.specs.Marks.{verdict, outcome, Adds, noMarks}
 use Rattle.source.proofs.Laws.{and-left, and-right}
 use Rattle.source.proofs.Marks.{accepted, refused, adds-more, counted-once}
@@ -100,8 +100,8 @@ trees-not-once b s e h = rw (s, ← e, h)
 -- ---- the numbers in their order
 
 pub is-short : (b : List ℕ) → length b < 20 → Checked.Refused 1 ≡ checked (sourceOf b)
-unfolding sourceOf checked
-is-short b h = rw (lt-leb 20 (length b) h, sourceOf)
+unfolding sourceOf checked unless
+is-short b h = rw (lt-leb 20 (length b) h)
 
 module _ (b : List ℕ) (long : 20 ≤ length b) {l : Layout} (e : l ≡ layoutOf b) {t : Bool} (c : t ≡ leb (l .names) 512 && (leb (l .publics) 64 && (leb (l .definitions) 512 && (leb (l .expressions) 512 && leb (l .nodes) 2048)))) where
   counts : t ≡ counted b
@@ -109,8 +109,8 @@ module _ (b : List ℕ) (long : 20 ≤ length b) {l : Layout} (e : l ≡ layoutO
   counts = rw e at c
 
   pub is-over : t ≡ false → Checked.Refused 2 ≡ checked (sourceOf b)
-  unfolding sourceOf checked
-  is-over f = rw (le-leb 20 (length b) long, sym counts ∙ f, sourceOf)
+  unfolding sourceOf checked unless
+  is-over f = rw (le-leb 20 (length b) long, sym counts ∙ f)
 
   module _ {t2 : Bool} (y1 : t ≡ true) (c2 : t2 ≡ leb (l .«text_at») (length b) && (ltb 0 (l .names) || eqb (length b) (l .«text_at»))) where
     lists : t2 ≡ listed b
@@ -118,8 +118,8 @@ module _ (b : List ℕ) (long : 20 ≤ length b) {l : Layout} (e : l ≡ layoutO
     lists = rw e at c2
 
     pub is-unlisted : t2 ≡ false → Checked.Refused 1 ≡ checked (sourceOf b)
-    unfolding sourceOf checked
-    is-unlisted f = rw (le-leb 20 (length b) long, sym counts ∙ y1, sym lists ∙ f, sourceOf)
+    unfolding sourceOf checked unless
+    is-unlisted f = rw (le-leb 20 (length b) long, sym counts ∙ y1, sym lists ∙ f)
 
     module _ {t3 : Bool} (y2 : t2 ≡ true) (c3 : t3 ≡ namesFit b (l .«text_at») (l .names)) where
       named : t3 ≡ namesFit b (textAt b) (names b)
@@ -127,8 +127,8 @@ module _ (b : List ℕ) (long : 20 ≤ length b) {l : Layout} (e : l ≡ layoutO
       named = rw e at c3
 
       pub is-unnamed : t3 ≡ false → Checked.Refused 3 ≡ checked (sourceOf b)
-      unfolding sourceOf checked
-      is-unnamed f = rw (le-leb 20 (length b) long, sym counts ∙ y1, sym lists ∙ y2, sym named ∙ f, sourceOf)
+      unfolding sourceOf checked unless
+      is-unnamed f = rw (le-leb 20 (length b) long, sym counts ∙ y1, sym lists ∙ y2, sym named ∙ f)
 
       module _ {t4 : Bool} (y3 : t3 ≡ true) (c4 : t4 ≡ namesDiffer b (l .«text_at») (l .names)) where
         differ : t4 ≡ namesDiffer b (textAt b) (names b)
@@ -136,14 +136,14 @@ module _ (b : List ℕ) (long : 20 ≤ length b) {l : Layout} (e : l ≡ layoutO
         differ = rw e at c4
 
         pub is-equal : t4 ≡ false → Checked.Refused 4 ≡ checked (sourceOf b)
-        unfolding sourceOf checked
-        is-equal f = rw (le-leb 20 (length b) long, sym counts ∙ y1, sym lists ∙ y2, sym named ∙ y3, sym differ ∙ f, sourceOf)
+        unfolding sourceOf checked unless
+        is-equal f = rw (le-leb 20 (length b) long, sym counts ∙ y1, sym lists ∙ y2, sym named ∙ y3, sym differ ∙ f)
 
         trees : t4 ≡ true → (u v : Bool) → shaped b ≡ u → usedOnce b ≡ v → outcome u v ≡ checked (sourceOf b)
-        unfolding sourceOf checked outcome verdict
-        trees y4 false v p q = rw (le-leb 20 (length b) long, sym counts ∙ y1, sym lists ∙ y2, sym named ∙ y3, sym differ ∙ y4, p, sourceOf)
-        trees y4 true false p q = rw (le-leb 20 (length b) long, sym counts ∙ y1, sym lists ∙ y2, sym named ∙ y3, sym differ ∙ y4, p, q, sourceOf)
-        trees y4 true true p q = rw (le-leb 20 (length b) long, sym counts ∙ y1, sym lists ∙ y2, sym named ∙ y3, sym differ ∙ y4, p, q, sourceOf)
+        unfolding sourceOf checked unless outcome verdict
+        trees y4 false v p q = rw (le-leb 20 (length b) long, sym counts ∙ y1, sym lists ∙ y2, sym named ∙ y3, sym differ ∙ y4, p)
+        trees y4 true false p q = rw (le-leb 20 (length b) long, sym counts ∙ y1, sym lists ∙ y2, sym named ∙ y3, sym differ ∙ y4, p, q)
+        trees y4 true true p q = rw (le-leb 20 (length b) long, sym counts ∙ y1, sym lists ∙ y2, sym named ∙ y3, sym differ ∙ y4, p, q)
 
         pub is-trees : {r : Checked} → t4 ≡ true → r ≡ outcome (shaped b) (usedOnce b) → r ≡ checked (sourceOf b)
         is-trees y4 p = p ∙ trees y4 (shaped b) (usedOnce b) refl refl

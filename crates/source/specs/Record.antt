@@ -121,38 +121,22 @@ pub data Read : Type 0 where
   module-of : Module → Read
   refused : ℕ → Read
 
+-- the number where a test fails, else what follows
+unfoldable pub unless : Bool → ℕ → Read → Read
+unless true n r = r
+unless false n r = Read.refused n
+
 -- in the order of the table
 unfoldable pub sourceOf : List ℕ → Read
 sourceOf b =
-    elim (leb 20 (length b)) [
-      | false ↦ Read.refused 1
-      | true ↦
-          elim (counted b) [
-            | false ↦ Read.refused 2
-            | true ↦
-                elim (listed b) [
-                  | false ↦ Read.refused 1
-                  | true ↦
-                      elim (namesFit b (textAt b) (names b)) [
-                        | false ↦ Read.refused 3
-                        | true ↦
-                            elim (namesDiffer b (textAt b) (names b)) [
-                              | false ↦ Read.refused 4
-                              | true ↦
-                                  elim (shaped b) [
-                                    | false ↦ Read.refused 5
-                                    | true ↦
-                                        elim (usedOnce b) [
-                                          | false ↦ Read.refused 6
-                                          | true ↦
-                                              Read.module-of (moduleOf b)
-                                        ]
-                                  ]
-                            ]
-                      ]
-                ]
-          ]
-    ]
+    unless (leb 20 (length b)) 1
+    (unless (counted b) 2
+    (unless (listed b) 1
+    (unless (namesFit b (textAt b) (names b)) 3
+    (unless (namesDiffer b (textAt b) (names b)) 4
+    (unless (shaped b) 5
+    (unless (usedOnce b) 6
+    (Read.module-of (moduleOf b))))))))
 
 -- the code's answer for it
 unfoldable pub checked : Read → Checked
