@@ -1,3 +1,4 @@
 pub mod Agreement
 pub mod Cases
 pub mod Example
+pub mod Operators
