@@ -18,10 +18,10 @@ use Rattle.constraint.specs.Trees.{ConstraintModule}
 use Rattle.constraint.specs.Record.{equalitiesWords, keptWords, keptNodes}
 use Rattle.constraint.proofs.Lengths.{length-equalities, length-kept, length-kept-nodes, equalities-append}
 use Rattle.passes.specs.Passes.{keepIf, idsFrom, member, those, isNever, usage, classifyDefs, Substitutions, copyPropagateDef, afterDef, copyPropagateDefs, copyPropagate, eliminateDeadEqualities, Cuts, joined, flattenLists, flattenModuleTo3ac, passes}
-use Rattle.classify.specs.Arrays.{marked, Classified}
+use Rattle.classify.specs.Arrays.{marked, Classified, proversOf, usedOf}
 use Rattle.classify.proofs.Whole.{classified-provers}
 use Rattle.cutting.specs.declared.Place.{Place}
-use Rattle.cutting.specs.Cutting.{putEqualities, after, proversOf, usedOf, defsCut, defsAfter, equationsCut, Room}
+use Rattle.cutting.specs.Cutting.{putEqualities, after, defsCut, defsAfter, equationsCut, Room}
 use Rattle.cutting.proofs.Joining.{Puts, Few, place-at, place-next}
 use Rattle.cutting.proofs.Definitions.{DefsLeave, few-defs}
 use Rattle.cutting.proofs.Equations.{few-equations}
@@ -29,7 +29,6 @@ use Rattle.cutting.proofs.Trees.{copied-nodes}
 use Rattle.copies.specs.Substituted.{substOf}
 use Rattle.keeping.specs.declared.Kept.{Kept}
 use Rattle.keeping.specs.Keeping.{keptOf, putKept, putNodes, keptFrom, Keeps, NodeRoom, WordRoom}
-use Rattle.keeping.specs.Keeping.{proversOf as keptProvers, usedOf as keptUsed}
 use Rattle.cut.specs.declared.body.Built.{Built}
 use Rattle.cut.specs.Body.{bodyWords, Made, Fitting}
 
@@ -58,7 +57,7 @@ module _ (b : List ℕ) (k : ℕ) where
   }
 
   pub by-parts : k ≡ length (classifyDefs (moduleOf b) .definitions) → passes (moduleOf b) ≡ parts
-  unfolding passes flattenModuleTo3ac eliminateDeadEqualities copyPropagate classifyDefs flattenLists joined defsCut defsAfter equationsCut proversOf usedOf keptOf keptProvers keptUsed
+  unfolding passes flattenModuleTo3ac eliminateDeadEqualities copyPropagate classifyDefs flattenLists joined defsCut defsAfter equationsCut proversOf usedOf keptOf
   by-parts e = rw e
 
 -- ---- one list behind another
@@ -129,24 +128,24 @@ copies-long ps k s (d ∷ ds) = ap suc (copies-long ps k (afterDef ps k s d) ds)
 
 module _ (b : List ℕ) (k : ℕ) where
   kept-nodes-few : definitionsNodes (keptDefinitions b k) ≤ definitionsNodes (moduleOf b .definitions)
-  unfolding keptOf keptUsed
+  unfolding keptOf usedOf
   kept-nodes-few =
-      let u = keptUsed b (moduleOf b .definitions) in
+      let u = usedOf b (moduleOf b .definitions) in
       omega (
         arith,
-        those-nodes (λ v. member v (keptProvers b)) (copyPropagateDefs (keptProvers b) k (none-yet b k) u),
-        copies-nodes (keptProvers b) k (none-yet b k) u,
+        those-nodes (λ v. member v (proversOf b)) (copyPropagateDefs (proversOf b) k (none-yet b k) u),
+        copies-nodes (proversOf b) k (none-yet b k) u,
         those-nodes (λ v. not (isNever (usage (moduleOf b) v))) (moduleOf b .definitions),
       )
 
   kept-count-few : length (keptDefinitions b k) ≤ length (moduleOf b .definitions)
-  unfolding keptOf keptUsed
+  unfolding keptOf usedOf
   kept-count-few =
-      let u = keptUsed b (moduleOf b .definitions) in
+      let u = usedOf b (moduleOf b .definitions) in
       omega (
         arith,
-        those-few (λ v. member v (keptProvers b)) (copyPropagateDefs (keptProvers b) k (none-yet b k) u),
-        copies-long (keptProvers b) k (none-yet b k) u,
+        those-few (λ v. member v (proversOf b)) (copyPropagateDefs (proversOf b) k (none-yet b k) u),
+        copies-long (proversOf b) k (none-yet b k) u,
         those-few (λ v. not (isNever (usage (moduleOf b) v))) (moduleOf b .definitions),
       )
 

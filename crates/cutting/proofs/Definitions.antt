@@ -17,7 +17,8 @@ use Rattle.copies.specs.Substituted.{substOf}
 use Rattle.cutting.specs.declared.Target.the-variants.{Given}
 use Rattle.cutting.specs.declared.Cut.{Cut}
 use Rattle.cutting.specs.declared.Place.{Place}
-use Rattle.cutting.specs.Cutting.{targetOf, treeCut, putEqualities, placeFrom, proversOf, usedOf, defsCut, defsAfter, Room}
+use Rattle.classify.specs.Arrays.{proversOf, usedOf}
+use Rattle.cutting.specs.Cutting.{targetOf, treeCut, putEqualities, placeFrom, defsCut, defsAfter, Room}
 use Rattle.cutting.proofs.Trees.{cut-few, cut-ids}
 use Rattle.cutting.proofs.Ways.{Leaves}
 use Rattle.cutting.proofs.Joining.{Puts, place-next, puts-none, puts-tree, puts-join, joined-none, Few, few-none, few-join, few-less, room-puts}

@@ -12,6 +12,7 @@ use Rattle.constraint.specs.declared.Equality.{Equality as Written}
 use Rattle.constraint.specs.Trees.{Side, Equality, written}
 use Rattle.constraint.specs.Record.{equalitiesWords}
 use Rattle.passes.specs.Passes.{those, isNever, usage, classifyDefs, Substitutions, copyPropagateExpr, copyPropagateDefs, afterDefs, copyPropagateEquations, alive, flattenExprTo3ac, flattenDefs, flattenEquations, Cut as Cutting, Cuts}
+use Rattle.classify.specs.Arrays.{proversOf, usedOf}
 use Rattle.copies.specs.declared.Copied.{Copied}
 use Rattle.cutting.specs.declared.Target.{Target}
 use Rattle.cutting.specs.declared.Target.the-variants.{New, Given}
@@ -54,13 +55,6 @@ pub record Room (n at next : ℕ) (body : List ℕ) : Type 0 where
 -- the code's answer for cuts whose equalities are written from word `at` on
 unfoldable pub placeFrom : ℕ → Cuts → Place
 placeFrom at c = record { next = c .next; at = after at (c .equalities) }
-
--- of the record with the bytes b: the prover ids after classify_defs, and those of some definitions that are used
-unfoldable pub proversOf : List ℕ → List ℕ
-proversOf b = classifyDefs (moduleOf b) .provers
-
-unfoldable pub usedOf : List ℕ → List Definition → List Definition
-usedOf b ds = those (λ v. not (isNever (usage (moduleOf b) v))) ds
 
 -- definitions of that record, those that are used, with the substitutions made one after the other: cut, and the substitutions after them
 unfoldable pub defsCut : List ℕ → ℕ → Substitutions → List Definition → ℕ → Cuts

@@ -14,7 +14,8 @@ use Rattle.passes.specs.Passes.{member, keepIf, those, isNever, usage, Substitu
 use Rattle.classify.specs.Arrays.{usageAt, usageOf, marked, Classified}
 use Rattle.copies.specs.Substituted.{substOf}
 use Rattle.keeping.specs.declared.Kept.{Kept}
-use Rattle.keeping.specs.Keeping.{proversOf, usedOf, keptOf, keptAfter, putTree, putKept, putNodes, keptFrom, Keeps, NodeRoom}
+use Rattle.classify.specs.Arrays.{proversOf, usedOf}
+use Rattle.keeping.specs.Keeping.{keptOf, keptAfter, putTree, putKept, putNodes, keptFrom, Keeps, NodeRoom}
 use Rattle.keeping.proofs.Nodes.{copied-nodes, next-is}
 
 -- what the arrays say of an id

@@ -17,7 +17,8 @@ use Rattle.passes.proofs.Loops.{those-append, copies-append, after-append}
 use Rattle.classify.proofs.Lists.{definitionsFrom, definitions-none, definitions-whole, OverDefinitions, definitions-more}
 use Rattle.copies.specs.Substituted.{substOf}
 use Rattle.keeping.specs.declared.Kept.{Kept}
-use Rattle.keeping.specs.Keeping.{proversOf, usedOf, keptOf, keptAfter, putKept, putNodes, keptFrom, Keeps, NodeRoom, WordRoom}
+use Rattle.classify.specs.Arrays.{proversOf, usedOf}
+use Rattle.keeping.specs.Keeping.{keptOf, keptAfter, putKept, putNodes, keptFrom, Keeps, NodeRoom, WordRoom}
 use Rattle.keeping.proofs.Definitions.{keeps-none, kept-small}
 
 -- ---- a list with one definition more

@@ -9,15 +9,9 @@ use Rattle.flat.specs.Trees.{Flat, Definition, definitionsNodes}
 use Rattle.flat.specs.Record.{moduleOf}
 use Rattle.constraint.specs.Record.{nodesFrom, keptWords, keptNodes}
 use Rattle.passes.specs.Passes.{member, those, isNever, usage, classifyDefs, Substitutions, copyPropagateDefs, afterDefs}
+use Rattle.classify.specs.Arrays.{proversOf, usedOf}
 use Rattle.copies.specs.Substituted.{substOf}
 use Rattle.keeping.specs.declared.Kept.{Kept}
-
--- of the record with the bytes b: the prover ids after classify_defs, and those of some definitions that are used
-unfoldable pub proversOf : List ℕ → List ℕ
-proversOf b = classifyDefs (moduleOf b) .provers
-
-unfoldable pub usedOf : List ℕ → List Definition → List Definition
-usedOf b ds = those (λ v. not (isNever (usage (moduleOf b) v))) ds
 
 -- definitions of that record, those that are used, with the substitutions made one after the other: "kept definitions are those of prover
 -- variables only, uncut"; and the substitutions after them
