@@ -11,13 +11,14 @@ use mir.Facts.{toZ-ofZ}
 use Rattle.words.specs.Words.{wordAt, bytesOf}
 use Rattle.words.proofs.Laws.{wordAt-bytesOf}
 use Rattle.field.specs.declared.InfixOp.{InfixOp}
+use Rattle.flat.specs.Trees.{definitionsNodes}
 use Rattle.flat.specs.Rules.{All}
 use Rattle.flat.specs.Record.{pick, operatorOf}
 use Rattle.constraint.specs.declared.Term.{Term}
 use Rattle.constraint.specs.declared.Operation.{Operation}
 use Rattle.constraint.specs.declared.Equality.{Equality as Written}
 use Rattle.constraint.specs.Trees.{Equality, ConstraintModule, written}
-use Rattle.constraint.specs.Record.{numberWord, termWords, operatorWord, operationWord, writtenWords, equalityWords, equalitiesWords, keptWords, keptNodes, nodeCount, headerWords, constraintWords, constraintBytes}
+use Rattle.constraint.specs.Record.{numberWord, termWords, operatorWord, operationWord, writtenWords, equalityWords, equalitiesWords, keptWords, keptNodes, headerWords, constraintWords, constraintBytes}
 use Rattle.listing.specs.Text.{equalityText, equalitiesText, nextText, listing}
 use Rattle.listing.specs.Reading.{operationOf, termOf, equalityAt, linesFrom, textOf, Small, SmallWritten}
 use Rattle.listing.proofs.Read.{equality-read}
@@ -96,7 +97,7 @@ lines pre post (q ∷ qs) at e s =
 pub text-listed : (c : ConstraintModule) → All (λ (q : Equality). SmallWritten (written q)) (c .equalities) → textOf (constraintBytes c) ≡ listing c
 unfolding textOf listing constraintBytes constraintWords headerWords
 text-listed c s =
-    let header : List ℕ = headerWords (c .next) (length (c .publics)) (length (c .provers)) (length (c .equalities)) (length (c .kept)) (nodeCount (c .kept)) in
+    let header : List ℕ = headerWords (c .next) (length (c .publics)) (length (c .provers)) (length (c .equalities)) (length (c .kept)) (definitionsNodes (c .kept)) in
     let tail = keptWords 0 (c .kept) ++ keptNodes 0 (c .kept) in
     let inner = equalitiesWords (c .equalities) ++ tail in
     let ws = header ++ (c .publics ++ (c .provers ++ inner)) in
