@@ -88,33 +88,33 @@ fn verdict(answer: u32, as_expected: bool) -> Seen {
 }
 
 // A record with its n ids and p publics.
-fn judge(record: &[u8], s: &[u8], answer: u32, n: usize, p: usize) -> Seen
+fn judge(image: &[u8], s: &[u8], answer: u32, n: usize, p: usize) -> Seen
     requires { ⌜ 4 * (n + p) ≤ length (now s) ⌝ }
 {
     let mut ids = no_ids();
     let mut publics = no_publics();
-    let got = answer_number(numbering::number_module_variables(record, &mut ids, &mut publics));
+    let got = answer_number(numbering::number_module_variables(image, &mut ids, &mut publics));
     let same = ids_are(&ids, s, n) & publics_are(&publics, s, n, p);
     verdict(answer, (got == answer as u64) & same)
 }
 
 // A case whose lengths are those of the slices.
-fn replay_case(record: &mut [u8], s: &mut [u8], answer: u32, n: usize, p: usize) -> Seen
+fn replay_case(image: &mut [u8], s: &mut [u8], answer: u32, n: usize, p: usize) -> Seen
     requires { ⌜ 4 * (n + p) ≤ length (now s) ⌝ }
 {
-    let got = io::read_full(0, record);
-    if got < record.len() {
+    let got = io::read_full(0, image);
+    if got < image.len() {
         return Seen::Broken;
     }
     let more = io::read_full(0, s);
     if more < s.len() {
         return Seen::Broken;
     }
-    judge(record, s, answer, n, p)
+    judge(image, s, answer, n, p)
 }
 
 // The next case of the input.
-fn replay(record: &mut [u8], s: &mut [u8]) -> Seen {
+fn replay(image: &mut [u8], s: &mut [u8]) -> Seen {
     let mut head = [0u8; 16];
     let got = io::read_full(0, &mut head);
     if got == 0 {
@@ -128,13 +128,13 @@ fn replay(record: &mut [u8], s: &mut [u8]) -> Seen {
     let n = word_at(&head, 2) as usize;
     let p = word_at(&head, 3) as usize;
     let size = 4 * (n + p);
-    if record.len() < length {
+    if image.len() < length {
         return Seen::Broken;
     }
     if s.len() < size {
         return Seen::Broken;
     }
-    replay_case(&mut record[..length], &mut s[..size], answer, n, p)
+    replay_case(&mut image[..length], &mut s[..size], answer, n, p)
 }
 
 fn is_accepted(seen: Seen) -> u64
@@ -197,13 +197,13 @@ fn report_all(accepted: u64, refused: u64, differ: u64) {
 }
 
 // Every case of the input, with what is lent to them. Nothing says that the input ends, so the cases are counted down.
-fn replay_all(record: &mut [u8], s: &mut [u8]) {
+fn replay_all(image: &mut [u8], s: &mut [u8]) {
     let mut accepted = 0u64;
     let mut refused = 0u64;
     let mut differ = 0u64;
     let mut left = 1000000u64;
     while 0 < left {
-        let seen = replay(record, s);
+        let seen = replay(image, s);
         report_different(is_different(seen), accepted + refused + differ);
         accepted += is_accepted(seen);
         refused += is_refused(seen);
@@ -214,7 +214,7 @@ fn replay_all(record: &mut [u8], s: &mut [u8]) {
 }
 
 fn main() {
-    let mut record = [0u8; 80000];
+    let mut image = [0u8; 80000];
     let mut s = [0u8; 8448];
-    replay_all(&mut record, &mut s);
+    replay_all(&mut image, &mut s);
 }
