@@ -7,3 +7,6 @@ mod Answers
 pub mod Sorts
 pub mod Nodes
 pub mod Accepted
+mod Worked
+mod Spans
+mod Written
