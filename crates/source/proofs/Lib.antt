@@ -10,3 +10,4 @@ pub mod Accepted
 mod Worked
 mod Spans
 mod Written
+pub mod ReadBack

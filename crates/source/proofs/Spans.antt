@@ -1,20 +1,19 @@
 -- Runs of nodes: the words that hold them, that they fit, and that each node of a run is used once, by the run or by whoever owes it. Assumes nothing.
-use Prim.Native.Nat.{ℕ, zero, suc, _+_, _-_, _*_, _≤_, _<_}
+use Prim.Native.Nat.{ℕ, zero, suc, _+_, _*_, _≤_, _<_}
 use mathlib.Core.Path.{_≡_, refl, sym, ap, _∙_}
-use mathlib.Core.List.{List, [], _∷_, _++_}
-use mathlib.Core.Bool.{Bool, true, false, _&&_, _||_}
-use mathlib.Core.Logic.{_⊎_, inl, inr, ⊎-elim}
+use mathlib.Core.List.{List, _++_}
+use mathlib.Core.Bool.{Bool, true, false, _&&_}
+use mathlib.Core.Logic.{⊎-elim}
 use native.Mathlib.Numerals.{add-one}
 use native.Mathlib.Omega.{arith}
 use lib.ListN.{length, getD, length-append, List·getD-append}
 use lib.Seq.{getD-append-add}
-use lib.Dec.{eqb, leb, ltb}
-use borrow.Author.Tests.{eq-eqb, ne-eqb, le-leb, lt-leb, lt-ltb, le-ltb}
+use lib.Dec.{leb, ltb}
+use borrow.Author.Tests.{le-leb, lt-leb, lt-ltb, le-ltb}
 use Rattle.words.specs.Words.{wordAt}
 use Rattle.source.specs.declared.Entry.{Entry}
-use Rattle.source.specs.declared.Children.{Children}
-use Rattle.source.specs.Indices.{every, total, pick}
-use Rattle.source.specs.Nodes.{entryFor, entryOf, isExpression, isPattern, expressionFits, patternFits, childrenOf, childrenFit, nodesFit}
+use Rattle.source.specs.Indices.{pick}
+use Rattle.source.specs.Nodes.{entryFor, entryOf, childrenOf, childrenFit, nodesFit}
 use Rattle.source.specs.Uses.{same, childrenUse, byNodes}
 use Rattle.source.specs.Encoding.{node, rootOf, linkTo}
 use Rattle.source.proofs.Laws.{split, every-more, total-more}

@@ -1,17 +1,14 @@
 -- The trees that are written: their nodes fit, each is used once, and they are read back. Assumes nothing.
-use Prim.Native.Nat.{ℕ, zero, suc, _+_, _-_, _*_, _≤_, _<_}
-use mathlib.Core.Path.{_≡_, refl, sym, ap, _∙_}
+use Prim.Native.Nat.{ℕ, _+_, _*_, _≤_, _<_}
+use mathlib.Core.Path.{_≡_, refl, ap, _∙_}
 use mathlib.Core.List.{List, [], _∷_, _++_}
-use mathlib.Core.Bool.{Bool, true, false, _&&_, _||_}
+use mathlib.Core.Bool.{true, false, _||_}
 use native.Mathlib.Omega.{arith}
-use lib.ListN.{length, getD, length-append}
-use lib.IntN.{ℤ}
-use lib.Dec.{eqb, ltb}
-use borrow.Author.Tests.{eq-eqb, ne-eqb, lt-ltb}
-use mir.Val.{toZ, ofZ, SFits}
+use lib.ListN.{length, length-append}
+use lib.Dec.{eqb}
+use borrow.Author.Tests.{ne-eqb, lt-ltb}
 use mir.Syntax.{w32}
 use mir.ValLaws.{toZ-ofZ}
-use Rattle.words.specs.Words.{wordAt}
 use Rattle.field.specs.declared.InfixOp.{InfixOp}
 use Rattle.source.specs.declared.Entry.{Entry}
 use Rattle.source.specs.declared.Form.{Form}
@@ -21,13 +18,13 @@ use Rattle.source.specs.declared.Child.{Child}
 use Rattle.source.specs.declared.Children.{Children}
 use Rattle.source.specs.Trees.{Pat, Expr, Items, Arms, Env}
 use Rattle.source.specs.Indices.{pick}
-use Rattle.source.specs.Nodes.{operatorOf, infixFor, entryFor, entryOf, isExpression, isPattern, expressionFits, patternFits, itemFits, resultFits, linkFits, chainFits, childFits, childrenOf, formChildren, shapeChildren, childrenFit, nodesFit}
-use Rattle.source.specs.Uses.{same, resultUses, linkUses, chainUses, childUses, childrenUse, byNodes}
-use Rattle.source.specs.Record.{Tree, expressionOf, patternOf, linkOf, grown, tree, nodeTree}
+use Rattle.source.specs.Nodes.{operatorOf, infixFor, entryFor, entryOf, isExpression, isPattern, expressionFits, patternFits, itemFits, resultFits, linkFits, chainFits, childFits, formChildren, shapeChildren, childrenFit}
+use Rattle.source.specs.Uses.{same, resultUses, linkUses, chainUses, childUses, childrenUse}
+use Rattle.source.specs.Record.{Tree, expressionOf, patternOf, linkOf, tree, nodeTree}
 use Rattle.source.specs.Encoding.{node, rootOf, linkTo, operatorNumber, patCount, patsCount, exprCount, itemsCount, armsCount, patNodes, patsNodes, exprNodes, itemsNodes, armsNodes, All, PatFits, ExprFits, ItemsFit, ArmsFit}
 use Rattle.source.proofs.Nodes.{settled, expression-is, pattern-is, link-is}
 use Rattle.source.proofs.Links.{chain-is, uses-is}
-use Rattle.source.proofs.Spans.{Holds, holds-left, nodes-after, node-held, Span, span-none, span-join, span-owed, span-node, span-link, root-is, root-below, root-more, link-to, link-root}
+use Rattle.source.proofs.Spans.{Holds, holds-left, nodes-after, node-held, Span, span-none, span-join, span-owed, span-node, span-link, root-is, root-below, link-to, link-root}
 
 -- ---- four words a node
 
@@ -51,6 +48,7 @@ pats-length s (p ∷ ps) = simp length-append (omega (arith, pats-length s ps, p
 
 mutual
   unfolding exprNodes exprCount
+
   pub expr-length : (s : ℕ) (e : Expr) → length (exprNodes s e) ≡ 4 * exprCount e
   expr-length s Expr.unit = refl
   expr-length s Expr.nil = refl
@@ -101,11 +99,11 @@ module _ (b : List ℕ) (at names : ℕ) where
     pat-early : rootOf s n < t
     pat-early = omega (arith, root-below s n (x .some))
 
-    pat-fits : patternFits b at t (rootOf s n) ≡ true
+    pub pat-fits : patternFits b at t (rootOf s n) ≡ true
     unfolding patternFits
     pat-fits = rw (lt-ltb (rootOf s n) t pat-early, x .sort)
 
-    pat-below : tree b at t (rootOf s n) .pattern ≡ p
+    pub pat-below : tree b at t (rootOf s n) .pattern ≡ p
     pat-below = ap (λ (i : Tree). i .pattern) (settled b at t (rootOf s n) pat-early) ∙ x .grows
 
   pat-two : (s m n : ℕ) {p q z : Pat} (c : Shape) → PatAt b at names s m p → PatAt b at names (s + m) n q → entryOf b at (s + m + n) ≡ Entry.Pattern c → shapeChildren c ≡ record { first = Child.Pattern (rootOf s m); second = Child.Pattern (rootOf (s + m) n); third = Child.Nothing } → patternOf (tree b at (s + m + n)) c ≡ z → PatAt b at names s (m + n + 1) z
@@ -260,11 +258,11 @@ module _ (b : List ℕ) (at names : ℕ) where
     expr-early : rootOf s n < t
     expr-early = omega (arith, root-below s n (x .some))
 
-    expr-fits : expressionFits b at t (rootOf s n) ≡ true
+    pub expr-fits : expressionFits b at t (rootOf s n) ≡ true
     unfolding expressionFits
     expr-fits = rw (lt-ltb (rootOf s n) t expr-early, x .sort)
 
-    expr-below : tree b at t (rootOf s n) .expression ≡ z
+    pub expr-below : tree b at t (rootOf s n) .expression ≡ z
     expr-below = ap (λ (i : Tree). i .expression) (settled b at t (rootOf s n) expr-early) ∙ x .grows
 
   -- two expressions under a node
@@ -399,6 +397,7 @@ module _ (b : List ℕ) (at names : ℕ) where
 
   mutual
     unfolding exprNodes exprCount entryFor pick childrenFit childFits childrenUse childUses expressionOf
+
     pub expr-at : (x : Expr) (s : ℕ) → ExprFits names x → s + exprCount x ≤ 2048 → Holds b (at + 4 * s) (exprNodes s x) → ExprAt b at names s (exprCount x) x
     expr-at Expr.unit s f few h = expr-node b at names s 0 s (omega arith) (span-none b at names s) (node-held b at s h) refl (λ j. refl) refl
     expr-at Expr.nil s f few h = expr-node b at names s 0 s (omega arith) (span-none b at names s) (node-held b at s h) refl (λ j. refl) refl
