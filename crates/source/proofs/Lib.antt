@@ -7,3 +7,7 @@ mod Answers
 pub mod Sorts
 pub mod Nodes
 pub mod Accepted
+mod Worked
+mod Spans
+mod Written
+pub mod ReadBack

@@ -1,17 +1,18 @@
 -- Names, as the reader's loops meet them. Assumes nothing.
-use Prim.Native.Nat.{ℕ, _+_, _-_, _*_, _≤_, _<_}
+use Prim.Native.Nat.{ℕ, zero, suc, _+_, _-_, _*_, _≤_, _<_}
 use mathlib.Core.Path.{_≡_, refl, sym, ap, _∙_}
 use mathlib.Core.List.{List}
 use mathlib.Core.Bool.{Bool, true, false, not, _&&_}
 use native.Mathlib.Numerals.{add-one}
 use native.Mathlib.Omega.{arith}
 use mathlib.Core.Logic.{⊎-elim}
-use lib.ListN.{length, getD, List·getD-eq-default}
+use lib.ListN.{length, getD, drop, length-drop, List·getD-eq-default}
+use lib.Seq.{length-take-le, getD-take, getD-drop, ext-getD}
 use lib.Dec.{leb, eqb}
-use borrow.Author.Tests.{eq-eqb, ne-eqb, le-leb, lt-leb, leb-true, eqb-true, eqb-false}
+use borrow.Author.Tests.{eq-eqb, ne-eqb, le-leb, lt-leb, leb-true, eqb-true, eqb-false, not-true}
 use Rattle.words.specs.Words.{wordAt}
 use Rattle.source.specs.Indices.{every}
-use Rattle.source.specs.Names.{offsetOf, lengthOf, endOf, printed, nameFits, namesFit, sameBytes, sameName, nameNew, namesDiffer}
+use Rattle.source.specs.Names.{offsetOf, lengthOf, endOf, printed, nameFits, namesFit, sameBytes, sameName, nameNew, namesDiffer, nameOf}
 use Rattle.source.proofs.Laws.{and-no, and-left, and-right, not-both, split, every-fails, every-more, every-all, every-at, every-none}
 
 eqb-sym-at : (t : Bool) (a b : ℕ) → eqb a b ≡ t → t ≡ eqb b a
@@ -166,3 +167,44 @@ differ-all b text n k h e = every-all n k _ h e
 pub inside : (b : List ℕ) (text k : ℕ) {n offset : ℕ} → n ≡ wordAt b (5 + 2 * k + 1) → offset ≡ wordAt b (5 + 2 * k) → Named b text k → text + offset + n ≤ length b
 unfolding offsetOf lengthOf
 inside b text k p q h = rw (p, q) (h .within)
+
+-- ---- the texts of names that fit: equal where the test says so
+
+module _ (b : List ℕ) (text : ℕ) where
+  text-length : (k : ℕ) → Named b text k → length (nameOf b text k) ≡ lengthOf b k
+  unfolding nameOf
+  text-length k h = length-take-le (lengthOf b k) (drop (text + offsetOf b k) b) (simp length-drop (omega (arith, h .within)))
+
+  text-byte : (k i : ℕ) → i < lengthOf b k → getD (nameOf b text k) i 0 ≡ getD b (text + offsetOf b k + i) 0
+  unfolding nameOf
+  text-byte k i l = getD-take (lengthOf b k) (drop (text + offsetOf b k) b) i 0 l ∙ getD-drop (text + offsetOf b k) b i 0
+
+  pub same-text : (j k : ℕ) → Named b text j → Named b text k → sameName b text j k ≡ true → nameOf b text j ≡ nameOf b text k
+  unfolding sameName sameBytes
+  same-text j k p q h =
+      let x = eqb (lengthOf b j) (lengthOf b k) in
+      let y = sameBytes b (text + offsetOf b j) (text + offsetOf b k) (lengthOf b j) in
+      let e : lengthOf b j ≡ lengthOf b k = eqb-true (lengthOf b j) (lengthOf b k) (and-left x y h) in
+      ext-getD 0 (nameOf b text j) (nameOf b text k) (text-length j p ∙ e ∙ sym (text-length k q)) (λ i l.
+      let g : i < lengthOf b j = rw (text-length j p) at l in
+      text-byte j i g
+      ∙ eqb-true _ _ (every-at (lengthOf b j) i (λ n. eqb (getD b (text + offsetOf b j + n) 0) (getD b (text + offsetOf b k + n) 0)) (and-right x y h) g)
+      ∙ sym (text-byte k i (rw e at g)))
+
+  bytes-same : (from to n : ℕ) → ((i : ℕ) → i < n → getD b (from + i) 0 ≡ getD b (to + i) 0) → sameBytes b from to n ≡ true
+  unfolding sameBytes every
+  bytes-same from to zero f = refl
+  bytes-same from to (suc n) f = rw (bytes-same from to n (λ i l. f i (omega arith)), eq-eqb (getD b (from + n) 0) (getD b (to + n) 0) (f n (omega arith)))
+
+  pub text-same : (j k : ℕ) → Named b text j → Named b text k → nameOf b text j ≡ nameOf b text k → sameName b text j k ≡ true
+  unfolding sameName
+  text-same j k p q h =
+      let e : lengthOf b j ≡ lengthOf b k = sym (text-length j p) ∙ ap length h ∙ text-length k q in
+      rw (eq-eqb (lengthOf b j) (lengthOf b k) e) (bytes-same (text + offsetOf b j) (text + offsetOf b k) (lengthOf b j) (λ i l. sym (text-byte j i l) ∙ ap (λ (t : List ℕ). getD t i 0) h ∙ text-byte k i (rw e at l)))
+
+  -- names that differ by the test have different texts
+  pub differ-texts : (n j k : ℕ) → namesFit b text n ≡ true → namesDiffer b text n ≡ true → j < k → k < n → nameOf b text j ≡ nameOf b text k → ⊥
+  unfolding namesDiffer nameNew
+  differ-texts n j k h d l g e =
+      let w = every-at k j (λ i. not (sameName b text i k)) (every-at n k (nameNew b text) d g) l in
+      not-both (not-true (sameName b text j k) w) (text-same j k (named-at b text n j h (omega arith)) (named-at b text n k h g) e)

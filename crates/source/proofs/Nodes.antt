@@ -57,11 +57,11 @@ settled b at zero k l = absurd (omega arith)
 settled b at (suc n) k l = ⊎-elim (λ (g : k < n). tree-else b at n k (λ e. omega arith) ∙ settled b at n k g) (λ (g : n ≤ k). let e : suc n ≡ k + 1 = omega arith in ap (λ (m : ℕ). tree b at m k) e) (split k n)
 
 -- a node's tree as an expression or a pattern, by the trees before it
-expression-is : (b : List ℕ) (at k : ℕ) {f : Form} → entryOf b at k ≡ Entry.Expression f → nodeTree b at k .expression ≡ expressionOf (tree b at k) f
+pub expression-is : (b : List ℕ) (at k : ℕ) {f : Form} → entryOf b at k ≡ Entry.Expression f → nodeTree b at k .expression ≡ expressionOf (tree b at k) f
 unfolding grown
 expression-is b at k e = ap (λ (t : Tree). t .expression) (tree-is b at k ∙ ap (grown (tree b at k)) e)
 
-pattern-is : (b : List ℕ) (at k : ℕ) {p : Shape} → entryOf b at k ≡ Entry.Pattern p → nodeTree b at k .pattern ≡ patternOf (tree b at k) p
+pub pattern-is : (b : List ℕ) (at k : ℕ) {p : Shape} → entryOf b at k ≡ Entry.Pattern p → nodeTree b at k .pattern ≡ patternOf (tree b at k) p
 unfolding grown
 pattern-is b at k e = ap (λ (t : Tree). t .pattern) (tree-is b at k ∙ ap (grown (tree b at k)) e)
 
@@ -236,7 +236,7 @@ pub link-of : (b : List ℕ) (at : ℕ) (h : Chain) (k x : ℕ) → chainFits b 
 link-of b at h k x f = link-at b at h (chainFits b at h x) x (entryOf b at x) (sym (chain-is b at h k x (chain-before b at h k x f)) ∙ f)
 
 -- the tree of a link
-link-is : (b : List ℕ) (at x : ℕ) {item next result : ℕ} → entryOf b at x ≡ Entry.Link item next result → nodeTree b at x ≡ linkOf (tree b at x) item next result
+pub link-is : (b : List ℕ) (at x : ℕ) {item next result : ℕ} → entryOf b at x ≡ Entry.Link item next result → nodeTree b at x ≡ linkOf (tree b at x) item next result
 unfolding grown
 link-is b at x e = tree-is b at x ∙ ap (grown (tree b at x)) e
 

@@ -5,5 +5,6 @@ pub mod Names
 pub mod Nodes
 pub mod Uses
 pub mod Record
+pub mod Encoding
 pub mod Readable
 pub mod Marks
