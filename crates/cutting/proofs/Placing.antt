@@ -20,7 +20,7 @@ use Rattle.passes.specs.Passes.{Substitutions, walk, infixOp, Cut as Cutting, o
 use Rattle.cutting.specs.declared.Target.{Target}
 use Rattle.cutting.specs.declared.Target.the-variants.{New, Given}
 use Rattle.cutting.specs.declared.Cut.{Cut}
-use Rattle.cutting.specs.Cutting.{equalityOf, targetOf, treeCut, putEqualities, after, cutFrom, Room}
+use Rattle.cutting.specs.Cutting.{equalityOf, targetOf, treeCut, putEqualities, wordAfter, cutFrom, Room}
 use Rattle.cutting.proofs.Trees.{cut-infix, cut-negate, cut-constant, cut-variable, cut-few, cut-new-few, cut-ids}
 
 -- ---- lists of equalities
@@ -29,19 +29,19 @@ pub put-none : (b : List ℕ) (at : ℕ) → putEqualities b at [] ≡ b
 unfolding putEqualities equalitiesWords setWords
 put-none b at = refl
 
-pub after-none : (at : ℕ) → after at [] ≡ at
-unfolding after
+pub after-none : (at : ℕ) → wordAfter at [] ≡ at
+unfolding wordAfter
 after-none at = omega arith
 
-pub put-append : (b : List ℕ) (at : ℕ) (xs ys : List Equality) → putEqualities b at (xs ++ ys) ≡ putEqualities (putEqualities b at xs) (after at xs) ys
-unfolding putEqualities after
+pub put-append : (b : List ℕ) (at : ℕ) (xs ys : List Equality) → putEqualities b at (xs ++ ys) ≡ putEqualities (putEqualities b at xs) (wordAfter at xs) ys
+unfolding putEqualities wordAfter
 put-append b at xs ys =
     ap (setWords b at) (equalities-append xs ys)
     ∙ setWords-append (equalitiesWords xs) (equalitiesWords ys) b at
     ∙ ap (λ (n : ℕ). setWords (setWords b at (equalitiesWords xs)) (at + n) (equalitiesWords ys)) (length-equalities xs)
 
-pub after-append : (at : ℕ) (xs ys : List Equality) → after at (xs ++ ys) ≡ after (after at xs) ys
-unfolding after
+pub after-append : (at : ℕ) (xs ys : List Equality) → wordAfter at (xs ++ ys) ≡ wordAfter (wordAfter at xs) ys
+unfolding wordAfter
 after-append at xs ys = omega (arith, length-append xs ys)
 
 pub length-put : (b : List ℕ) (at : ℕ) (qs : List Equality) → length (putEqualities b at qs) ≡ length b
@@ -52,8 +52,8 @@ pub put-one : (b : List ℕ) (at : ℕ) (l : Term) (r : Side) → setWords b at 
 unfolding putEqualities equalitiesWords equalityWords equalityOf
 put-one b at l r = ap (setWords b at) (sym (append-nil _))
 
-pub after-one : (at : ℕ) (q : Equality) → after at (q ∷ []) ≡ at + 7
-unfolding after
+pub after-one : (at : ℕ) (q : Equality) → wordAfter at (q ∷ []) ≡ at + 7
+unfolding wordAfter
 after-one at q = omega arith
 
 -- ---- terms

@@ -1,4 +1,5 @@
 -- What the code of the last pass answers, by the definitions of the passes.
+use mathlib.Core.Path.{_≡_}
 use mathlib.Core.List.{List}
 use mathlib.Core.Bool.{not}
 use mathlib.Core.Option.{Option, none, some}
@@ -37,12 +38,16 @@ treeCut target steps s e next = flattenExprTo3ac (targetOf target) (copyPropagat
 unfoldable pub putEqualities : List ℕ → ℕ → List Equality → List ℕ
 putEqualities body at qs = setWords body at (equalitiesWords qs)
 
-unfoldable pub after : ℕ → List Equality → ℕ
-after at qs = at + 7 * length qs
+unfoldable pub wordAfter : ℕ → List Equality → ℕ
+wordAfter at qs = at + 7 * length qs
 
 -- the code's answer for a cut whose equalities are written from word `at` on
 unfoldable pub cutFrom : ℕ → Cutting → Cut
-cutFrom at c = record { term = c .term; next = c .next; at = after at (c .equalities) }
+cutFrom at c = record { term = c .term; next = c .next; at = wordAfter at (c .equalities) }
+
+-- what the cut of a tree from word `at` on leaves: the body after it, and the answer
+abbrev pub CutPut : List ℕ → List ℕ → ℕ → Cutting → Cut → Type 0
+CutPut before after at c r = (after ≡ putEqualities before at (c .equalities)) × (r ≡ cutFrom at c)
 
 -- room for an equality of each of n nodes, and ids for them
 pub record Room (n at next : ℕ) (body : List ℕ) : Type 0 where
@@ -53,7 +58,11 @@ pub record Room (n at next : ℕ) (body : List ℕ) : Type 0 where
 
 -- the code's answer for cuts whose equalities are written from word `at` on
 unfoldable pub placeFrom : ℕ → Cuts → Place
-placeFrom at c = record { next = c .next; at = after at (c .equalities) }
+placeFrom at c = record { next = c .next; at = wordAfter at (c .equalities) }
+
+-- what such cuts leave: the body after them, and the answer
+abbrev pub CutsPut : List ℕ → List ℕ → ℕ → Cuts → Place → Type 0
+CutsPut before after at c r = (after ≡ putEqualities before at (c .equalities)) × (r ≡ placeFrom at c)
 
 -- of the record with the bytes b: the prover ids after classify_defs, and those of some definitions that are used
 unfoldable pub proversOf : List ℕ → List ℕ

@@ -1,5 +1,5 @@
 -- `cutting::flatten_expr_to_3ac` meets its contract. Assumes nothing.
-use Prim.Native.Nat.{ℕ}
+use Prim.Native.Nat.{ℕ, _<_}
 use borrow.Fn.Kinds.{In}
 use borrow.Fn.PlainCycle.{Measures, is, falls, and}
 use Rattle.cutting.proofs.flatten_expr_to_3ac.Reads as flatten-expr-to-3ac
