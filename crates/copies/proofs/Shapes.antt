@@ -4,11 +4,10 @@ use mathlib.Core.Path.{_≡_, refl, sym, ap, _∙_}
 use mathlib.Core.List.{List}
 use mathlib.Core.Bool.{Bool, true, false, cond}
 use mathlib.Core.Option.{some}
-use Prim.Native.Nat.{ℕ, _+_, _*_, _≤_, _<_}
+use Prim.Native.Nat.{ℕ, _+_}
 use native.Mathlib.Omega.{arith}
 use lib.Dec.{eqb}
 use lib.IntN.{ℤ, pos, negsuc}
-use lib.ListN.{length}
 use mir.Val.{SFits, toZ, ofZ}
 use mir.ValLaws.{toZ-ofZ}
 use mir.Syntax.{w32}
@@ -17,10 +16,11 @@ use borrow.Author.Tests.{eq-eqb, ne-eqb}
 use Rattle.field.specs.declared.InfixOp.{InfixOp}
 use Rattle.flat.specs.Trees.{Flat}
 use Rattle.flat.specs.Meaning.{update}
-use Rattle.flat.specs.Record.{next, nodes, nodesFit, nodeOf, tree}
+use Rattle.flat.specs.Record.{nodeOf, tree}
 use Rattle.flat.specs.Readable.{Inside}
 use Rattle.flat.specs.declared.Node.the-variants.{Infix, Negate, Constant, Variable}
-use Rattle.flat.proofs.Nodes.{at-infix, at-negate, at-constant, at-variable}
+use Rattle.flat.proofs.Nodes.{tree-infix, tree-negate, tree-constant, tree-variable}
+use Rattle.classify.proofs.Walks.{left-inside, right-inside, child-inside}
 use Rattle.flat.proofs.Laws.{alike}
 use Rattle.passes.proofs.Lists.{same-number}
 use Rattle.constraint.specs.declared.Term.{Term}
@@ -28,51 +28,24 @@ use Rattle.passes.specs.Passes.{Substitutions, walk, toExpr, copyPropagateExpr,
 use Rattle.copies.specs.declared.Copied.{Copied}
 use Rattle.copies.specs.Substituted.{copiedOf, sameTerm, deadRoots}
 
--- ---- a node of a readable record, by its kind
+-- ---- a node of a readable record with the substitutions made, by its kind
 
-module _ {b : List ℕ} {at k : ℕ} (i : Inside b at k) where
-  fitting : nodesFit b at (nodes b) (next b) ≡ true
-  fitting = rw (i .place) (i .readable .nodes-fit)
+module _ {b : List ℕ} {at k : ℕ} (i : Inside b at k) (n : ℕ) (s : Substitutions) where
+  pub copy-infix : {o : InfixOp} {x y : ℕ} → nodeOf b at k ≡ Infix o x y → copyPropagateExpr n s (tree b at (k + 1) k) ≡ Flat.infixed o (copyPropagateExpr n s (tree b at (x + 1) x)) (copyPropagateExpr n s (tree b at (y + 1) y))
+  unfolding copyPropagateExpr
+  copy-infix e = ap (copyPropagateExpr n s) (tree-infix b at k e (left-inside i e .0) (right-inside i e .0))
 
-  pub inside-node : 4 * (at + 4 * k + 4) ≤ length b
-  inside-node = omega (arith, i .readable .long, i .place, i .below)
+  pub copy-negate : {x : ℕ} → nodeOf b at k ≡ Negate x → copyPropagateExpr n s (tree b at (k + 1) k) ≡ Flat.negate (copyPropagateExpr n s (tree b at (x + 1) x))
+  unfolding copyPropagateExpr
+  copy-negate e = ap (copyPropagateExpr n s) (tree-negate b at k e (child-inside i e .0))
 
-  pub inside-infix : {o : InfixOp} {x y : ℕ} → nodeOf b at k ≡ Infix o x y → Inside b at x × Inside b at y × (x < k) × (y < k) × (tree b at (k + 1) k ≡ Flat.infixed o (tree b at (x + 1) x) (tree b at (y + 1) y))
-  inside-infix {x = x} {y = y} e =
-      let w = at-infix b at (nodes b) (next b) fitting k (i .below) e in
-      let hx : x < nodes b = omega (arith, w .0, i .below) in
-      let hy : y < nodes b = omega (arith, w .1, i .below) in
-      (record { readable = i .readable; place = i .place; below = hx }, record { readable = i .readable; place = i .place; below = hy }, w .0, w .1, w .2)
+  pub copy-constant : {c : ℤ} → nodeOf b at k ≡ Constant c → copyPropagateExpr n s (tree b at (k + 1) k) ≡ toExpr (Term.Constant c)
+  unfolding copyPropagateExpr toExpr
+  copy-constant e = ap (copyPropagateExpr n s) (tree-constant b at k e)
 
-  pub inside-negate : {x : ℕ} → nodeOf b at k ≡ Negate x → Inside b at x × (x < k) × (tree b at (k + 1) k ≡ Flat.negate (tree b at (x + 1) x))
-  inside-negate {x} e =
-      let w = at-negate b at (nodes b) (next b) fitting k (i .below) e in
-      let hx : x < nodes b = omega (arith, w .0, i .below) in
-      (record { readable = i .readable; place = i .place; below = hx }, w .0, w .1)
-
-  pub inside-constant : {c : ℤ} → nodeOf b at k ≡ Constant c → tree b at (k + 1) k ≡ Flat.constant c
-  inside-constant e = at-constant b at (nodes b) (next b) fitting k (i .below) e
-
-  pub inside-variable : {v : ℕ} → nodeOf b at k ≡ Variable v → (v < next b) × (tree b at (k + 1) k ≡ Flat.variable v)
-  inside-variable e = at-variable b at (nodes b) (next b) fitting k (i .below) e
-
-  -- with the substitutions made
-  module _ (n : ℕ) (s : Substitutions) where
-    pub copy-infix : {o : InfixOp} {x y : ℕ} → nodeOf b at k ≡ Infix o x y → copyPropagateExpr n s (tree b at (k + 1) k) ≡ Flat.infixed o (copyPropagateExpr n s (tree b at (x + 1) x)) (copyPropagateExpr n s (tree b at (y + 1) y))
-    unfolding copyPropagateExpr
-    copy-infix e = ap (copyPropagateExpr n s) (inside-infix e .4)
-
-    pub copy-negate : {x : ℕ} → nodeOf b at k ≡ Negate x → copyPropagateExpr n s (tree b at (k + 1) k) ≡ Flat.negate (copyPropagateExpr n s (tree b at (x + 1) x))
-    unfolding copyPropagateExpr
-    copy-negate e = ap (copyPropagateExpr n s) (inside-negate e .2)
-
-    pub copy-constant : {c : ℤ} → nodeOf b at k ≡ Constant c → copyPropagateExpr n s (tree b at (k + 1) k) ≡ toExpr (Term.Constant c)
-    unfolding copyPropagateExpr toExpr
-    copy-constant e = ap (copyPropagateExpr n s) (inside-constant e)
-
-    pub copy-variable : {v : ℕ} → nodeOf b at k ≡ Variable v → copyPropagateExpr n s (tree b at (k + 1) k) ≡ toExpr (walk n s (Term.Variable v))
-    unfolding copyPropagateExpr
-    copy-variable e = ap (copyPropagateExpr n s) (inside-variable e .1)
+  pub copy-variable : {v : ℕ} → nodeOf b at k ≡ Variable v → copyPropagateExpr n s (tree b at (k + 1) k) ≡ toExpr (walk n s (Term.Variable v))
+  unfolding copyPropagateExpr
+  copy-variable e = ap (copyPropagateExpr n s) (tree-variable b at k e)
 
 -- ---- roots
 

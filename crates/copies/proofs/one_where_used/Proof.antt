@@ -1,7 +1,28 @@
--- `copies::one_where_used` meets its contract. Assumes nothing.
 use Rattle.copies.proofs.one_where_used.Statement.{statement}
 use Rattle.copies.proofs.one_where_used.Tie as tie
-use Rattle.copies.proofs.Used.{none-used, one-used}
+use Rattle.copies.proofs.one_where_used.Reads as reads
+use Rattle.copies.proofs.one_where_used.Lts as lts
+use borrow.Author.Needs.{needs}
+use native.Mathlib.Omega.{arith}
+use Prim.Native.Nat.{ℕ, _-_, _+_, _*_, _≤_, _<_}
+use mathlib.Core.Path.{_≡_, refl, _∙_, ap, ap₂, sym}
+use mathlib.Core.List.{List}
+use mathlib.Core.Option.{none}
+use lib.ListN.{length, getD, length-set}
+use lib.IntN.{ℤ}
+use mir.ValLaws.{toZ-ofZ}
+use mir.Syntax.{w32}
+use Rattle.constraint.specs.declared.Term.{Term}
+use Rattle.passes.specs.Passes.{walk, copyPropagateExpr, substituting, those, isNever}
+use Rattle.copies.specs.declared.Copied.{Copied}
+use Rattle.copies.specs.Substituted.{substOf, noSubstitutions, copiedOf, sameTerm, deadRoots}
+use Rattle.copies.proofs.Walks.{ends-past, ends-steps, ends-none, ends-constant, turns}
+use Rattle.copies.proofs.Shapes.{copy-infix, copy-negate, copy-constant, copy-variable, root-infix, root-negate, root-leaf, same-bits}
+use Rattle.copies.proofs.Stored.{cleared-more, cleared-is, stored-tree, stored-itself, stored-variable, stored-constant}
+use Rattle.copies.proofs.Used.{none-used, one-used, one-most}
+use mathlib.Core.Bool.{not}
+use Rattle.flat.specs.Record.{definitionsAt, nodesAt, nodes, rows, definitionAt, moduleOf}
+use Rattle.classify.specs.Arrays.{usageOf}
 
 returns : tie.Need-returns
 returns c = none-used _ (c .if1 .taken)

@@ -1,20 +1,41 @@
--- `copies::used_definitions` meets its contract. Assumes nothing.
 use Rattle.copies.proofs.used_definitions.Statement.{statement}
 use Rattle.copies.proofs.used_definitions.Tie as tie
+use Rattle.copies.proofs.used_definitions.Reads as reads
+use Rattle.copies.proofs.used_definitions.Lts as lts
+use Rattle.copies.proofs.index.Reads as index-reads
+use Rattle.copies.proofs.one_where_used.Reads as one-where-used-reads
+use Rattle.words.proofs.word_at.Reads as word-at-reads
 use borrow.Author.Needs.{needs}
 use native.Mathlib.Omega.{arith}
-use Prim.Native.Nat.{_-_, _+_, _≤_}
-use mathlib.Core.Path.{_≡_}
-use Rattle.copies.proofs.Used.{one-most, usedFrom, usedAll, used-start, used-end, used-small, used-turn}
+use Prim.Native.Nat.{ℕ, _-_, _+_, _*_, _≤_, _<_}
+use mathlib.Core.Path.{_≡_, refl, _∙_, ap, ap₂, sym}
+use mathlib.Core.List.{List}
+use mathlib.Core.Option.{none}
+use lib.ListN.{length, getD, length-set}
+use lib.IntN.{ℤ}
+use mir.ValLaws.{toZ-ofZ}
+use mir.Syntax.{w32}
+use Rattle.constraint.specs.declared.Term.{Term}
+use Rattle.passes.specs.Passes.{walk, copyPropagateExpr, substituting, those, isNever}
+use Rattle.copies.specs.declared.Copied.{Copied}
+use Rattle.copies.specs.Substituted.{substOf, noSubstitutions, copiedOf, sameTerm, deadRoots}
+use Rattle.copies.proofs.Walks.{ends-past, ends-steps, ends-none, ends-constant, turns}
+use Rattle.copies.proofs.Shapes.{copy-infix, copy-negate, copy-constant, copy-variable, root-infix, root-negate, root-leaf, same-bits}
+use Rattle.copies.proofs.Stored.{cleared-more, cleared-is, stored-tree, stored-itself, stored-variable, stored-constant}
+use Rattle.copies.proofs.Used.{none-used, one-used, one-most}
+use mathlib.Core.Bool.{not}
+use Rattle.flat.specs.Record.{definitionsAt, nodesAt, nodes, rows, definitionAt, moduleOf}
+use Rattle.classify.specs.Arrays.{usageOf}
+use Rattle.copies.proofs.Used.{usedFrom, usedAll, used-start, used-end, used-small, used-turn}
 
 abbrev Inv-loop : tie.InvT-loop
-Inv-loop s at n usage count₀ k₀ count k = ((count + usedFrom s usage n k ≡ usedAll s usage) × (count ≤ k)) × (k ≤ n)
+Inv-loop s at n usage count₀ k₀ count k = ((count + usedFrom s usage k ≡ usedAll s usage) × (count ≤ k)) × (k ≤ n)
 
 abbrev μ-loop : tie.MeasureT-loop
 μ-loop s at n usage count₀ k₀ count k = n - k
 
 loop-holds : tie.Need-loop-holds Inv-loop μ-loop
-loop-holds c = ((used-start _ _ _ (c .before .pre .2), omega arith), omega arith)
+loop-holds c = ((used-start _ _, omega arith), omega arith)
 
 mul-word-at : tie.Need-mul-word-at Inv-loop μ-loop
 mul-word-at c = search needs
@@ -29,7 +50,7 @@ index-requires : tie.Need-index-requires Inv-loop μ-loop
 index-requires c κs = search needs
 
 element-copy-out-one-where-used : tie.Need-element-copy-out-one-where-used Inv-loop μ-loop
-element-copy-out-one-where-used c = used-small _ (c .before .before .before .before .before .args .usage .now) (c .before .before .before .before .before .args .at) (c .before .before .before .before .before .args .n) (c .before .before .before .loop .k) (c .before .before .before .before .before .pre .1) (c .before .before .loop-test .taken) (c .before .word-at .ensures) (c .index .ensures) (c .before .before .before .before .before .pre .0) (c .before .before .before .before .before .pre .2)
+element-copy-out-one-where-used c = used-small _ (c .before .before .before .before .before .args .usage .now) (c .before .before .before .before .before .pre .0) (c .before .before .before .before .before .pre .1) (c .before .before .before .before .before .pre .2) (c .before .before .loop-test .taken) (c .before .word-at .ensures) (c .index .ensures)
 
 one-where-used-requires : tie.Need-one-where-used-requires Inv-loop μ-loop
 one-where-used-requires c κs = search needs
@@ -44,10 +65,10 @@ loop-less : tie.Need-loop-less Inv-loop μ-loop
 loop-less c = search needs
 
 loop-again : tie.Need-loop-again Inv-loop μ-loop
-loop-again c = let z = one-most _ (c .one-where-used .ensures) in ((used-turn _ (c .before .before .before .before .before .before .before .args .usage .now) (c .before .before .before .before .before .before .before .args .at) (c .before .before .before .before .before .before .before .args .n) (c .before .before .before .before .before .loop .k) (c .before .before .before .before .before .before .before .pre .1) (c .before .before .before .before .loop-test .taken) (c .before .before .before .word-at .ensures) (c .before .before .index .ensures) (c .before .before .before .before .before .loop .count) (c .one-where-used .ensures) (c .before .before .before .before .before .loop .inv .0 .0), omega arith), omega arith)
+loop-again c = let z = one-most _ (c .one-where-used .ensures) in ((used-turn _ (c .before .before .before .before .before .before .before .args .usage .now) (c .before .before .before .before .before .before .before .pre .0) (c .before .before .before .before .before .before .before .pre .1) (c .before .before .before .before .before .before .before .pre .2) (c .before .before .before .before .loop-test .taken) (c .before .before .before .word-at .ensures) (c .before .before .index .ensures) (c .before .before .before .before .before .loop .count) (c .one-where-used .ensures) (c .before .before .before .before .before .loop .inv .0 .0), omega arith), omega arith)
 
 returns : tie.Need-returns Inv-loop μ-loop
-returns c = used-end _ _ (c .before .before .before .args .n) (c .before .loop .k) _ (c .loop-test .left) (c .before .loop .inv .0 .0)
+returns c = used-end _ _ (c .before .before .before .args .n) (c .before .loop .k) _ (c .before .before .before .pre .2) (c .loop-test .left) (c .before .loop .inv .0 .0)
 
 pub used-definitions-spec : {M : Type 1} → statement M
 used-definitions-spec =
