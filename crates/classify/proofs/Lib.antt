@@ -1,5 +1,5 @@
 pub mod Arrays
 pub mod Walks
 pub mod Lists
+pub mod Whole
 mod Turns
-mod Whole

@@ -86,13 +86,13 @@ module _ {b : List ℕ} {l : Layout} (e : l ≡ layoutOf b) where
   unfolding layoutOf
   over-provers = record { count = ap (λ (x : Layout). x .provers) e; place = ap (λ (x : Layout). x .«provers_at») e; within = omega arith }
 
-  pub over-definitions : (k : ℕ) → k ≤ l .definitions → OverDefinitions b (l .definitions) (l .«definitions_at») (l .«nodes_at») k
+  pub over-definitions : OverDefinitions b (l .definitions) (l .«definitions_at») (l .«nodes_at») 0
   unfolding layoutOf
-  over-definitions k h = record {
+  over-definitions = record {
     count = ap (λ (x : Layout). x .definitions) e;
     place = ap (λ (x : Layout). x .«definitions_at») e;
     trees = ap (λ (x : Layout). x .«nodes_at») e;
-    within = h;
+    within = omega arith;
   }
 
   pub over-equations : OverEquations b (l .equations) (l .«equations_at») (l .«nodes_at») 0
@@ -103,6 +103,10 @@ module _ {b : List ℕ} {l : Layout} (e : l ≡ layoutOf b) where
     trees = ap (λ (x : Layout). x .«nodes_at») e;
     within = omega arith;
   }
+
+-- the definitions from the last on, so many of them done
+pub over-from-last : {b : List ℕ} {n d at done : ℕ} → OverDefinitions b n d at done → done < n → OverDefinitions b n d at (n - (done + 1))
+over-from-last o h = record { count = o .count; place = o .place; trees = o .trees; within = omega arith }
 
 pub layout-next : (b : List ℕ) {l : Layout} → l ≡ layoutOf b → l .next ≡ next b
 unfolding layoutOf

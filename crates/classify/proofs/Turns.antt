@@ -17,7 +17,7 @@ use Rattle.flat.proofs.Laws.{split, alike}
 use Rattle.passes.specs.Passes.{member, keepIf, those, Usage, isNever, isWitness, markUsed, usedIn, override, classifyDef, classified, usage, classifyDefs, cuttableExpr, cuttableDefs, cuttableEquations, counted}
 use Rattle.classify.specs.Arrays.{usageAt, usageOf, marked, Uses, Marks, Classified}
 use Rattle.classify.proofs.Arrays.{marked-set}
-use Rattle.classify.proofs.Lists.{proversFrom, definitionsFrom, equationsFrom, provers-none, definitions-none, equations-none, provers-whole, definitions-whole, equations-whole, OverProvers, OverDefinitions, OverEquations, prover-small, provers-more, definitions-more, equations-more}
+use Rattle.classify.proofs.Lists.{over-from-last, proversFrom, definitionsFrom, equationsFrom, provers-none, definitions-none, equations-none, provers-whole, definitions-whole, equations-whole, OverProvers, OverDefinitions, OverEquations, prover-small, provers-more, definitions-more, equations-more}
 
 -- ---- the equations are marked
 
@@ -44,30 +44,31 @@ used-end {b} {k = k} m₀ m o h i l = record { says = sym (ap (λ (es : List Equ
 abbrev pub ClassifiedFrom : List ℕ → List ℕ → List ℕ → ℕ → Type 0
 ClassifiedFrom b m₀ m k = usageOf m ≡ classified (moduleOf b .provers) (definitionsFrom b k) (usageOf m₀)
 
-pub classified-start : (b m : List ℕ) (k : ℕ) → definitions b ≡ k → ClassifiedFrom b m m k
+pub classified-start : {b : List ℕ} {n d at : ℕ} (m : List ℕ) → OverDefinitions b n d at 0 → ClassifiedFrom b m m (n - 0)
 unfolding classified
-classified-start b m k e = sym (ap (λ (ds : List Definition). classified (moduleOf b .provers) ds (usageOf m)) (definitions-none b k (omega arith)))
+classified-start {b} {n} m o = sym (ap (λ (ds : List Definition). classified (moduleOf b .provers) ds (usageOf m)) (definitions-none b (n - 0) (omega arith)))
 
 classify-def : (ps : List ℕ) (f : ℕ → Usage) (id : ℕ) (right : Flat) (u : Usage) → u ≡ override (member id ps) (f id) → markUsed u right (update f id u) ≡ classifyDef ps (record { id = id; right = right }) f
 unfolding classifyDef
 classify-def ps f id right u e = ap (λ (x : Usage). markUsed x right (update f id x)) e
 
-pub classified-turn : {b : List ℕ} {n d at k id node : ℕ} (u : ℕ) (p m₀ m : List ℕ) {m′ m″ : List ℕ} → Readable b → OverDefinitions b n d at k → 0 < k → id ≡ wordAt b (d + 2 * (k - 1)) → node ≡ wordAt b (d + 2 * (k - 1) + 1) → marked p ≡ (λ v. member v (moduleOf b .provers)) → ClassifiedFrom b m₀ m k → (usageAt u ≡ override (marked p id) (usageOf m id)) × Uses m′ (update (usageOf m) id (usageAt u)) → Uses m″ (markUsed (usageAt u) (tree b at (node + 1) node) (usageOf m′)) → ClassifiedFrom b m₀ m″ (k - 1)
+pub classified-turn : {b : List ℕ} {n d at done id node : ℕ} (u : ℕ) (p m₀ m : List ℕ) {m′ m″ : List ℕ} → Readable b → OverDefinitions b n d at done → done < n → id ≡ wordAt b (d + 2 * (n - (done + 1))) → node ≡ wordAt b (d + 2 * (n - (done + 1)) + 1) → marked p ≡ (λ v. member v (moduleOf b .provers)) → ClassifiedFrom b m₀ m (n - done) → (usageAt u ≡ override (marked p id) (usageOf m id)) × Uses m′ (update (usageOf m) id (usageAt u)) → Uses m″ (markUsed (usageAt u) (tree b at (node + 1) node) (usageOf m′)) → ClassifiedFrom b m₀ m″ (n - (done + 1))
 unfolding classified
-classified-turn {b} {n} {d} {at} {k} {id} {node} u p m₀ m r o h e q g i x y =
-    let w : OverDefinitions b n d at (k - 1) = record { count = o .count; place = o .place; trees = o .trees; within = omega (arith, o .within) } in
-    let s : k - 1 + 1 ≡ k = omega arith in
+classified-turn {b} {n} {d} {at} {done} {id} {node} u p m₀ m r o h e q g i x y =
+    let s : n - (done + 1) + 1 ≡ n - done = omega arith in
     let ps : List ℕ = moduleOf b .provers in
-    let f : ℕ → Usage = classified ps (definitionsFrom b k) (usageOf m₀) in
+    let f : ℕ → Usage = classified ps (definitionsFrom b (n - done)) (usageOf m₀) in
     let t : Flat = tree b at (node + 1) node in
     let a : usageAt u ≡ override (member id ps) (f id) = x .0 ∙ ap (λ (c : Bool). override c (usageOf m id)) (ap (λ (c : ℕ → Bool). c id) g) ∙ ap (λ (c : ℕ → Usage). override (member id ps) (c id)) i in
     y .says
     ∙ ap (markUsed (usageAt u) t) (x .1 .says ∙ ap (λ (c : ℕ → Usage). update c id (usageAt u)) i)
     ∙ classify-def ps f id t (usageAt u) a
-    ∙ sym (ap (λ (ds : List Definition). classified ps ds (usageOf m₀)) (rw s at (definitions-more r w (omega arith) e q)))
+    ∙ sym (ap (λ (ds : List Definition). classified ps ds (usageOf m₀)) (rw s at (definitions-more r (over-from-last o h) (omega arith) e q)))
 
-pub classified-end : (b m₀ m : List ℕ) (k : ℕ) → k ≡ 0 → ClassifiedFrom b m₀ m k → length m ≡ 65536 → Uses m (classified (moduleOf b .provers) (moduleOf b .definitions) (usageOf m₀))
-classified-end b m₀ m k z i l = record { says = i ∙ ap (λ (ds : List Definition). classified (moduleOf b .provers) ds (usageOf m₀)) (ap (definitionsFrom b) z ∙ sym (definitions-whole b)); long = l }
+pub classified-end : {b : List ℕ} {n d at done : ℕ} (m₀ m : List ℕ) → OverDefinitions b n d at done → n ≤ done → ClassifiedFrom b m₀ m (n - done) → length m ≡ 65536 → Uses m (classified (moduleOf b .provers) (moduleOf b .definitions) (usageOf m₀))
+classified-end {b} {n} {done = done} m₀ m o h i l =
+    let z : n - done ≡ 0 = omega arith in
+    record { says = i ∙ ap (λ (ds : List Definition). classified (moduleOf b .provers) ds (usageOf m₀)) (ap (definitionsFrom b) z ∙ sym (definitions-whole b)); long = l }
 
 -- ---- the prover ids are marked
 

@@ -1,8 +1,8 @@
--- The parts of classify_defs together: the prover ids of the module after it. Assumes nothing.
+-- The parts of classify_defs together, and what the arrays after it say of its module. Assumes nothing.
 use Prim.Native.Nat.{ℕ, zero, suc, _+_, _≤_, _<_}
 use mathlib.Core.Path.{_≡_, refl, sym, ap, _∙_, fun-ext}
 use mathlib.Core.List.{List, [], _∷_}
-use mathlib.Core.Bool.{Bool, true, false, _&&_, _||_}
+use mathlib.Core.Bool.{Bool, true, false, not, _&&_, _||_}
 use mathlib.Core.Logic.{⊎-elim}
 use native.Mathlib.Omega.{arith}
 use lib.Dec.{eqb, ltb}
@@ -12,7 +12,7 @@ use Rattle.flat.specs.Record.{next, moduleOf}
 use Rattle.flat.specs.Readable.{Readable}
 use Rattle.flat.proofs.Laws.{split, alike}
 use Rattle.flat.proofs.Wellformed.{readable-provers}
-use Rattle.passes.specs.Passes.{member, keepIf, Never, isWitness, usedIn, classified, usage, idsFrom, classifyDefs}
+use Rattle.passes.specs.Passes.{member, keepIf, those, Usage, Never, isNever, isWitness, counted, usedIn, classified, usage, idsFrom, classifyDefs}
 use Rattle.classify.specs.Arrays.{usageOf, marked, Uses, Marks, Clear, Classified}
 
 -- ---- an id among those that pass a test
@@ -22,19 +22,10 @@ unfolding member keepIf
 keep-member v true a ws = refl
 keep-member v false a ws = refl
 
-ids-before : (t : ℕ → Bool) (v a k : ℕ) → v < a → member v (idsFrom t a k) ≡ false
+ids-without : (t : ℕ → Bool) (v a k : ℕ) → ((j : ℕ) → a ≤ j → j < a + k → v ≡ j → ⊥) → member v (idsFrom t a k) ≡ false
 unfolding idsFrom member
-ids-before t v a zero l = refl
-ids-before t v a (suc k) l = keep-member v (t a) a (idsFrom t (suc a) k) ∙ rw (ne-eqb v a (λ e. omega arith), ids-before t v (suc a) k (omega arith)) (none (t a))
-  where
-    none : (x : Bool) → ((x && false) || false) ≡ false
-    none true = refl
-    none false = refl
-
-ids-after : (t : ℕ → Bool) (v a k : ℕ) → a + k ≤ v → member v (idsFrom t a k) ≡ false
-unfolding idsFrom member
-ids-after t v a zero l = refl
-ids-after t v a (suc k) l = keep-member v (t a) a (idsFrom t (suc a) k) ∙ rw (ne-eqb v a (λ e. omega arith), ids-after t v (suc a) k (omega arith)) (none (t a))
+ids-without t v a zero h = refl
+ids-without t v a (suc k) h = keep-member v (t a) a (idsFrom t (suc a) k) ∙ rw (ne-eqb v a (h a (omega arith) (omega arith)), ids-without t v (suc a) k (λ j l m. h j (omega arith) (omega arith))) (none (t a))
   where
     none : (x : Bool) → ((x && false) || false) ≡ false
     none true = refl
@@ -55,13 +46,18 @@ ids-in t v a (suc k) l h = keep-member v (t a) a (idsFrom t (suc a) k) ∙ go (i
 
     go : (suc a ≤ v → v < suc a + k → member v (idsFrom t (suc a) k) ≡ t v) → ((t a && eqb v a) || member v (idsFrom t (suc a) k)) ≡ t v
     go ih = ⊎-elim
-        (λ (e : v ≡ a). rw (eq-eqb v a e, ids-before t v (suc a) k (omega arith)) (here (t a) ∙ ap t (sym e)))
+        (λ (e : v ≡ a). rw (eq-eqb v a e, ids-without t v (suc a) k (λ j l m q. omega arith)) (here (t a) ∙ ap t (sym e)))
         (λ (n : v ≡ a → ⊥). rw (ne-eqb v a n, ih (omega arith) (omega arith)) (there (t a) (t v)))
         (alike v a)
 
 -- the ids below n that pass a test
 pub ids-member : (t : ℕ → Bool) (v n : ℕ) → member v (idsFrom t 0 n) ≡ (ltb v n && t v)
-ids-member t v n = ⊎-elim (λ (l : v < n). rw (lt-ltb v n l) (ids-in t v 0 n (omega arith) (omega arith))) (λ (l : n ≤ v). rw (le-ltb v n l) (ids-after t v 0 n (omega arith))) (split v n)
+ids-member t v n = ⊎-elim (λ (l : v < n). rw (lt-ltb v n l) (ids-in t v 0 n (omega arith) (omega arith))) (λ (l : n ≤ v). rw (le-ltb v n l) (ids-without t v 0 n (λ j h m q. omega arith))) (split v n)
+
+ids-same : (s t : ℕ → Bool) (a k : ℕ) → ((j : ℕ) → a ≤ j → j < a + k → s j ≡ t j) → idsFrom s a k ≡ idsFrom t a k
+unfolding idsFrom
+ids-same s t a zero h = refl
+ids-same s t a (suc k) h = rw (h a (omega arith) (omega arith), ids-same s t (suc a) k (λ j l m. h j (omega arith) (omega arith)))
 
 -- no id of a list lies past a bound of it
 past : (ws : List ℕ) (v n : ℕ) → All (λ w. w < n) ws → n ≤ v → member v ws ≡ false
@@ -98,3 +94,21 @@ classified-whole {b} m p {n = n} r c e x y z w =
       usages-long = z .long;
       provers-long = w .long;
     }
+
+-- ---- what the arrays say of the module after classify_defs
+
+module _ {b usages provers : List ℕ} (c : Classified b usages provers) where
+  -- its prover ids are the marked ones
+  pub classified-provers : classifyDefs (moduleOf b) .provers ≡ idsFrom (marked provers) 0 (next b)
+  unfolding classifyDefs moduleOf
+  classified-provers = sym (ids-same _ _ 0 (next b) (λ j l h. ap (λ (f : ℕ → Bool). f j) (c .proved) ∙ ids-in _ j 0 (next b) (omega arith) (omega arith)))
+
+  -- its definitions are the used ones
+  pub classified-definitions : classifyDefs (moduleOf b) .definitions ≡ those (λ v. not (isNever (usageOf usages v))) (moduleOf b .definitions)
+  unfolding classifyDefs
+  classified-definitions = ap (λ (f : ℕ → Usage). those (λ v. not (isNever (f v))) (moduleOf b .definitions)) (sym (c .used))
+
+  -- the counted ones are those whose id is not marked
+  pub classified-counted : counted (moduleOf b) ≡ those (λ v. not (marked provers v)) (classifyDefs (moduleOf b) .definitions)
+  unfolding counted
+  classified-counted = ap (λ (f : ℕ → Bool). those (λ v. not (f v)) (classifyDefs (moduleOf b) .definitions)) (sym (c .proved))

@@ -87,11 +87,13 @@ fn mark_definitions(s: &[u8], provers: &[u8; 65536], usage: &mut [u8; 65536])
     ensures { λ _. ⌜ Uses (now (usage .exit)) (classified (moduleOf (now (s .entry)) .provers) (moduleOf (now (s .entry)) .definitions) (usageOf (now (usage .entry)))) ⌝ }
 {
     let layout = flat::layout_of(s);
+    let n = layout.definitions;
     let definitions = layout.definitions_at;
     let at = layout.nodes_at;
-    let mut k = layout.definitions;
-    while 0 < k {
-        k -= 1;
+    let mut done = 0usize;
+    while done < n {
+        done += 1;
+        let k = n - done;
         let id = word_at(s, definitions + 2 * k) as usize;
         let node = word_at(s, definitions + 2 * k + 1) as usize;
         let u = override_usage(usage, provers, id);
@@ -137,6 +139,7 @@ fn add_witnesses(usage: &[u8; 65536], next: usize, provers: &mut [u8; 65536])
     }
 }
 
+// An array by id in which nothing is marked.
 pub fn no_marks() -> [u8; 65536]
     ensures { λ r. ⌜ r ≡ noMarks ⌝ }
 {

@@ -18,7 +18,7 @@ layout-of-requires : tie.Need-layout-of-requires Inv-loop μ-loop
 layout-of-requires c κs = search needs
 
 loop-holds : tie.Need-loop-holds Inv-loop μ-loop
-loop-holds c = (over-definitions (c .layout-of .ensures) 0 (omega arith), counted-start _)
+loop-holds c = (over-definitions (c .layout-of .ensures), counted-start _)
 
 mul-word-at : tie.Need-mul-word-at Inv-loop μ-loop
 mul-word-at c = search needs
