@@ -6,3 +6,4 @@ pub mod Joining
 pub mod Definitions
 pub mod Equations
 pub mod Turns
+pub mod Whole

@@ -82,7 +82,7 @@ defsAfter b steps s ds = afterDefs (proversOf b) steps s (usedOf b ds)
 unfoldable pub equationsCut : ℕ → Substitutions → List Equation → ℕ → Cuts
 equationsCut steps s es next = flattenEquations (alive (copyPropagateEquations steps s es)) next
 
--- which side of an equation is the left term, by the sides' roots: "a left variable, else a right variable, else a left constant, else a right constant"
+-- which side of an equation is the left term, by the sides' roots: a left variable, else a right variable, else a left constant, else a right constant
 unfoldable pub sidesOf : Copied → Copied → Sides
 sidesOf Copied.Tree Copied.Tree = Neither
 sidesOf Copied.Tree (Copied.Leaf y) = Right y
