@@ -217,7 +217,7 @@ fn left_side(a: Copied, b: Copied) -> Sides
     Sides::Right(y)
 }
 
-// Node k's tree is cut, and its term is the left one.
+// Node k's tree is cut into the left term that is given.
 fn flatten_into(
     s: &[u8],
     nodes: usize,
