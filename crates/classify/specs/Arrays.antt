@@ -5,8 +5,9 @@ use mathlib.Core.Bool.{Bool, false, not}
 use Prim.Native.Nat.{ℕ, zero, suc}
 use lib.ListN.{length, getD, replicate}
 use lib.Dec.{eqb}
+use Rattle.flat.specs.Trees.{Definition}
 use Rattle.flat.specs.Record.{moduleOf}
-use Rattle.passes.specs.Passes.{member, Usage, Never, Witness, Constraint, usage, classifyDefs}
+use Rattle.passes.specs.Passes.{member, those, Usage, Never, Witness, Constraint, isNever, usage, classifyDefs}
 
 -- 0 never, 1 witness, 2 constraint
 unfoldable pub usageAt : ℕ → Usage
@@ -48,3 +49,10 @@ pub record Classified (b usages provers : List ℕ) : Type 0 where
   pub proved : marked provers ≡ (λ v. member v (classifyDefs (moduleOf b) .provers))
   pub usages-long : length usages ≡ 65536
   pub provers-long : length provers ≡ 65536
+
+-- of the record with the bytes b: the prover ids after classify_defs, and those of some definitions that are used
+unfoldable pub proversOf : List ℕ → List ℕ
+proversOf b = classifyDefs (moduleOf b) .provers
+
+unfoldable pub usedOf : List ℕ → List Definition → List Definition
+usedOf b ds = those (λ v. not (isNever (usage (moduleOf b) v))) ds

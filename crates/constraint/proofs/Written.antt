@@ -1,18 +1,19 @@
 -- What the writers leave: words put one after the other are the list of them.
 use mathlib.Core.Path.{_≡_, sym, ap, ap₂, _∙_}
 use mathlib.Core.List.{List, [], _∷_, _++_}
-use Prim.Native.Nat.{ℕ, _+_}
+use Prim.Native.Nat.{ℕ, _+_, _*_, _≤_}
 use native.Mathlib.Omega.{arith}
 use lib.IntN.{ℤ}
-use lib.ListN.{length}
+use lib.ListN.{length, drop}
 use mir.Val.{ofZ, toZ, SFits}
 use mir.Syntax.{w32}
 use mir.Facts.{toZ-ofZ}
-use Rattle.words.specs.Words.{setWord, setWords}
-use Rattle.words.proofs.Laws.{setWords-append}
+use Rattle.words.specs.Words.{setWord, setWords, bytesOf}
+use Rattle.words.proofs.Laws.{setWords-append, setWords-bytes, length-bytesOf}
 use Rattle.constraint.specs.declared.Term.{Term}
 use Rattle.constraint.specs.declared.Equality.{Equality as Written}
-use Rattle.constraint.specs.Record.{numberWord, termWords, operationWord, writtenWords, nodeWords, definitionWords, headerWords}
+use Rattle.constraint.specs.Trees.{ConstraintModule}
+use Rattle.constraint.specs.Record.{numberWord, termWords, operationWord, writtenWords, nodeWords, definitionWords, headerWords, constraintWords, constraintBytes}
 use Rattle.constraint.proofs.Lengths.{length-term}
 
 module _ (b : List ℕ) (at : ℕ) where
@@ -57,3 +58,12 @@ module _ (b : List ℕ) (at : ℕ) where
 pub header-written : (b : List ℕ) {c d e f g h : List ℕ} (x y z w u v : ℕ) → c ≡ setWord b 0 x → d ≡ setWord c 1 y → e ≡ setWord d 2 z → f ≡ setWord e 3 w → g ≡ setWord f 4 u → h ≡ setWord g 5 v → h ≡ setWords b 0 (headerWords x y z w u v)
 unfolding headerWords setWords
 header-written b x y z w u v p q r s t o = rw (o, t, s, r, q, p)
+
+-- the words of a whole record are its bytes, and what stood behind them stays
+pub record-written : (b : List ℕ) (m : ConstraintModule) → length (constraintBytes m) ≤ length b → setWords b 0 (constraintWords m) ≡ constraintBytes m ++ drop (length (constraintBytes m)) b
+unfolding constraintBytes
+record-written b m h =
+    let ws = constraintWords m in
+    let l = length-bytesOf ws in
+    let e : 4 * (0 + length ws) ≡ length (bytesOf ws) = omega arith in
+    setWords-bytes ws b 0 (omega arith) ∙ ap (λ (n : ℕ). bytesOf ws ++ drop n b) e

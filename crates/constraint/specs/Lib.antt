@@ -1,4 +1,5 @@
 pub mod Trees
 pub mod Meaning
 pub mod Record
+pub mod Reading
 pub mod Cases

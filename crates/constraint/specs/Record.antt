@@ -1,13 +1,13 @@
 -- The constraint record: its words, and its bytes. For a reader with document 01, "Constraint record", beside it.
 use mathlib.Core.List.{List, [], _∷_, _++_}
-use Prim.Native.Nat.{ℕ, suc, _+_}
+use Prim.Native.Nat.{ℕ, _+_, _-_}
 use lib.IntN.{ℤ}
 use lib.ListN.{length}
 use mir.Val.{ofZ}
 use mir.Syntax.{w32}
 use Rattle.words.specs.Words.{bytesOf}
 use Rattle.field.specs.declared.InfixOp.{InfixOp}
-use Rattle.flat.specs.Trees.{Flat, Definition}
+use Rattle.flat.specs.Trees.{Flat, Definition, treeNodes, definitionsNodes}
 use Rattle.constraint.specs.declared.Operation.{Operation}
 use Rattle.constraint.specs.declared.Equality.{Equality as Written}
 use Rattle.constraint.specs.declared.Term.{Term}
@@ -51,19 +51,12 @@ unfoldable pub equalitiesWords : List Equality → List ℕ
 equalitiesWords [] = []
 equalitiesWords (q ∷ qs) = equalityWords q ++ equalitiesWords qs
 
--- "nodes stand children first, left to right": the nodes below a tree's root come before it
-unfoldable pub nodesBelow : Flat → ℕ
-nodesBelow (Flat.infixed o a b) = suc (nodesBelow a) + suc (nodesBelow b)
-nodesBelow (Flat.negate a) = suc (nodesBelow a)
-nodesBelow (Flat.constant c) = 0
-nodesBelow (Flat.variable v) = 0
-
--- the index of a tree's root, and of the node after it, where its first node has the index `base`
-unfoldable pub rootFrom : ℕ → Flat → ℕ
-rootFrom base e = base + nodesBelow e
-
+-- "nodes stand children first, left to right": where a tree's first node has the index `base`, the index after it, and that of its root, its last node
 unfoldable pub nextFrom : ℕ → Flat → ℕ
-nextFrom base e = suc (rootFrom base e)
+nextFrom base e = base + treeNodes e
+
+unfoldable pub rootFrom : ℕ → Flat → ℕ
+rootFrom base e = nextFrom base e - 1
 
 -- "nodes of four words (kind, a, b, c)": 4 infix(a, b, operator c), 5 negate(a), 7 constant a, 8 variable a; "unused words are 0"
 unfoldable pub nodeWords : ℕ → ℕ → ℕ → ℕ → List ℕ
@@ -87,17 +80,13 @@ unfoldable pub keptNodes : ℕ → List Definition → List ℕ
 keptNodes base [] = []
 keptNodes base (d ∷ ds) = nodesFrom base (d .right) ++ keptNodes (nextFrom base (d .right)) ds
 
-unfoldable pub nodeCount : List Definition → ℕ
-nodeCount [] = 0
-nodeCount (d ∷ ds) = suc (nodesBelow (d .right)) + nodeCount ds
-
 -- "words: next id, counts of publics, prover ids, equalities, kept definitions, nodes; then the lists"
 unfoldable pub headerWords : ℕ → ℕ → ℕ → ℕ → ℕ → ℕ → List ℕ
 headerWords next publics provers equalities kept nodes = next ∷ publics ∷ provers ∷ equalities ∷ kept ∷ nodes ∷ []
 
 unfoldable pub constraintWords : ConstraintModule → List ℕ
 constraintWords m =
-    headerWords (m .next) (length (m .publics)) (length (m .provers)) (length (m .equalities)) (length (m .kept)) (nodeCount (m .kept))
+    headerWords (m .next) (length (m .publics)) (length (m .provers)) (length (m .equalities)) (length (m .kept)) (definitionsNodes (m .kept))
     ++ (m .publics ++ (m .provers ++ (equalitiesWords (m .equalities) ++ (keptWords 0 (m .kept) ++ keptNodes 0 (m .kept)))))
 
 -- "little-endian 32-bit words"

@@ -2,7 +2,7 @@
 use mathlib.Core.Path.{_≡_, refl, sym, ap, ap₂, _∙_}
 use mathlib.Core.List.{List, [], _∷_, _++_}
 use mathlib.Core.Bool.{Bool, true, false, not}
-use Prim.Native.Nat.{ℕ, zero, suc, _+_}
+use Prim.Native.Nat.{ℕ, zero, suc, _+_, _≤_, _<_}
 use native.Mathlib.Omega.{arith}
 use lib.ListN.{length, getD}
 use lib.Dec.{eqb}
@@ -10,16 +10,18 @@ use borrow.Author.Tests.{eq-eqb, ne-eqb}
 use Rattle.flat.specs.Trees.{Flat, Definition, treeNodes, definitionsNodes}
 use Rattle.flat.specs.Record.{moduleOf}
 use Rattle.constraint.specs.declared.Term.{Term}
-use Rattle.passes.specs.Passes.{member, keepIf, those, Usage, isNever, usage, Substitutions, copyPropagateExpr, substituting, copyPropagateDef, afterDef, copyPropagateDefs, afterDefs, Cuts, cutsOf, joined, flattenDefTo3ac, flattenDefs}
+use Rattle.passes.specs.Passes.{member, keepIf, those, Usage, isNever, usage, classifyDefs, Substitutions, copyPropagateExpr, substituting, copyPropagateDef, afterDef, copyPropagateDefs, afterDefs, Cuts, cutsOf, joined, flattenDefTo3ac, flattenDefs}
 use Rattle.passes.proofs.Loops.{those-append, copies-append, after-append, defs-append}
 use Rattle.classify.specs.Arrays.{usageAt, usageOf, marked, Classified}
 use Rattle.copies.specs.Substituted.{substOf}
 use Rattle.cutting.specs.declared.Target.the-variants.{Given}
 use Rattle.cutting.specs.declared.Cut.{Cut}
 use Rattle.cutting.specs.declared.Place.{Place}
-use Rattle.cutting.specs.Cutting.{targetOf, treeCut, CutPut, CutsPut, proversOf, usedOf, defsCut, defsAfter, Room}
+use Rattle.classify.specs.Arrays.{proversOf, usedOf}
+use Rattle.cutting.specs.Cutting.{targetOf, treeCut, putEqualities, placeFrom, defsCut, defsAfter, Room}
 use Rattle.cutting.proofs.Trees.{cut-few, cut-ids}
-use Rattle.cutting.proofs.Joining.{place-next, puts-none, puts-tree, puts-join, joined-none, Few, few-none, few-join, few-less, room-puts}
+use Rattle.cutting.proofs.Ways.{Leaves}
+use Rattle.cutting.proofs.Joining.{Puts, place-next, puts-none, puts-tree, puts-join, joined-none, Few, few-none, few-join, few-less, room-puts}
 
 -- ---- what the arrays say of an id
 
@@ -138,29 +140,36 @@ module _ (b : List ℕ) (k : ℕ) where
 -- ---- what is left of cut definitions: the body, the answer, the substitutions
 
 abbrev pub DefsLeave : List ℕ → ℕ → List Definition → List ℕ → List ℕ → List ℕ → List ℕ → ℕ → ℕ → Place → Type 0
-DefsLeave b k ds m m′ c c′ at n r = CutsPut c c′ at (defsCut b k (substOf m) ds n) r × (substOf m′ ≡ defsAfter b k (substOf m) ds) × (length m′ ≡ 131072)
+DefsLeave b k ds m m′ c c′ at n r =
+    (c′ ≡ putEqualities c at (defsCut b k (substOf m) ds n .equalities))
+    × (r ≡ placeFrom at (defsCut b k (substOf m) ds n))
+    × (substOf m′ ≡ defsAfter b k (substOf m) ds)
+    × (length m′ ≡ 131072)
 
 -- nothing from there on
 pub leave-none : (b : List ℕ) (k : ℕ) (m c : List ℕ) (at n : ℕ) → length m ≡ 131072 → DefsLeave b k [] m m c c at n (record { next = n; at = at })
-leave-none b k m c at n l = (rw (defs-none b k (substOf m) n) (puts-none c at n), sym (defs-after-none b k (substOf m)), l)
+leave-none b k m c at n l =
+    let p = puts-none c at n in
+    (p .0 ∙ ap (λ (x : Cuts). putEqualities c at (x .equalities)) (sym (defs-none b k (substOf m) n)), p .1 ∙ ap (placeFrom at) (sym (defs-none b k (substOf m) n)), sym (defs-after-none b k (substOf m)), l)
 
 -- one, and then the others
 pub leave-join : (b : List ℕ) (k : ℕ) (d : Definition) (ds : List Definition) (m m1 m2 c : List ℕ) {c1 c2 : List ℕ} (at n : ℕ) {r1 r2 : Place} → DefsLeave b k (d ∷ []) m m1 c c1 at n r1 → DefsLeave b k ds m1 m2 c1 c2 (r1 .at) (r1 .next) r2 → DefsLeave b k (d ∷ ds) m m2 c c2 at n r2
 leave-join b k d ds m m1 m2 c at n {r1 = r1} l1 l2 =
     let C : Cuts = defsCut b k (substOf m) (d ∷ []) n in
     let D : Cuts = defsCut b k (substOf m1) ds (r1 .next) in
-    let w : defsCut b k (substOf m) (d ∷ ds) n ≡ joined (C .equalities) D = defs-first b k (substOf m) d ds n ∙ ap₂ (λ (x : Substitutions) (y : ℕ). joined (C .equalities) (defsCut b k x ds y)) (sym (l1 .1)) (sym (place-next at C (l1 .0 .1))) in
-    (rw w (puts-join c at C D (l1 .0) (l2 .0)), l2 .1 ∙ ap (λ (x : Substitutions). defsAfter b k x ds) (l1 .1) ∙ sym (defs-after-first b k (substOf m) d ds), l2 .2)
+    let w : defsCut b k (substOf m) (d ∷ ds) n ≡ joined (C .equalities) D = defs-first b k (substOf m) d ds n ∙ ap₂ (λ (x : Substitutions) (y : ℕ). joined (C .equalities) (defsCut b k x ds y)) (sym (l1 .2)) (sym (place-next at C (l1 .1))) in
+    let p = puts-join c at C D (l1 .0, l1 .1) (l2 .0, l2 .1) in
+    (rw w (p .0), rw w (p .1), l2 .2 ∙ ap (λ (x : Substitutions). defsAfter b k x ds) (l1 .2) ∙ sym (defs-after-first b k (substOf m) d ds), l2 .3)
 
 -- the room that they leave
 pub room-defs : (b : List ℕ) (k : ℕ) (ds : List Definition) (m m′ : List ℕ) {c c′ : List ℕ} {at n : ℕ} {r : Place} (p : ℕ) → DefsLeave b k ds m m′ c c′ at n r → Room (definitionsNodes ds + p) at n c → Room p (r .at) (r .next) c′
-room-defs b k ds m m′ {n = n} p l h = room-puts (defsCut b k (substOf m) ds n) (definitionsNodes ds) p (few-defs b k (substOf m) ds n) (l .0) h
+room-defs b k ds m m′ {n = n} p l h = room-puts (defsCut b k (substOf m) ds n) (definitionsNodes ds) p (few-defs b k (substOf m) ds n) (l .0, l .1) h
 
 -- ---- the ways through one definition
 
 module _ {b us ps : List ℕ} (c : Classified b us ps) (k : ℕ) (m body : List ℕ) (at n id : ℕ) (e : Flat) where
   skipped : defsCut b k (substOf m) (record { id = id; right = e } ∷ []) n ≡ record { next = n; equalities = [] } → substOf m ≡ defsAfter b k (substOf m) (record { id = id; right = e } ∷ []) → length m ≡ 131072 → DefsLeave b k (record { id = id; right = e } ∷ []) m m body body at n (record { next = n; at = at })
-  skipped q a l = (rw q (puts-none body at n), a, l)
+  skipped q a l = let p = puts-none body at n in (rw q (p .0), rw q (p .1), a, l)
 
   pub way-unused : getD us id 0 ≡ 0 → length m ≡ 131072 → DefsLeave b k (record { id = id; right = e } ∷ []) m m body body at n (record { next = n; at = at })
   way-unused h = let u = is-unused c id h in skipped (cut-unused b k (substOf m) id e n u) (after-unused b k (substOf m) id e n u)
@@ -171,8 +180,10 @@ module _ {b us ps : List ℕ} (c : Classified b us ps) (k : ℕ) (m body : List 
       let p = is-prover c id g in
       skipped (cut-prover b k (substOf m) id e n u p) (after-prover b k (substOf m) id e n u p)
 
-  pub way-counted : (m′ : List ℕ) {body′ : List ℕ} {r : Cut} → (getD us id 0 ≡ 0 → ⊥) → getD ps id 0 ≡ 0 → CutPut body body′ at (treeCut (Given (Term.Variable id)) k (substOf m) e n) r → (substOf m′ ≡ substituting false id (copyPropagateExpr k (substOf m) e) (substOf m)) × (length m′ ≡ 131072) → DefsLeave b k (record { id = id; right = e } ∷ []) m m′ body body′ at n (record { next = r .next; at = r .at })
+  pub way-counted : (m′ : List ℕ) {body′ : List ℕ} {r : Cut} → (getD us id 0 ≡ 0 → ⊥) → getD ps id 0 ≡ 0 → Leaves body body′ at (treeCut (Given (Term.Variable id)) k (substOf m) e n) r → (substOf m′ ≡ substituting false id (copyPropagateExpr k (substOf m) e) (substOf m)) × (length m′ ≡ 131072) → DefsLeave b k (record { id = id; right = e } ∷ []) m m′ body body′ at n (record { next = r .next; at = r .at })
   way-counted m′ h g l a =
       let u = is-used c id h in
       let p = is-counted c id g in
-      (rw (cut-counted b k (substOf m) id e n u p) (puts-tree body at _ l), a .0 ∙ after-counted b k (substOf m) id e n u p, a .1)
+      let w = puts-tree body at (treeCut (Given (Term.Variable id)) k (substOf m) e n) l in
+      let q = cut-counted b k (substOf m) id e n u p in
+      (rw q (w .0), rw q (w .1), a .0 ∙ after-counted b k (substOf m) id e n u p, a .1)

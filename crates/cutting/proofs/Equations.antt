@@ -1,14 +1,15 @@
 -- Equations: one by its sides' roots, a list by its first. Assumes nothing.
 use mathlib.Core.Path.{_≡_, refl, sym, ap, ap₂, _∙_}
-use mathlib.Core.List.{List, [], _∷_}
-use mathlib.Core.Bool.{Bool, true, false}
-use Prim.Native.Nat.{ℕ, _+_, _*_, _≤_, _<_}
+use mathlib.Core.List.{List, [], _∷_, _++_}
+use mathlib.Core.Bool.{Bool, true, false, not}
+use mathlib.Core.Option.{none, some}
+use Prim.Native.Nat.{ℕ, zero, suc, _+_, _*_, _≤_, _<_}
 use native.Mathlib.Omega.{arith}
 use lib.IntN.{ℤ}
 use lib.ListN.{length, length-append}
 use Rattle.flat.specs.Trees.{Flat, Equation, treeNodes, equationsNodes}
 use Rattle.constraint.specs.declared.Term.{Term}
-use Rattle.passes.specs.Passes.{keepIf, Substitutions, copyPropagateExpr, copyPropagateEquations, dead, alive, Cut as Cutting, copied, Cuts, cutsOf, joined, Sides as SidesOf, into, both, sides, flattenSides, flattenEquations}
+use Rattle.passes.specs.Passes.{keepIf, toExpr, Substitutions, copyPropagateExpr, copyPropagateEquations, dead, alive, Cut as Cutting, copied, flattenExprTo3ac, Cuts, cutsOf, joined, Sides as SidesOf, into, both, sides, flattenSides, flattenEquations}
 use Rattle.passes.proofs.Loops.{copied-equations-append, alive-append, equations-append}
 use Rattle.copies.specs.declared.Copied.{Copied}
 use Rattle.copies.specs.Substituted.{copiedOf, deadRoots}
@@ -18,11 +19,11 @@ use Rattle.cutting.specs.declared.Cut.{Cut}
 use Rattle.cutting.specs.declared.Place.{Place}
 use Rattle.cutting.specs.declared.Sides.{Sides}
 use Rattle.cutting.specs.declared.Sides.the-variants.{Left, Right, Neither}
-use Rattle.cutting.specs.Cutting.{targetOf, treeCut, wordAfter, CutPut, CutsPut, sidesOf, equationsCut, Room}
+use Rattle.cutting.specs.Cutting.{targetOf, treeCut, after, cutFrom, sidesOf, equationsCut, Room}
 use Rattle.cutting.proofs.Trees.{term-cut, cut-new-few, cut-few, cut-ids}
 use Rattle.cutting.proofs.Placing.{length-put}
-use Rattle.cutting.proofs.Ways.{its-term, its-next, its-at}
-use Rattle.cutting.proofs.Joining.{place-next, puts-none, puts-tree, puts-join, joined-none, Few, few-none, few-join, few-less, room-puts}
+use Rattle.cutting.proofs.Ways.{Leaves, its-term, its-next, its-at, room-on}
+use Rattle.cutting.proofs.Joining.{Puts, place-next, puts-none, puts-tree, puts-join, joined-none, Few, few-none, few-join, few-less, room-puts}
 
 -- ---- which side is the left term
 
@@ -147,27 +148,27 @@ module _ (k : ℕ) (s : Substitutions) (l r : Flat) (n : ℕ) where
     dead-is : dead x y ≡ d
     dead-is = dead-by-roots x y ∙ sym (e ∙ ap₂ deadRoots p q)
 
-    pub way-dead : d ≡ true → (b : List ℕ) (at : ℕ) → CutsPut b b at (equationsCut k s (the ∷ []) n) (record { next = n; at = at })
+    pub way-dead : d ≡ true → (b : List ℕ) (at : ℕ) → Puts b b at (equationsCut k s (the ∷ []) n) (record { next = n; at = at })
     way-dead h b at = rw (cut-dead (dead-is ∙ h)) (puts-none b at n)
 
     module _ (h : d ≡ false) {z : Sides} (f : z ≡ sidesOf a c) where
       side-is : sidesOf (copiedOf x) (copiedOf y) ≡ z
       side-is = sym (f ∙ ap₂ sidesOf p q)
 
-      pub way-left : (b : List ℕ) {b′ : List ℕ} (at : ℕ) {t : Term} {u : Place} → z ≡ Left t → CutsPut b b′ at (cutsOf (treeCut (Given t) k s r n)) u → CutsPut b b′ at (equationsCut k s (the ∷ []) n) u
+      pub way-left : (b : List ℕ) {b′ : List ℕ} (at : ℕ) {t : Term} {u : Place} → z ≡ Left t → Puts b b′ at (cutsOf (treeCut (Given t) k s r n)) u → Puts b b′ at (equationsCut k s (the ∷ []) n) u
       way-left b at {t} g w = rw (cut-by (Left t) (side-is ∙ g) (dead-is ∙ h) ∙ cut-left t) w
 
-      pub way-right : (b : List ℕ) {b′ : List ℕ} (at : ℕ) {t : Term} {u : Place} → z ≡ Right t → CutsPut b b′ at (cutsOf (treeCut (Given t) k s l n)) u → CutsPut b b′ at (equationsCut k s (the ∷ []) n) u
+      pub way-right : (b : List ℕ) {b′ : List ℕ} (at : ℕ) {t : Term} {u : Place} → z ≡ Right t → Puts b b′ at (cutsOf (treeCut (Given t) k s l n)) u → Puts b b′ at (equationsCut k s (the ∷ []) n) u
       way-right b at {t} g w = rw (cut-by (Right t) (side-is ∙ g) (dead-is ∙ h) ∙ cut-right t) w
 
-      pub way-neither : (b : List ℕ) {b′ : List ℕ} (at : ℕ) {u : Place} → z ≡ Neither → CutsPut b b′ at (flattenSides (both x y) n) u → CutsPut b b′ at (equationsCut k s (the ∷ []) n) u
+      pub way-neither : (b : List ℕ) {b′ : List ℕ} (at : ℕ) {u : Place} → z ≡ Neither → Puts b b′ at (flattenSides (both x y) n) u → Puts b b′ at (equationsCut k s (the ∷ []) n) u
       way-neither b at g w = rw (cut-by Neither (side-is ∙ g) (dead-is ∙ h) ∙ cut-neither) w
 
 -- ---- both sides cut
 
-module _ (k : ℕ) (s : Substitutions) (l r : Flat) (b : List ℕ) {c : List ℕ} (at n : ℕ) {r1 : Cut} (l1 : CutPut b c at (treeCut New k s l n) r1) where
-  pub room-both : {d : List ℕ} {r2 : Cut} → CutPut c d (r1 .at) (treeCut New k s r (r1 .next)) r2 → Room (treeNodes l + treeNodes r) at n b → 4 * r2 .at + 28 ≤ length d
-  unfolding wordAfter
+module _ (k : ℕ) (s : Substitutions) (l r : Flat) (b : List ℕ) {c : List ℕ} (at n : ℕ) {r1 : Cut} (l1 : Leaves b c at (treeCut New k s l n) r1) where
+  pub room-both : {d : List ℕ} {r2 : Cut} → Leaves c d (r1 .at) (treeCut New k s r (r1 .next)) r2 → Room (treeNodes l + treeNodes r) at n b → 4 * r2 .at + 28 ≤ length d
+  unfolding after
   room-both {d} {r2} l2 h =
       let a : Cutting = treeCut New k s l n in
       let y : Cutting = treeCut New k s r (r1 .next) in
@@ -178,7 +179,7 @@ module _ (k : ℕ) (s : Substitutions) (l r : Flat) (b : List ℕ) {c : List ℕ
       let g : length d ≡ length b = ap length (l2 .0) ∙ length-put c (r1 .at) (y .equalities) ∙ ap length (l1 .0) ∙ length-put b at (a .equalities) in
       omega (arith, h .words)
 
-  pub way-both : {d f : List ℕ} {r2 r3 : Cut} → CutPut c d (r1 .at) (treeCut New k s r (r1 .next)) r2 → CutPut d f (r2 .at) (copied (targetOf (Given (r1 .term))) (r2 .term) (r2 .next)) r3 → CutsPut b f at (flattenSides (both (copyPropagateExpr k s l) (copyPropagateExpr k s r)) n) (record { next = r3 .next; at = r3 .at })
+  pub way-both : {d f : List ℕ} {r2 r3 : Cut} → Leaves c d (r1 .at) (treeCut New k s r (r1 .next)) r2 → Leaves d f (r2 .at) (copied (targetOf (Given (r1 .term))) (r2 .term) (r2 .next)) r3 → Puts b f at (flattenSides (both (copyPropagateExpr k s l) (copyPropagateExpr k s r)) n) (record { next = r3 .next; at = r3 .at })
   way-both {d} {f} {r2} {r3} l2 l3 =
       let a : Cutting = treeCut New k s l n in
       let y : Cutting = treeCut New k s r (r1 .next) in
@@ -203,10 +204,10 @@ module _ (k : ℕ) (s : Substitutions) where
   few-equations (e ∷ es) n = rw (equations-first e es n) (few-join _ _ (few-equation k s (e .left) (e .right) n) (few-equations es _))
 
   -- nothing from there on; one, and then the others
-  pub put-equations-none : (c : List ℕ) (at n : ℕ) → CutsPut c c at (equationsCut k s [] n) (record { next = n; at = at })
+  pub put-equations-none : (c : List ℕ) (at n : ℕ) → Puts c c at (equationsCut k s [] n) (record { next = n; at = at })
   put-equations-none c at n = rw (equations-cut-none n) (puts-none c at n)
 
-  pub put-equations-join : (e : Equation) (es : List Equation) (c : List ℕ) {c1 c2 : List ℕ} (at n : ℕ) {r1 r2 : Place} → CutsPut c c1 at (equationsCut k s (e ∷ []) n) r1 → CutsPut c1 c2 (r1 .at) (equationsCut k s es (r1 .next)) r2 → CutsPut c c2 at (equationsCut k s (e ∷ es) n) r2
+  pub put-equations-join : (e : Equation) (es : List Equation) (c : List ℕ) {c1 c2 : List ℕ} (at n : ℕ) {r1 r2 : Place} → Puts c c1 at (equationsCut k s (e ∷ []) n) r1 → Puts c1 c2 (r1 .at) (equationsCut k s es (r1 .next)) r2 → Puts c c2 at (equationsCut k s (e ∷ es) n) r2
   put-equations-join e es c at n {r1 = r1} l1 l2 =
       let C : Cuts = equationsCut k s (e ∷ []) n in
       let D : Cuts = equationsCut k s es (r1 .next) in
@@ -214,5 +215,5 @@ module _ (k : ℕ) (s : Substitutions) where
       rw w (puts-join c at C D l1 l2)
 
   -- the room that they leave
-  pub room-equations : (es : List Equation) {c c′ : List ℕ} {at n : ℕ} {r : Place} (p : ℕ) → CutsPut c c′ at (equationsCut k s es n) r → Room (equationsNodes es + p) at n c → Room p (r .at) (r .next) c′
+  pub room-equations : (es : List Equation) {c c′ : List ℕ} {at n : ℕ} {r : Place} (p : ℕ) → Puts c c′ at (equationsCut k s es n) r → Room (equationsNodes es + p) at n c → Room p (r .at) (r .next) c′
   room-equations es {n = n} p l h = room-puts (equationsCut k s es n) (equationsNodes es) p (few-equations es n) l h

@@ -1,16 +1,20 @@
 -- Cuts put one after the other, and the room that they leave. Assumes nothing.
-use mathlib.Core.Path.{_≡_, sym, ap, ap₂, _∙_}
-use mathlib.Core.List.{List, [], append-nil}
-use Prim.Native.Nat.{ℕ, _+_, _≤_}
+use mathlib.Core.Path.{_≡_, refl, sym, ap, ap₂, _∙_}
+use mathlib.Core.List.{List, [], _∷_, _++_, append-nil}
+use Prim.Native.Nat.{ℕ, _+_, _*_, _≤_, _<_}
 use native.Mathlib.Omega.{arith}
 use lib.ListN.{length, length-append}
 use Rattle.constraint.specs.Trees.{Equality}
 use Rattle.passes.specs.Passes.{Cut as Cutting, Cuts, cutsOf, joined}
 use Rattle.cutting.specs.declared.Cut.{Cut}
 use Rattle.cutting.specs.declared.Place.{Place}
-use Rattle.cutting.specs.Cutting.{putEqualities, wordAfter, CutPut, placeFrom, CutsPut, Room}
+use Rattle.cutting.specs.Cutting.{putEqualities, after, cutFrom, placeFrom, Room}
 use Rattle.cutting.proofs.Placing.{put-none, after-none, put-append, after-append, length-put}
-use Rattle.cutting.proofs.Ways.{its-next, its-at}
+use Rattle.cutting.proofs.Ways.{Leaves, its-next, its-at}
+
+-- what cuts from word `at` on leave: the body b′ where it was b, and the answer r
+abbrev pub Puts : List ℕ → List ℕ → ℕ → Cuts → Place → Type 0
+Puts b b′ at c r = (b′ ≡ putEqualities b at (c .equalities)) × (r ≡ placeFrom at c)
 
 -- the fields of an answer
 module _ (at : ℕ) (c : Cuts) {r : Place} (e : r ≡ placeFrom at c) where
@@ -18,27 +22,27 @@ module _ (at : ℕ) (c : Cuts) {r : Place} (e : r ≡ placeFrom at c) where
   unfolding placeFrom
   place-next = ap (λ (x : Place). x .next) e
 
-  pub place-at : r .at ≡ wordAfter at (c .equalities)
+  pub place-at : r .at ≡ after at (c .equalities)
   unfolding placeFrom
   place-at = ap (λ (x : Place). x .at) e
 
 -- no equality
-pub puts-none : (b : List ℕ) (at n : ℕ) → CutsPut b b at (record { next = n; equalities = [] }) (record { next = n; at = at })
+pub puts-none : (b : List ℕ) (at n : ℕ) → Puts b b at (record { next = n; equalities = [] }) (record { next = n; at = at })
 unfolding placeFrom
 puts-none b at n = (sym (put-none b at), ap (λ (m : ℕ). record { next = n; at = m }) (sym (after-none at)))
 
 -- a tree's
-pub puts-tree : (b : List ℕ) {b′ : List ℕ} (at : ℕ) (c : Cutting) {r : Cut} → CutPut b b′ at c r → CutsPut b b′ at (cutsOf c) (record { next = r .next; at = r .at })
+pub puts-tree : (b : List ℕ) {b′ : List ℕ} (at : ℕ) (c : Cutting) {r : Cut} → Leaves b b′ at c r → Puts b b′ at (cutsOf c) (record { next = r .next; at = r .at })
 unfolding cutsOf placeFrom
 puts-tree b at c l = (l .0, ap₂ (λ (x y : ℕ). record { next = x; at = y }) (its-next at c (l .1)) (its-at at c (l .1)))
 
 -- one after the other
-pub puts-join : (b : List ℕ) {b1 b2 : List ℕ} (at : ℕ) (c d : Cuts) {r1 r2 : Place} → CutsPut b b1 at c r1 → CutsPut b1 b2 (r1 .at) d r2 → CutsPut b b2 at (joined (c .equalities) d) r2
+pub puts-join : (b : List ℕ) {b1 b2 : List ℕ} (at : ℕ) (c d : Cuts) {r1 r2 : Place} → Puts b b1 at c r1 → Puts b1 b2 (r1 .at) d r2 → Puts b b2 at (joined (c .equalities) d) r2
 unfolding joined placeFrom
 puts-join b at c d l m =
     let i = place-at at c (l .1) in (
       m .0 ∙ ap₂ (λ (x : List ℕ) (y : ℕ). putEqualities x y (d .equalities)) (l .0) i ∙ sym (put-append b at (c .equalities) (d .equalities)),
-      m .1 ∙ ap (λ (x : ℕ). record { next = d .next; at = x }) (ap (λ (x : ℕ). wordAfter x (d .equalities)) i ∙ sym (after-append at (c .equalities) (d .equalities))),
+      m .1 ∙ ap (λ (x : ℕ). record { next = d .next; at = x }) (ap (λ (x : ℕ). after x (d .equalities)) i ∙ sym (after-append at (c .equalities) (d .equalities))),
     )
 
 pub joined-none : (c : Cuts) → joined (c .equalities) (record { next = c .next; equalities = [] }) ≡ c
@@ -61,8 +65,8 @@ pub few-less : (c : Cuts) {m n next : ℕ} → Few c m next → m ≤ n → Few 
 few-less c f l = record { equalities = omega (arith, f .equalities); ids = omega (arith, f .ids) }
 
 -- what is left of the room for them and more
-pub room-puts : {b b′ : List ℕ} {at next : ℕ} (c : Cuts) {r : Place} (m n : ℕ) → Few c m next → CutsPut b b′ at c r → Room (m + n) at next b → Room n (r .at) (r .next) b′
-unfolding wordAfter
+pub room-puts : {b b′ : List ℕ} {at next : ℕ} (c : Cuts) {r : Place} (m n : ℕ) → Few c m next → Puts b b′ at c r → Room (m + n) at next b → Room n (r .at) (r .next) b′
+unfolding after
 room-puts {b} {at = at} c m n f l h =
     let i = place-at at c (l .1) in
     let j = place-next at c (l .1) in

@@ -6,4 +6,3 @@ pub mod Joining
 pub mod Definitions
 pub mod Equations
 pub mod Turns
-pub mod Whole

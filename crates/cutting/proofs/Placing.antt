@@ -1,20 +1,27 @@
 -- Equalities written one after the other are the list of them; what each way through the cut of a tree leaves. Assumes nothing.
-use mathlib.Core.Path.{_≡_, refl, sym, ap, _∙_}
+use mathlib.Core.Path.{_≡_, refl, sym, ap, ap₂, _∙_}
 use mathlib.Core.List.{List, [], _∷_, _++_, append-nil}
-use Prim.Native.Nat.{ℕ, _+_}
+use mathlib.Core.Option.{Option, none, some}
+use Prim.Native.Nat.{ℕ, suc, _+_, _*_, _≤_, _<_}
+use native.Mathlib.Numerals.{add-one}
 use native.Mathlib.Omega.{arith}
+use lib.IntN.{ℤ}
 use lib.ListN.{length, length-append}
 use Rattle.words.specs.Words.{setWords}
 use Rattle.words.proofs.Laws.{setWords-append, length-setWords}
+use Rattle.field.specs.declared.InfixOp.{InfixOp}
+use Rattle.flat.specs.Trees.{Flat, treeNodes}
 use Rattle.constraint.specs.declared.Term.{Term}
 use Rattle.constraint.specs.declared.Equality.{Equality as Written}
-use Rattle.constraint.specs.Trees.{Side, Equality}
+use Rattle.constraint.specs.Trees.{Side, Equality, written}
 use Rattle.constraint.specs.Record.{writtenWords, equalityWords, equalitiesWords}
 use Rattle.constraint.proofs.Lengths.{length-equalities, equalities-append}
-use Rattle.passes.specs.Passes.{orVariable, copied}
+use Rattle.passes.specs.Passes.{Substitutions, walk, infixOp, Cut as Cutting, orVariable, pushConstraintDef, copied}
 use Rattle.cutting.specs.declared.Target.{Target}
 use Rattle.cutting.specs.declared.Target.the-variants.{New, Given}
-use Rattle.cutting.specs.Cutting.{equalityOf, targetOf, putEqualities, wordAfter, cutFrom}
+use Rattle.cutting.specs.declared.Cut.{Cut}
+use Rattle.cutting.specs.Cutting.{equalityOf, targetOf, treeCut, putEqualities, after, cutFrom, Room}
+use Rattle.cutting.proofs.Trees.{cut-infix, cut-negate, cut-constant, cut-variable, cut-few, cut-new-few, cut-ids}
 
 -- ---- lists of equalities
 
@@ -22,19 +29,19 @@ pub put-none : (b : List ℕ) (at : ℕ) → putEqualities b at [] ≡ b
 unfolding putEqualities equalitiesWords setWords
 put-none b at = refl
 
-pub after-none : (at : ℕ) → wordAfter at [] ≡ at
-unfolding wordAfter
+pub after-none : (at : ℕ) → after at [] ≡ at
+unfolding after
 after-none at = omega arith
 
-pub put-append : (b : List ℕ) (at : ℕ) (xs ys : List Equality) → putEqualities b at (xs ++ ys) ≡ putEqualities (putEqualities b at xs) (wordAfter at xs) ys
-unfolding putEqualities wordAfter
+pub put-append : (b : List ℕ) (at : ℕ) (xs ys : List Equality) → putEqualities b at (xs ++ ys) ≡ putEqualities (putEqualities b at xs) (after at xs) ys
+unfolding putEqualities after
 put-append b at xs ys =
     ap (setWords b at) (equalities-append xs ys)
     ∙ setWords-append (equalitiesWords xs) (equalitiesWords ys) b at
     ∙ ap (λ (n : ℕ). setWords (setWords b at (equalitiesWords xs)) (at + n) (equalitiesWords ys)) (length-equalities xs)
 
-pub after-append : (at : ℕ) (xs ys : List Equality) → wordAfter at (xs ++ ys) ≡ wordAfter (wordAfter at xs) ys
-unfolding wordAfter
+pub after-append : (at : ℕ) (xs ys : List Equality) → after at (xs ++ ys) ≡ after (after at xs) ys
+unfolding after
 after-append at xs ys = omega (arith, length-append xs ys)
 
 pub length-put : (b : List ℕ) (at : ℕ) (qs : List Equality) → length (putEqualities b at qs) ≡ length b
@@ -45,8 +52,8 @@ pub put-one : (b : List ℕ) (at : ℕ) (l : Term) (r : Side) → setWords b at 
 unfolding putEqualities equalitiesWords equalityWords equalityOf
 put-one b at l r = ap (setWords b at) (sym (append-nil _))
 
-pub after-one : (at : ℕ) (q : Equality) → wordAfter at (q ∷ []) ≡ at + 7
-unfolding wordAfter
+pub after-one : (at : ℕ) (q : Equality) → after at (q ∷ []) ≡ at + 7
+unfolding after
 after-one at q = omega arith
 
 -- ---- terms

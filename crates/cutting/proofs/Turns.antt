@@ -1,20 +1,20 @@
 -- The loops over definitions and equations: where they start, a turn, and where they end. Assumes nothing.
-use mathlib.Core.Path.{_≡_, ap}
+use mathlib.Core.Path.{_≡_, refl, sym, ap, _∙_}
 use mathlib.Core.List.{List, [], _∷_}
 use Prim.Native.Nat.{ℕ, _+_, _*_, _≤_, _<_}
 use native.Mathlib.Omega.{arith}
 use lib.ListN.{length}
 use Rattle.words.specs.Words.{wordAt}
-use Rattle.flat.specs.Trees.{Flat, Definition, treeNodes, definitionsNodes, equationsNodes}
+use Rattle.flat.specs.Trees.{Flat, Definition, Equation, treeNodes, definitionsNodes, equationsNodes}
 use Rattle.flat.specs.Record.{definitions, equations, tree, moduleOf}
-use Rattle.flat.specs.Readable.{Readable}
+use Rattle.flat.specs.Readable.{Readable, Inside}
 use Rattle.passes.specs.Passes.{Substitutions}
 use Rattle.classify.proofs.Lists.{definitionsFrom, equationsFrom, definitions-none, equations-none, definitions-whole, equations-whole, OverDefinitions, OverEquations, definitions-more, equations-more}
 use Rattle.copies.specs.Substituted.{substOf}
 use Rattle.cutting.specs.declared.Place.{Place}
-use Rattle.cutting.specs.Cutting.{CutsPut, defsCut, equationsCut, Room}
+use Rattle.cutting.specs.Cutting.{defsCut, equationsCut, Room}
 use Rattle.cutting.proofs.Ways.{room-less}
-use Rattle.cutting.proofs.Joining.{room-puts}
+use Rattle.cutting.proofs.Joining.{Puts, room-puts}
 use Rattle.cutting.proofs.Definitions.{DefsLeave, leave-none, leave-join, few-def}
 use Rattle.cutting.proofs.Equations.{put-equations-none, put-equations-join, few-equation}
 
@@ -53,12 +53,12 @@ module _ {b : List ℕ} {count d nodes j : ℕ} (o : OverDefinitions b count d n
       defs-turn m₀ c₀ at₀ n₀ f m′ c′ z l2 = f m′ c′ z (rw (definitions-more r o h p q) (leave-join b k this (definitionsFrom b (j + 1)) m m1 m′ c at n l1 l2))
 
       pub room-turn : Room (definitionsNodes (definitionsFrom b j)) at n c → Room (definitionsNodes (definitionsFrom b (j + 1))) (a .at) (a .next) c1
-      room-turn g = room-puts (defsCut b k (substOf m) (this ∷ []) n) (treeNodes (tree b nodes (node + 1) node)) _ (few-def b k (substOf m) id (tree b nodes (node + 1) node) n) (l1 .0) (rw size at g)
+      room-turn g = room-puts (defsCut b k (substOf m) (this ∷ []) n) (treeNodes (tree b nodes (node + 1) node)) _ (few-def b k (substOf m) id (tree b nodes (node + 1) node) n) (l1 .0, l1 .1) (rw size at g)
 
 -- ---- equations
 
 abbrev pub EquationsFrom : List ℕ → ℕ → Substitutions → List ℕ → ℕ → ℕ → List ℕ → ℕ → ℕ → ℕ → Type 0
-EquationsFrom b k s c₀ at₀ n₀ c at n j = (c′ : List ℕ) (r : Place) → CutsPut c c′ at (equationsCut k s (equationsFrom b j) n) r → CutsPut c₀ c′ at₀ (equationsCut k s (moduleOf b .equations) n₀) r
+EquationsFrom b k s c₀ at₀ n₀ c at n j = (c′ : List ℕ) (r : Place) → Puts c c′ at (equationsCut k s (equationsFrom b j) n) r → Puts c₀ c′ at₀ (equationsCut k s (moduleOf b .equations) n₀) r
 
 pub equations-start : (b : List ℕ) (k : ℕ) (s : Substitutions) (c : List ℕ) (at n : ℕ) → EquationsFrom b k s c at n c at n 0
 equations-start b k s c at n c′ r l = rw (equations-whole b) l
@@ -70,7 +70,7 @@ module _ {b : List ℕ} {count d nodes j : ℕ} (o : OverEquations b count d nod
   pub over-equations-next : j < count → OverEquations b count d nodes (j + 1)
   over-equations-next h = record { count = o .count; place = o .place; trees = o .trees; within = omega arith }
 
-  pub equations-end : count ≤ j → (k : ℕ) (s : Substitutions) (c₀ : List ℕ) (at₀ n₀ : ℕ) (c : List ℕ) (at n : ℕ) → EquationsFrom b k s c₀ at₀ n₀ c at n j → CutsPut c₀ c at₀ (equationsCut k s (moduleOf b .equations) n₀) (record { next = n; at = at })
+  pub equations-end : count ≤ j → (k : ℕ) (s : Substitutions) (c₀ : List ℕ) (at₀ n₀ : ℕ) (c : List ℕ) (at n : ℕ) → EquationsFrom b k s c₀ at₀ n₀ c at n j → Puts c₀ c at₀ (equationsCut k s (moduleOf b .equations) n₀) (record { next = n; at = at })
   equations-end h k s c₀ at₀ n₀ c at n f = f c _ (rw (equations-none b j (omega (arith, o .count))) (put-equations-none k s c at n))
 
   module _ {left right : ℕ} (r : Readable b) (h : j < count) (p : left ≡ wordAt b (d + 2 * j)) (q : right ≡ wordAt b (d + 2 * j + 1)) where
@@ -87,7 +87,7 @@ module _ {b : List ℕ} {count d nodes j : ℕ} (o : OverEquations b count d nod
     pub room-equation : {at n : ℕ} {c : List ℕ} → Room (equationsNodes (equationsFrom b j)) at n c → Room (treeNodes x + treeNodes y) at n c
     room-equation g = room-less _ g (omega (arith, sizes))
 
-    module _ (k : ℕ) (s : Substitutions) (c : List ℕ) {c1 : List ℕ} (at n : ℕ) {a : Place} (l1 : CutsPut c c1 at (equationsCut k s (record { left = x; right = y } ∷ []) n) a) where
+    module _ (k : ℕ) (s : Substitutions) (c : List ℕ) {c1 : List ℕ} (at n : ℕ) {a : Place} (l1 : Puts c c1 at (equationsCut k s (record { left = x; right = y } ∷ []) n) a) where
       pub equations-turn : (c₀ : List ℕ) (at₀ n₀ : ℕ) → EquationsFrom b k s c₀ at₀ n₀ c at n j → EquationsFrom b k s c₀ at₀ n₀ c1 (a .at) (a .next) (j + 1)
       equations-turn c₀ at₀ n₀ f c′ z l2 = f c′ z (rw (equations-more r o h p q) (put-equations-join k s (record { left = x; right = y }) (equationsFrom b (j + 1)) c at n l1 l2))
 

@@ -1,5 +1,4 @@
 -- What the code of the last pass answers, by the definitions of the passes.
-use mathlib.Core.Path.{_≡_}
 use mathlib.Core.List.{List}
 use mathlib.Core.Bool.{not}
 use mathlib.Core.Option.{Option, none, some}
@@ -13,6 +12,7 @@ use Rattle.constraint.specs.declared.Equality.{Equality as Written}
 use Rattle.constraint.specs.Trees.{Side, Equality, written}
 use Rattle.constraint.specs.Record.{equalitiesWords}
 use Rattle.passes.specs.Passes.{those, isNever, usage, classifyDefs, Substitutions, copyPropagateExpr, copyPropagateDefs, afterDefs, copyPropagateEquations, alive, flattenExprTo3ac, flattenDefs, flattenEquations, Cut as Cutting, Cuts}
+use Rattle.classify.specs.Arrays.{proversOf, usedOf}
 use Rattle.copies.specs.declared.Copied.{Copied}
 use Rattle.cutting.specs.declared.Target.{Target}
 use Rattle.cutting.specs.declared.Target.the-variants.{New, Given}
@@ -38,16 +38,12 @@ treeCut target steps s e next = flattenExprTo3ac (targetOf target) (copyPropagat
 unfoldable pub putEqualities : List ℕ → ℕ → List Equality → List ℕ
 putEqualities body at qs = setWords body at (equalitiesWords qs)
 
-unfoldable pub wordAfter : ℕ → List Equality → ℕ
-wordAfter at qs = at + 7 * length qs
+unfoldable pub after : ℕ → List Equality → ℕ
+after at qs = at + 7 * length qs
 
 -- the code's answer for a cut whose equalities are written from word `at` on
 unfoldable pub cutFrom : ℕ → Cutting → Cut
-cutFrom at c = record { term = c .term; next = c .next; at = wordAfter at (c .equalities) }
-
--- what the cut of a tree from word `at` on leaves: the body after it, and the answer
-abbrev pub CutPut : List ℕ → List ℕ → ℕ → Cutting → Cut → Type 0
-CutPut before after at c r = (after ≡ putEqualities before at (c .equalities)) × (r ≡ cutFrom at c)
+cutFrom at c = record { term = c .term; next = c .next; at = after at (c .equalities) }
 
 -- room for an equality of each of n nodes, and ids for them
 pub record Room (n at next : ℕ) (body : List ℕ) : Type 0 where
@@ -58,18 +54,7 @@ pub record Room (n at next : ℕ) (body : List ℕ) : Type 0 where
 
 -- the code's answer for cuts whose equalities are written from word `at` on
 unfoldable pub placeFrom : ℕ → Cuts → Place
-placeFrom at c = record { next = c .next; at = wordAfter at (c .equalities) }
-
--- what such cuts leave: the body after them, and the answer
-abbrev pub CutsPut : List ℕ → List ℕ → ℕ → Cuts → Place → Type 0
-CutsPut before after at c r = (after ≡ putEqualities before at (c .equalities)) × (r ≡ placeFrom at c)
-
--- of the record with the bytes b: the prover ids after classify_defs, and those of some definitions that are used
-unfoldable pub proversOf : List ℕ → List ℕ
-proversOf b = classifyDefs (moduleOf b) .provers
-
-unfoldable pub usedOf : List ℕ → List Definition → List Definition
-usedOf b ds = those (λ v. not (isNever (usage (moduleOf b) v))) ds
+placeFrom at c = record { next = c .next; at = after at (c .equalities) }
 
 -- definitions of that record, those that are used, with the substitutions made one after the other: cut, and the substitutions after them
 unfoldable pub defsCut : List ℕ → ℕ → Substitutions → List Definition → ℕ → Cuts
@@ -82,7 +67,7 @@ defsAfter b steps s ds = afterDefs (proversOf b) steps s (usedOf b ds)
 unfoldable pub equationsCut : ℕ → Substitutions → List Equation → ℕ → Cuts
 equationsCut steps s es next = flattenEquations (alive (copyPropagateEquations steps s es)) next
 
--- which side of an equation is the left term, by the sides' roots: a left variable, else a right variable, else a left constant, else a right constant
+-- which side of an equation is the left term, by the sides' roots: "a left variable, else a right variable, else a left constant, else a right constant"
 unfoldable pub sidesOf : Copied → Copied → Sides
 sidesOf Copied.Tree Copied.Tree = Neither
 sidesOf Copied.Tree (Copied.Leaf y) = Right y

@@ -9,9 +9,8 @@ use lib.Dec.{eqb, leb}
 use borrow.Author.Tests.{leb-true, eqb-true}
 use Rattle.words.specs.Words.{wordAt}
 use Rattle.words.proofs.Laws.{getD-cleared}
-use Rattle.flat.specs.Trees.{Definition, defines}
-use Rattle.flat.specs.Record.{every, rows, layoutOf, measured, publics, provers, definitions, equations, nodes, next, size, rules, rulesOf, flatOf, checked, pick, allBelow, definitionsFit, nodesFit, usedOnce, treesHold, byDefinitions, byEquations, byNodes}
-use Rattle.flat.specs.Marks.{capped, Marked, Adds, Later, noMarks, noLater}
+use Rattle.flat.specs.Record.{every, layoutOf, measured, publics, provers, definitions, equations, nodes, next, size, rules, rulesOf, flatOf, checked, pick, allBelow, definitionsFit, nodesFit, usedOnce, treesHold, byDefinitions, byEquations, byNodes}
+use Rattle.flat.specs.Marks.{capped, Marked, Adds, noMarks}
 use Rattle.flat.specs.declared.Layout.{Layout}
 use Rattle.flat.specs.declared.Checked.the-variants.{Accepted, Refused}
 use Rattle.flat.proofs.Laws.{and-left, and-right, every-same}
@@ -28,17 +27,6 @@ marks-long = length-replicate {A = ℕ} 16384 0
 marks-none : Marked noMarks (λ k. 0)
 unfolding noMarks
 marks-none = none-marked 16384
-
-pub later-long : {m : List ℕ} → m ≡ noLater → length m ≡ 65536
-unfolding noLater
-later-long e = ap length e ∙ length-replicate {A = ℕ} 65536 0
-
-none-later : (n : ℕ) (v : ℕ) → eqb (getD (replicate n 0) v 0) 0 ≡ true
-none-later n v = ap (λ (x : ℕ). eqb x 0) (getD-cleared n v)
-
-pub later-none : {m : List ℕ} (at : ℕ) (f : ℕ → Definition) → m ≡ noLater → Later m (rows 0 at f)
-unfolding noLater rows defines
-later-none at f e v = ap (λ (l : List ℕ). eqb (getD l v 0) 0) e ∙ none-later 65536 v
 
 pub all-marks : {m m1 m2 m3 : List ℕ} (b : List ℕ) (d ds e es t ts : ℕ) {r : Bool} → ts ≤ 16384 → m ≡ noMarks → Adds m m1 (byDefinitions b d ds) → Adds m1 m2 (byEquations b e es) → Adds m2 m3 (byNodes b t ts) → r ≡ every ts (λ k. eqb (getD m3 k 0) 1) → r ≡ usedOnce b d ds e es t ts
 unfolding usedOnce

@@ -46,7 +46,7 @@ module _ (kind x y z : ℕ) where
   for-8 n4 n5 n7 = rw (ne-eqb kind 4 n4, ne-eqb kind 5 n5, ne-eqb kind 7 n7)
 
   -- the four cases
-  by-kind : {A : Type 0} → (kind ≡ 4 → A) → (kind ≡ 5 → A) → (kind ≡ 7 → A) → ((kind ≡ 4 → ⊥) → (kind ≡ 5 → ⊥) → (kind ≡ 7 → ⊥) → A) → A
+  pub by-kind : {A : Type 0} → (kind ≡ 4 → A) → (kind ≡ 5 → A) → (kind ≡ 7 → A) → ((kind ≡ 4 → ⊥) → (kind ≡ 5 → ⊥) → (kind ≡ 7 → ⊥) → A) → A
   by-kind f4 f5 f7 f8 = ⊎-elim f4 (λ (n4 : kind ≡ 4 → ⊥). ⊎-elim f5 (λ (n5 : kind ≡ 5 → ⊥). ⊎-elim f7 (λ (n7 : kind ≡ 7 → ⊥). f8 n4 n5 n7) (alike kind 7)) (alike kind 5)) (alike kind 4)
 
   -- the kind by its node

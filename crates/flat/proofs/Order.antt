@@ -5,13 +5,14 @@ use mathlib.Core.List.{List, _∷_}
 use mathlib.Core.Bool.{Bool, true, false, not, _&&_, and-false}
 use mathlib.Core.Logic.{⊎-elim}
 use native.Mathlib.Omega.{arith}
-use lib.ListN.{length, getD, set}
+use Rattle.words.proofs.Laws.{getD-cleared}
+use lib.ListN.{replicate, length-replicate, length, getD, set}
 use lib.Seq.{getD-set-same, getD-set-other}
 use lib.Dec.{eqb, ltb}
 use borrow.Author.Tests.{eq-eqb, ne-eqb, ltb-true}
 use Rattle.words.specs.Words.{wordAt}
 use Rattle.flat.specs.Trees.{Flat, Definition, everyId, defines}
-use Rattle.flat.specs.Marks.{Later}
+use Rattle.flat.specs.Marks.{Later, noLater}
 use Rattle.flat.specs.declared.Node.the-variants.{Infix, Negate, Constant, Variable}
 use Rattle.flat.specs.Record.{rows, nodeOf, tree, ordered, definitionAt, definitionsFit}
 use Rattle.flat.proofs.Laws.{alike, and-left, and-right, every-at}
@@ -56,10 +57,17 @@ ordered-cons : (d : Definition) (ds : List Definition) (t : Bool) → not (defin
 unfolding ordered
 ordered-cons d ds t i w = rw (i, w)
 
-pub order-start : (n : ℕ) (f : ℕ → Definition) (m : List ℕ) → Later m (rows 0 n f) → (ordered (rows (n - n) n f) ≡ true) × Later m (rows (n - n) n f)
-unfolding ordered rows
-order-start n f m h = let e : n - n ≡ 0 = omega arith in rw e (refl, h)
+none-later : (n v : ℕ) → eqb (getD (replicate n 0) v 0) 0 ≡ true
+none-later n v = ap (λ (x : ℕ). eqb x 0) (getD-cleared n v)
 
+-- before the loop: no definition, no marks
+pub order-start : (n : ℕ) (f : ℕ → Definition) {m : List ℕ} → m ≡ noLater → ((ordered (rows (n - n) n f) ≡ true) × Later m (rows (n - n) n f)) × ((n ≤ n) × (length m ≡ 65536))
+unfolding ordered rows noLater defines
+order-start n f e =
+    let z : n - n ≡ 0 = omega arith in
+    (rw z (refl, λ v. ap (λ (l : List ℕ). eqb (getD l v 0) 0) e ∙ none-later 65536 v), (omega arith, ap length e ∙ length-replicate {A = ℕ} 65536 0))
+
+-- after it
 pub order-end : (n k : ℕ) (f : ℕ → Definition) → k ≡ 0 → ordered (rows (n - k) k f) ≡ true → true ≡ ordered (rows n 0 f)
 order-end n k f z h = let e : n - 0 ≡ n = omega arith in sym (rw (z, e) at h)
 

@@ -10,10 +10,11 @@ use lib.Dec.{ltb, leb}
 use borrow.Author.Tests.{ltb-true, leb-true, lt-ltb, le-leb, eq-eqb, ne-eqb}
 use Rattle.words.specs.Words.{wordAt}
 use Rattle.flat.specs.Trees.{FlatModule}
-use Rattle.flat.specs.Record.{pick, next, publics, provers, definitions, equations, nodes, proversAt, definitionsAt, equationsAt, nodesAt, size, measured, nodeAt, moduleOf, allBelow, rising, definitionsFit, nodeFits, nodesFit, treesHold, ordered, definitionAt, rows, rules, rulesOf, Read, flatOf, checked}
+use Rattle.flat.specs.Record.{pick, next, publics, provers, definitions, equations, nodes, proversAt, definitionsAt, equationsAt, nodesAt, size, measured, nodeAt, moduleOf, allBelow, rising, definitionsFit, nodeFits, nodesFit, treesHold, ordered, definitionAt, equationAt, tree, rows, rules, rulesOf, Read, flatOf, checked}
 use Rattle.flat.specs.Readable.{Readable}
 use Rattle.flat.specs.declared.Checked.the-variants.{Accepted, Refused}
 use Rattle.flat.proofs.Laws.{and-left, and-right, every-at, every-from}
+use Rattle.flat.proofs.Nodes.{settled}
 use Rattle.flat.proofs.Answers.{measured-has, hold-definitions, hold-sides, hold-nodes}
 
 -- ---- accepted records
@@ -122,6 +123,19 @@ module _ {b : List ℕ} (r : Readable b) where
   equation-below k l =
       let e : equationsAt b + (2 * k + 1) ≡ equationsAt b + 2 * k + 1 = omega arith in
       (side-below (2 * k) (omega arith), rw e at (side-below (2 * k + 1) (omega arith)))
+
+  -- the trees of the lists, as a walk from their nodes meets them
+  pub definition-tree : (k : ℕ) → k < definitions b → definitionAt b (definitionsAt b) (nodesAt b) (nodes b) k .right ≡ tree b (nodesAt b) (wordAt b (definitionsAt b + 2 * k + 1) + 1) (wordAt b (definitionsAt b + 2 * k + 1))
+  unfolding definitionAt
+  definition-tree k l = settled b (nodesAt b) (nodes b) _ (definition-below k l .1)
+
+  pub left-tree : (k : ℕ) → k < equations b → equationAt b (equationsAt b) (nodesAt b) (nodes b) k .left ≡ tree b (nodesAt b) (wordAt b (equationsAt b + 2 * k) + 1) (wordAt b (equationsAt b + 2 * k))
+  unfolding equationAt
+  left-tree k l = settled b (nodesAt b) (nodes b) _ (equation-below k l .0)
+
+  pub right-tree : (k : ℕ) → k < equations b → equationAt b (equationsAt b) (nodesAt b) (nodes b) k .right ≡ tree b (nodesAt b) (wordAt b (equationsAt b + 2 * k + 1) + 1) (wordAt b (equationsAt b + 2 * k + 1))
+  unfolding equationAt
+  right-tree k l = settled b (nodesAt b) (nodes b) _ (equation-below k l .1)
 
   pub readable-measured : measured b ≡ true
   unfolding measured

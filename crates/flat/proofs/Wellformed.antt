@@ -14,7 +14,7 @@ use Rattle.flat.proofs.Nodes.{tree-below}
 use Rattle.flat.specs.Readable.{Readable}
 use Rattle.flat.proofs.Reading.{public-below, prover-below, prover-rises, definition-below, equation-below, tests-readable, accepted-measured, accepted-rules, accepted-module}
 
-rows-all : {A : Type 0} (Q : A → Type 0) (f : ℕ → A) (n at : ℕ) → ((k : ℕ) → at ≤ k → k < at + n → Q (f k)) → All Q (rows n at f)
+pub rows-all : {A : Type 0} (Q : A → Type 0) (f : ℕ → A) (n at : ℕ) → ((k : ℕ) → at ≤ k → k < at + n → Q (f k)) → All Q (rows n at f)
 unfolding rows
 rows-all Q f zero at h = tt
 rows-all Q f (suc n) at h = (h at (omega arith) (omega arith), rows-all Q f n (suc at) (λ k l g. h k (omega arith) (omega arith)))
@@ -31,14 +31,14 @@ unfolding rows
 rise f zero at h = tt
 rise f (suc n) at h = (above f (f at) n (suc at) (λ k l p. h k (omega arith) (omega arith)) (λ p. let e : at + 1 ≡ suc at = omega arith in rw e at (h at (omega arith) (omega arith))), rise f n (suc at) (λ k l p. h k (omega arith) (omega arith)))
 
-every-tree : (p : ℕ → Bool) (t : Flat) → everyId p t ≡ true → Every (λ v. p v ≡ true) t
+pub every-tree : (p : ℕ → Bool) (t : Flat) → everyId p t ≡ true → Every (λ v. p v ≡ true) t
 unfolding everyId
 every-tree p (Flat.infixed o x y) h = (every-tree p x (and-left (everyId p x) (everyId p y) h), every-tree p y (and-right (everyId p x) (everyId p y) h))
 every-tree p (Flat.negate x) h = every-tree p x h
 every-tree p (Flat.constant c) h = tt
 every-tree p (Flat.variable v) h = h
 
-every-map : {P Q : ℕ → Type 0} → ((v : ℕ) → P v → Q v) → (t : Flat) → Every P t → Every Q t
+pub every-map : {P Q : ℕ → Type 0} → ((v : ℕ) → P v → Q v) → (t : Flat) → Every P t → Every Q t
 every-map f (Flat.infixed o x y) h = (every-map f x (h .0), every-map f y (h .1))
 every-map f (Flat.negate x) h = every-map f x h
 every-map f (Flat.constant c) h = tt

@@ -8,7 +8,6 @@ use lists::all_below;
 use lists::count;
 use lists::rises;
 use ordering::in_order;
-use ordering::no_later;
 use uses::trees_hold;
 ghost use mathlib.Core.Path.{_≡_};
 ghost use Prim.Native.Nat.{_+_, _*_, _≤_};
@@ -175,8 +174,7 @@ fn rules_hold(
     if !trees_hold(s, next, d, definitions, e, 2 * equations, t, nodes) {
         return false;
     }
-    let mut later = no_later();
-    in_order(s, d, definitions, t, nodes, next, &mut later)
+    in_order(s, d, definitions, t, nodes, next)
 }
 
 // A lent flat record: accepted, or refused 20 or 21.

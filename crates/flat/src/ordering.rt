@@ -9,9 +9,9 @@ ghost use lib.ListN.{length, getD};
 ghost use lib.Dec.{eqb};
 ghost use Rattle.flat.specs.Trees.{everyId};
 ghost use Rattle.flat.specs.Record.{rows, tree, definitionAt, definitionsFit, nodesFit, ordered};
-ghost use Rattle.flat.specs.Marks.{Later, noLater};
+ghost use Rattle.flat.specs.Marks.{noLater};
 
-pub fn no_later() -> [u32; 65536]
+fn no_later() -> [u32; 65536]
     ensures { λ r. ⌜ r ≡ noLater ⌝ }
 {
     [0u32; 65536]
@@ -39,19 +39,12 @@ fn free(s: &[u8], at: usize, k: usize, n: usize, limit: usize, later: &[u32; 655
 }
 
 // From the last definition to the first; an id is marked before its right side is walked.
-pub fn in_order(
-    s: &[u8],
-    at: usize,
-    n: usize,
-    trees: usize,
-    nodes: usize,
-    limit: usize,
-    later: &mut [u32; 65536],
-) -> bool
-    requires { ⌜ ((definitionsFit (now s) at n limit nodes ≡ true) × (nodesFit (now s) trees nodes limit ≡ true)) × ((4 * (trees + 4 * nodes) ≤ length (now s)) × ((4 * (at + 2 * n) ≤ length (now s)) × (limit ≤ 65536))) ⌝ }
-    requires { ⌜ (length (now later) ≡ 65536) × Later (now later) (rows 0 n (definitionAt (now s) at trees nodes)) ⌝ }
+pub fn in_order(s: &[u8], at: usize, n: usize, trees: usize, nodes: usize, limit: usize) -> bool
+    requires { ⌜ (definitionsFit (now s) at n limit nodes ≡ true) × (nodesFit (now s) trees nodes limit ≡ true) ⌝ }
+    requires { ⌜ (4 * (trees + 4 * nodes) ≤ length (now s)) × ((4 * (at + 2 * n) ≤ length (now s)) × (limit ≤ 65536)) ⌝ }
     ensures { λ r. ⌜ r ≡ ordered (rows n 0 (definitionAt (now (s .entry)) at trees nodes)) ⌝ }
 {
+    let mut later = no_later();
     let mut k = n;
     while 0 < k {
         k -= 1;
@@ -61,7 +54,7 @@ pub fn in_order(
             return false;
         }
         later[id] = 1;
-        if !free(s, trees, node, nodes, limit, later) {
+        if !free(s, trees, node, nodes, limit, &later) {
             return false;
         }
     }

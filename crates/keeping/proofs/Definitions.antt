@@ -7,14 +7,15 @@ use native.Mathlib.Omega.{arith}
 use lib.ListN.{length, getD}
 use borrow.Author.Tests.{eq-eqb, ne-eqb}
 use Rattle.words.specs.Words.{setWords}
-use Rattle.flat.specs.Trees.{Flat, Definition, treeNodes}
+use Rattle.flat.specs.Trees.{Flat, Definition, treeNodes, definitionsNodes}
 use Rattle.flat.specs.Record.{moduleOf}
-use Rattle.constraint.specs.Record.{nodesBelow, rootFrom, nextFrom, definitionWords, keptWords, keptNodes, nodesFrom, nodeCount}
+use Rattle.constraint.specs.Record.{rootFrom, nextFrom, definitionWords, keptWords, keptNodes, nodesFrom}
 use Rattle.passes.specs.Passes.{member, keepIf, those, isNever, usage, Substitutions, copyPropagateExpr, substituting, copyPropagateDef, afterDef, copyPropagateDefs, afterDefs}
 use Rattle.classify.specs.Arrays.{usageAt, usageOf, marked, Classified}
 use Rattle.copies.specs.Substituted.{substOf}
 use Rattle.keeping.specs.declared.Kept.{Kept}
-use Rattle.keeping.specs.Keeping.{proversOf, usedOf, keptOf, keptAfter, putTree, putKept, putNodes, keptFrom, Keeps, NodeRoom}
+use Rattle.classify.specs.Arrays.{proversOf, usedOf}
+use Rattle.keeping.specs.Keeping.{keptOf, keptAfter, putTree, putKept, putNodes, keptFrom, Keeps, NodeRoom}
 use Rattle.keeping.proofs.Nodes.{copied-nodes, next-is}
 
 -- what the arrays say of an id
@@ -88,29 +89,29 @@ module _ (b : List ℕ) (steps : ℕ) (s : Substitutions) (d : Definition) where
     prover-after m = after-is ∙ rw m
 
   -- at most one, with as many nodes as its right side
-  small : (t : Bool) → (length (keepIf t (copyPropagateDef steps s d) []) ≤ 1) × (nodeCount (keepIf t (copyPropagateDef steps s d) []) ≤ treeNodes (d .right))
-  unfolding keepIf nodeCount copyPropagateDef
+  small : (t : Bool) → (length (keepIf t (copyPropagateDef steps s d) []) ≤ 1) × (definitionsNodes (keepIf t (copyPropagateDef steps s d) []) ≤ treeNodes (d .right))
+  unfolding keepIf definitionsNodes copyPropagateDef
   small true = (omega arith, omega (arith, copied-nodes steps s (d .right)))
   small false = (omega arith, omega arith)
 
-  pub kept-small : (length (keptOf b steps s (d ∷ [])) ≤ 1) × (nodeCount (keptOf b steps s (d ∷ [])) ≤ treeNodes (d .right))
-  unfolding nodeCount
+  pub kept-small : (length (keptOf b steps s (d ∷ [])) ≤ 1) × (definitionsNodes (keptOf b steps s (d ∷ [])) ≤ treeNodes (d .right))
+  unfolding definitionsNodes
   kept-small = go (isNever (usage (moduleOf b) (d .id))) refl
     where
-      go : (t : Bool) → isNever (usage (moduleOf b) (d .id)) ≡ t → (length (keptOf b steps s (d ∷ [])) ≤ 1) × (nodeCount (keptOf b steps s (d ∷ [])) ≤ treeNodes (d .right))
+      go : (t : Bool) → isNever (usage (moduleOf b) (d .id)) ≡ t → (length (keptOf b steps s (d ∷ [])) ≤ 1) × (definitionsNodes (keptOf b steps s (d ∷ [])) ≤ treeNodes (d .right))
       go true e = rw (unused-kept e) (omega arith, omega arith)
       go false e = rw (kept-is e) (small (member (d .id) (proversOf b)))
 
 -- ---- the ways through keep_def
 
-after-plus : (base : ℕ) (e : Flat) (after : ℕ) → after ≡ nextFrom base e → after ≡ base + (suc (nodesBelow e) + 0)
+after-plus : (base : ℕ) (e : Flat) (after : ℕ) → after ≡ nextFrom base e → after ≡ base + (treeNodes e + 0)
 unfolding nextFrom rootFrom
 after-plus base e after q = omega arith
 
 module _ (b : List ℕ) (steps : ℕ) (ds : List Definition) (at base : ℕ) (m body list : List ℕ) where
   -- nothing is kept
   pub keeps-none : (m′ : List ℕ) → keptOf b steps (substOf m) ds ≡ [] → substOf m′ ≡ keptAfter b steps (substOf m) ds → length m′ ≡ 131072 → Keeps b steps ds at base m body list m′ body list (record { at = at; nodes = base })
-  unfolding putKept putNodes keptFrom keptWords keptNodes nodeCount setWords
+  unfolding putKept putNodes keptFrom keptWords keptNodes definitionsNodes setWords
   keeps-none m′ e f l =
       let p : at ≡ at + 2 * 0 = omega arith in
       let q : base ≡ base + 0 = omega arith in
@@ -124,13 +125,13 @@ module _ (b : List ℕ) (steps : ℕ) (ds : List Definition) (at base : ℕ) (m 
 
   -- one definition is kept
   pub keeps-one : (m′ : List ℕ) {body′ list′ : List ℕ} {after : ℕ} (d : Definition) → keptOf b steps (substOf m) ds ≡ d ∷ [] → list′ ≡ putTree list base (d .right) → after ≡ nextFrom base (d .right) → body′ ≡ setWords body at (definitionWords (d .id) (after - 1)) → substOf m′ ≡ keptAfter b steps (substOf m) ds → length m′ ≡ 131072 → Keeps b steps ds at base m body list m′ body′ list′ (record { at = at + 2; nodes = after })
-  unfolding putKept putNodes putTree keptFrom keptWords keptNodes nodeCount nextFrom definitionWords
+  unfolding putKept putNodes putTree keptFrom keptWords keptNodes definitionsNodes nextFrom rootFrom definitionWords
   keeps-one m′ {after = after} d e p q r f l =
       let x : after - 1 ≡ rootFrom base (d .right) = omega arith in
       let w : setWords body at (d .id ∷ (after - 1) ∷ []) ≡ setWords body at (d .id ∷ rootFrom base (d .right) ∷ []) = ap (λ (n : ℕ). setWords body at (d .id ∷ n ∷ [])) x in
       let n : nodesFrom base (d .right) ≡ nodesFrom base (d .right) ++ [] = sym (append-nil (nodesFrom base (d .right))) in
       let y : at + 2 ≡ at + 2 * 1 = omega arith in
-      let z : after ≡ base + (suc (nodesBelow (d .right)) + 0) = after-plus base (d .right) after q in
+      let z : after ≡ base + (treeNodes (d .right) + 0) = after-plus base (d .right) after q in
       record {
         body-is = r ∙ w ∙ sym (ap (putKept body at base) e);
         list-is = p ∙ ap (setWords list (4 * base)) n ∙ sym (ap (putNodes list base) e);

@@ -17,26 +17,30 @@ use Rattle.flat.specs.Readable.{Inside}
 use Rattle.flat.specs.declared.Node.the-variants.{Infix, Negate, Constant, Variable}
 use Rattle.flat.proofs.Nodes.{tree-infix, tree-negate}
 use Rattle.constraint.specs.declared.Term.{Term}
-use Rattle.constraint.specs.Record.{numberWord, operatorWord, nodesBelow, rootFrom, nextFrom, nodeWords, nodesFrom}
-use Rattle.constraint.proofs.Lengths.{length-nodes}
+use Rattle.constraint.specs.Record.{numberWord, operatorWord, rootFrom, nextFrom, nodeWords, nodesFrom}
+use Rattle.constraint.proofs.Lengths.{length-nodes, tree-positive}
 use Rattle.passes.specs.Passes.{Substitutions, walk, toExpr, copyPropagateExpr}
 use Rattle.classify.proofs.Walks.{left-inside, right-inside, child-inside}
 use Rattle.keeping.specs.Keeping.{putTree, NodeRoom}
 
 -- ---- sizes
 
-below-term : (t : Term) → nodesBelow (toExpr t) ≡ 0
-unfolding nodesBelow toExpr
-below-term (Term.Variable v) = refl
-below-term (Term.Constant c) = refl
+term-nodes : (t : Term) → treeNodes (toExpr t) ≡ 1
+unfolding treeNodes toExpr
+term-nodes (Term.Variable v) = refl
+term-nodes (Term.Constant c) = refl
 
 -- substitutions keep the number of nodes
-pub copied-nodes : (n : ℕ) (s : Substitutions) (e : Flat) → treeNodes e ≡ suc (nodesBelow (copyPropagateExpr n s e))
-unfolding treeNodes nodesBelow copyPropagateExpr
-copied-nodes n s (Flat.infixed o a b) = omega (arith, copied-nodes n s a, copied-nodes n s b)
-copied-nodes n s (Flat.negate a) = omega (arith, copied-nodes n s a)
-copied-nodes n s (Flat.constant c) = refl
-copied-nodes n s (Flat.variable v) = ap suc (sym (below-term (walk n s (Term.Variable v))))
+copied-same : (n : ℕ) (s : Substitutions) (e : Flat) → treeNodes e ≡ treeNodes (copyPropagateExpr n s e)
+unfolding treeNodes copyPropagateExpr
+copied-same n s (Flat.infixed o a b) = omega (arith, copied-same n s a, copied-same n s b)
+copied-same n s (Flat.negate a) = omega (arith, copied-same n s a)
+copied-same n s (Flat.constant c) = refl
+copied-same n s (Flat.variable v) = sym (term-nodes (walk n s (Term.Variable v)))
+
+-- and a tree has a root
+pub copied-nodes : (n : ℕ) (s : Substitutions) (e : Flat) → (treeNodes e ≡ treeNodes (copyPropagateExpr n s e)) × (0 < treeNodes e)
+copied-nodes n s e = (copied-same n s e, tree-positive e)
 
 pub next-is : (base n : ℕ) (s : Substitutions) (e : Flat) → nextFrom base (copyPropagateExpr n s e) ≡ base + treeNodes e
 unfolding nextFrom rootFrom
@@ -66,20 +70,20 @@ module _ (l : List ℕ) (base : ℕ) where
       setWords-append (nodesFrom base x) ws l (4 * base) ∙ ap₂ (λ (m : List ℕ) (i : ℕ). setWords m i ws) (sym p) e
 
 root-is : (a base : ℕ) (x : Flat) → a ≡ nextFrom base x → a - 1 ≡ rootFrom base x
-unfolding nextFrom
+unfolding rootFrom
 root-is a base x q = omega arith
 
 infix-next : (a b base : ℕ) (o : InfixOp) (x y : Flat) → a ≡ nextFrom base x → b ≡ nextFrom a y → b + 1 ≡ nextFrom base (Flat.infixed o x y)
-unfolding nextFrom rootFrom nodesBelow
+unfolding nextFrom treeNodes
 infix-next a b base o x y qa qb = omega arith
 
 negate-next : (a base : ℕ) (x : Flat) → a ≡ nextFrom base x → a + 1 ≡ nextFrom base (Flat.negate x)
-unfolding nextFrom rootFrom nodesBelow
+unfolding nextFrom treeNodes
 negate-next a base x qa = omega arith
 
 leaf-next : (base : ℕ) (t : Term) → base + 1 ≡ nextFrom base (toExpr t)
 unfolding nextFrom rootFrom
-leaf-next base t = omega (arith, below-term t)
+leaf-next base t = omega (arith, term-nodes t)
 
 pub put-infix : (l : List ℕ) (base : ℕ) {l₁ l₂ l₃ : List ℕ} {a b o : ℕ} {op : InfixOp} {e x y : Flat} → e ≡ Flat.infixed op x y → l₁ ≡ putTree l base x → a ≡ nextFrom base x → l₂ ≡ putTree l₁ a y → b ≡ nextFrom a y → o ≡ operatorWord op → l₃ ≡ setWords l₂ (4 * b) (nodeWords 4 (a - 1) (b - 1) o) → (l₃ ≡ putTree l base e) × (b + 1 ≡ nextFrom base e)
 unfolding putTree nodesFrom

@@ -10,14 +10,15 @@ use Rattle.words.proofs.Laws.{length-setWords, setWords-append}
 use Rattle.flat.specs.Trees.{Definition, treeNodes, definitionsNodes}
 use Rattle.flat.specs.Record.{definitions, tree, moduleOf}
 use Rattle.flat.specs.Readable.{Readable}
-use Rattle.constraint.specs.Record.{keptWords, keptNodes, nodeCount}
+use Rattle.constraint.specs.Record.{keptWords, keptNodes}
 use Rattle.constraint.proofs.Lengths.{length-kept, length-kept-nodes, count-append, kept-append, kept-nodes-append}
 use Rattle.passes.specs.Passes.{member, those, classifyDefs, copyPropagate, eliminateDeadEqualities, flattenModuleTo3ac, passes, Substitutions, copyPropagateDefs, afterDefs}
 use Rattle.passes.proofs.Loops.{those-append, copies-append, after-append}
 use Rattle.classify.proofs.Lists.{definitionsFrom, definitions-none, definitions-whole, OverDefinitions, definitions-more}
 use Rattle.copies.specs.Substituted.{substOf}
 use Rattle.keeping.specs.declared.Kept.{Kept}
-use Rattle.keeping.specs.Keeping.{proversOf, usedOf, keptOf, keptAfter, putKept, putNodes, keptFrom, Keeps, NodeRoom, WordRoom}
+use Rattle.classify.specs.Arrays.{proversOf, usedOf}
+use Rattle.keeping.specs.Keeping.{keptOf, keptAfter, putKept, putNodes, keptFrom, Keeps, NodeRoom, WordRoom}
 use Rattle.keeping.proofs.Definitions.{keeps-none, kept-small}
 
 -- ---- a list with one definition more
@@ -41,23 +42,23 @@ module _ (b : List ℕ) (steps : ℕ) (s : Substitutions) (d : Definition) (ds :
 -- ---- places after a first part
 
 module _ (xs ys : List Definition) where
-  put-kept-append : (body : List ℕ) (at base : ℕ) → putKept body at base (xs ++ ys) ≡ putKept (putKept body at base xs) (at + 2 * length xs) (base + nodeCount xs) ys
+  put-kept-append : (body : List ℕ) (at base : ℕ) → putKept body at base (xs ++ ys) ≡ putKept (putKept body at base xs) (at + 2 * length xs) (base + definitionsNodes xs) ys
   unfolding putKept
   put-kept-append body at base =
       let e : at + length (keptWords base xs) ≡ at + 2 * length xs = omega (arith, length-kept xs base) in
-      ap (setWords body at) (kept-append xs ys base) ∙ setWords-append (keptWords base xs) (keptWords (base + nodeCount xs) ys) body at ∙ ap (λ (i : ℕ). setWords (setWords body at (keptWords base xs)) i (keptWords (base + nodeCount xs) ys)) e
+      ap (setWords body at) (kept-append xs ys base) ∙ setWords-append (keptWords base xs) (keptWords (base + definitionsNodes xs) ys) body at ∙ ap (λ (i : ℕ). setWords (setWords body at (keptWords base xs)) i (keptWords (base + definitionsNodes xs) ys)) e
 
-  put-nodes-append : (list : List ℕ) (base : ℕ) → putNodes list base (xs ++ ys) ≡ putNodes (putNodes list base xs) (base + nodeCount xs) ys
+  put-nodes-append : (list : List ℕ) (base : ℕ) → putNodes list base (xs ++ ys) ≡ putNodes (putNodes list base xs) (base + definitionsNodes xs) ys
   unfolding putNodes
   put-nodes-append list base =
-      let e : 4 * base + length (keptNodes base xs) ≡ 4 * (base + nodeCount xs) = omega (arith, length-kept-nodes xs base) in
-      ap (setWords list (4 * base)) (kept-nodes-append xs ys base) ∙ setWords-append (keptNodes base xs) (keptNodes (base + nodeCount xs) ys) list (4 * base) ∙ ap (λ (i : ℕ). setWords (setWords list (4 * base) (keptNodes base xs)) i (keptNodes (base + nodeCount xs) ys)) e
+      let e : 4 * base + length (keptNodes base xs) ≡ 4 * (base + definitionsNodes xs) = omega (arith, length-kept-nodes xs base) in
+      ap (setWords list (4 * base)) (kept-nodes-append xs ys base) ∙ setWords-append (keptNodes base xs) (keptNodes (base + definitionsNodes xs) ys) list (4 * base) ∙ ap (λ (i : ℕ). setWords (setWords list (4 * base) (keptNodes base xs)) i (keptNodes (base + definitionsNodes xs) ys)) e
 
-  kept-from-append : (at base : ℕ) → keptFrom at base (xs ++ ys) ≡ keptFrom (at + 2 * length xs) (base + nodeCount xs) ys
+  kept-from-append : (at base : ℕ) → keptFrom at base (xs ++ ys) ≡ keptFrom (at + 2 * length xs) (base + definitionsNodes xs) ys
   unfolding keptFrom
   kept-from-append at base =
       let p : at + 2 * length (xs ++ ys) ≡ at + 2 * length xs + 2 * length ys = omega (arith, length-append xs ys) in
-      let q : base + nodeCount (xs ++ ys) ≡ base + nodeCount xs + nodeCount ys = omega (arith, count-append xs ys) in
+      let q : base + definitionsNodes (xs ++ ys) ≡ base + definitionsNodes xs + definitionsNodes ys = omega (arith, count-append xs ys) in
       ap₂ (λ (i j : ℕ). record { at = i; nodes = j }) p q
 
 put-kept-length : (body : List ℕ) (at base : ℕ) (ds : List Definition) → length (putKept body at base ds) ≡ length body
@@ -148,13 +149,13 @@ module _ (b : List ℕ) (steps n at : ℕ) (m₀ body₀ list₀ : List ℕ) whe
           let K₂ : List Definition = keptOf b steps (substOf m′) (definitionsFrom b (k + 1)) in
           let both : keptOf b steps (substOf m) (definitionsFrom b k) ≡ K₁ ++ K₂ = ap (keptOf b steps (substOf m)) from-is ∙ kept-cons b steps (substOf m) first (definitionsFrom b (k + 1)) ∙ ap (λ (s : Substitutions). K₁ ++ keptOf b steps s (definitionsFrom b (k + 1))) (sym (w .subs-are)) in
           let at-is : a .at ≡ to + 2 * length K₁ = ap (λ (x : Kept). x .at) (w .answer-is) in
-          let nodes-is : a .nodes ≡ base + nodeCount K₁ = ap (λ (x : Kept). x .nodes) (w .answer-is) in
+          let nodes-is : a .nodes ≡ base + definitionsNodes K₁ = ap (λ (x : Kept). x .nodes) (w .answer-is) in
           let few = kept-small b steps (substOf m) first in
           let bl : length body′ ≡ length body = ap length (w .body-is) ∙ put-kept-length body to base K₁ in
           let ll : length list′ ≡ length list = ap length (w .list-is) ∙ put-nodes-length list base K₁ in
-          let pw : putKept body′ (a .at) (a .nodes) K₂ ≡ putKept (putKept body to base K₁) (to + 2 * length K₁) (base + nodeCount K₁) K₂ = rw (w .body-is, at-is, nodes-is) in
-          let pn : putNodes list′ (a .nodes) K₂ ≡ putNodes (putNodes list base K₁) (base + nodeCount K₁) K₂ = rw (w .list-is, nodes-is) in
-          let pa : keptFrom (a .at) (a .nodes) K₂ ≡ keptFrom (to + 2 * length K₁) (base + nodeCount K₁) K₂ = ap₂ (λ (i j : ℕ). keptFrom i j K₂) at-is nodes-is in
+          let pw : putKept body′ (a .at) (a .nodes) K₂ ≡ putKept (putKept body to base K₁) (to + 2 * length K₁) (base + definitionsNodes K₁) K₂ = rw (w .body-is, at-is, nodes-is) in
+          let pn : putNodes list′ (a .nodes) K₂ ≡ putNodes (putNodes list base K₁) (base + definitionsNodes K₁) K₂ = rw (w .list-is, nodes-is) in
+          let pa : keptFrom (a .at) (a .nodes) K₂ ≡ keptFrom (to + 2 * length K₁) (base + definitionsNodes K₁) K₂ = ap₂ (λ (i j : ℕ). keptFrom i j K₂) at-is nodes-is in
           record {
             words = pw ∙ sym (ap (putKept body to base) both ∙ put-kept-append K₁ K₂ body to base) ∙ g .words;
             nodes = pn ∙ sym (ap (putNodes list base) both ∙ put-nodes-append K₁ K₂ list base) ∙ g .nodes;

@@ -5,19 +5,13 @@ use mathlib.Core.Bool.{not}
 use Prim.Native.Nat.{ℕ, _+_, _*_, _≤_}
 use lib.ListN.{length}
 use Rattle.words.specs.Words.{setWords}
-use Rattle.flat.specs.Trees.{Flat, Definition}
+use Rattle.flat.specs.Trees.{Flat, Definition, definitionsNodes}
 use Rattle.flat.specs.Record.{moduleOf}
-use Rattle.constraint.specs.Record.{nodesFrom, keptWords, keptNodes, nodeCount}
+use Rattle.constraint.specs.Record.{nodesFrom, keptWords, keptNodes}
 use Rattle.passes.specs.Passes.{member, those, isNever, usage, classifyDefs, Substitutions, copyPropagateDefs, afterDefs}
+use Rattle.classify.specs.Arrays.{proversOf, usedOf}
 use Rattle.copies.specs.Substituted.{substOf}
 use Rattle.keeping.specs.declared.Kept.{Kept}
-
--- of the record with the bytes b: the prover ids after classify_defs, and those of some definitions that are used
-unfoldable pub proversOf : List ℕ → List ℕ
-proversOf b = classifyDefs (moduleOf b) .provers
-
-unfoldable pub usedOf : List ℕ → List Definition → List Definition
-usedOf b ds = those (λ v. not (isNever (usage (moduleOf b) v))) ds
 
 -- definitions of that record, those that are used, with the substitutions made one after the other: "kept definitions are those of prover
 -- variables only, uncut"; and the substitutions after them
@@ -39,7 +33,7 @@ unfoldable pub putNodes : List ℕ → ℕ → List Definition → List ℕ
 putNodes list base ds = setWords list (4 * base) (keptNodes base ds)
 
 unfoldable pub keptFrom : ℕ → ℕ → List Definition → Kept
-keptFrom at base ds = record { at = at + 2 * length ds; nodes = base + nodeCount ds }
+keptFrom at base ds = record { at = at + 2 * length ds; nodes = base + definitionsNodes ds }
 
 -- what keeping definitions leaves, of substitutions, a body and a list: their later contents, and the code's answer
 pub record Keeps (b : List ℕ) (steps : ℕ) (ds : List Definition) (at base : ℕ) (subs body list subs′ body′ list′ : List ℕ) (r : Kept) : Type 0 where

@@ -63,7 +63,7 @@ unfolding unless
 passed true n a c e = (refl, e)
 passed false n a c e = absurd (let z : _≡_ {A = ℕ} 0 1 = cc in omega arith)
 
-accepted : (f : FlatModule) (c : ConstraintModule) → cutOf f ≡ cut c → (cuttableDefs (counted f) ≡ true) × (passes f ≡ c)
+pub accepted : (f : FlatModule) (c : ConstraintModule) → cutOf f ≡ cut c → (cuttableDefs (counted f) ≡ true) × (passes f ≡ c)
 unfolding cutOf fitting
 accepted f c e =
     let p = passed (cuttableDefs (counted f) && cuttableEquations (f .equations)) 22 _ c e in

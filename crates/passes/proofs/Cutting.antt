@@ -9,6 +9,8 @@ use lib.IntN.{ℤ}
 use Rattle.field.specs.declared.Answer.{Answer}
 use Rattle.field.specs.declared.Answer.the-variants.{Value, Nothing}
 use Rattle.field.specs.Prime.{P}
+use Rattle.field.proofs.Primality.{P-prime}
+use Rattle.field.proofs.Answers.{opposite-element, infix-element}
 use Rattle.field.specs.Element.{elem}
 use Rattle.field.specs.Operations.{opposite, infixOf}
 use Rattle.field.specs.declared.InfixOp.{InfixOp}
@@ -20,7 +22,7 @@ use Rattle.constraint.specs.Trees.{Side, Equality}
 use Rattle.constraint.specs.Meaning.{InTerm, InSide, InEquality, termValue, sideValue, EqualityHolds}
 use Rattle.passes.specs.Passes.{infixOp, Cut, orVariable, pushConstraintDef, copied, flattenExprTo3ac}
 use Rattle.passes.proofs.Lists.{update-all, update-same, update-other, all-append, all-split, all-map, every-map, term-map, side-map, infix-in, value-agrees, term-agrees, side-agrees, agree-term}
-use Rattle.passes.proofs.Simplified.{infix-value, opposite-element, infix-element}
+use Rattle.passes.proofs.Simplified.{infix-value}
 
 -- values taken apart
 pub same-value : (x y : ℤ) → Value x ≡ Value y → x ≡ y
@@ -57,7 +59,7 @@ module _ (σ : Assignment) (el : Elements σ) where
       let y : Cut = flattenExprTo3ac none b (x .next) in
       let s = all-split (EqualityHolds σ) (x .equalities ++ y .equalities) _ h in
       let r = all-split (EqualityHolds σ) (x .equalities) (y .equalities) (s .0) in
-      ap₂ (onValues o) (read none a n (r .0)) (read none b (x .next) (r .1)) ∙ sym (infix-value σ el o (x .term) (y .term)) ∙ s .1 .0
+      ap₂ (onValues o) (read none a n (r .0)) (read none b (x .next) (r .1)) ∙ sym (infix-value σ el (x .term) (y .term) o) ∙ s .1 .0
 
 -- assignments that fulfil them and agree on the expression's variables agree on all of the equalities' variables
 module _ (σ τ : Assignment) where
@@ -224,7 +226,7 @@ write σ el out (Flat.negate a) n h o z e g =
     let x : Cut = flattenExprTo3ac none a n in
     let b : Bounded n x = bounded none a n h tt in
     let r : Extended σ n x (p .0) = write σ el none a n h tt (p .0) (p .1) tt in
-    push-extended σ n out z o g (subst (λ (w : ℤ). elem P w ≡ w) (p .2) (opposite-element (p .0))) (r .assignment) (r .elements) (r .same) (x .equalities) (x .next) (Side.negate (x .term)) (b .grows) (r .holds) (b .ids) (b .term)
+    push-extended σ n out z o g (subst (λ (w : ℤ). elem P w ≡ w) (p .2) (opposite-element P P-prime (p .0))) (r .assignment) (r .elements) (r .same) (x .equalities) (x .next) (Side.negate (x .term)) (b .grows) (r .holds) (b .ids) (b .term)
     (ap (λ (w : ℤ). Value (opposite P w)) (r .gives) ∙ ap Value (p .2))
 write σ el out (Flat.infixed q a c) n h o z e g =
     let p = both-values q (value σ a) (value σ c) z e in
@@ -236,7 +238,7 @@ write σ el out (Flat.infixed q a c) n h o z e g =
     let r : Extended σ n x (p .0) = write σ el none a n (h .0) tt (p .0) (p .2) tt in
     let s : Extended (r .assignment) (x .next) y (p .1) = write (r .assignment) (r .elements) none c (x .next) i tt (p .1) (below-value σ (r .assignment) n (r .same) c (h .1) ∙ p .3) tt in
     let t : Extended2 σ n x y (p .0) (p .1) = in-turn σ n x y (p .0) (p .1) b r s in
-    push-extended σ n out z o g (infix-element q (p .0) (p .1) z (p .4)) (t .assignment) (t .elements) (t .same) (x .equalities ++ y .equalities) (y .next) (infixOp q (x .term) (y .term)) (le-trans (b .grows) (d .grows)) (t .holds)
+    push-extended σ n out z o g (infix-element P P-prime q (p .0) (p .1) z (p .4)) (t .assignment) (t .elements) (t .same) (x .equalities ++ y .equalities) (y .next) (infixOp q (x .term) (y .term)) (le-trans (b .grows) (d .grows)) (t .holds)
     (all-append _ (x .equalities) (y .equalities) (raise (x .next) (y .next) (d .grows) (x .equalities) (b .ids)) (d .ids))
     (infix-in _ q (x .term) (y .term) (term-map (λ v (k : v < x .next). le-trans k (d .grows)) (x .term) (b .term)) (d .term))
-    (infix-value (t .assignment) (t .elements) q (x .term) (y .term) ∙ ap₂ (infixOf P q) (t .gives) (t .gives2) ∙ p .4)
+    (infix-value (t .assignment) (t .elements) (x .term) (y .term) q ∙ ap₂ (infixOf P q) (t .gives) (t .gives2) ∙ p .4)

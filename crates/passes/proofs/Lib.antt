@@ -11,3 +11,4 @@ pub mod Agreement
 pub mod Loops
 pub mod Rust
 pub mod Example
+pub mod SignedConstants

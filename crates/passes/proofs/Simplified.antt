@@ -1,23 +1,19 @@
--- infix_op's simplifications keep the value, and values are elements.
-use mathlib.Core.Path.{_≡_, refl, sym, ap, subst, _∙_}
+-- infix_op's simplifications keep the value, and an operation of the passes has one unless its divisor is 0. Cites the field's laws and answers.
+use mathlib.Core.Path.{_≡_, refl, sym, ap, _∙_}
 use mathlib.Core.Bool.{Bool, true, false}
-use Prim.Native.Nat.{ℕ, suc, _<_}
-use native.Mathlib.Nat.{mod-lt, zero-mul}
+use Prim.Native.Nat.{_<_}
 use native.Mathlib.Omega.{arith}
-use native.Mathlib.Decide.{ℕ-discrete}
 use lib.Dec.{eqb}
-use lib.IntN.{ℤ, pos, negsuc, negℤ, +ℤ-idr, +ℤ-invr}
+use lib.IntN.{ℤ, pos}
 use Rattle.field.specs.declared.Answer.{Answer}
 use Rattle.field.specs.declared.Answer.the-variants.{Value, Nothing}
-use Rattle.field.specs.Prime.{P}
-use Rattle.field.proofs.Primality.{P-prime}
-use Rattle.field.proofs.Modular.{inv-lt}
-use Rattle.field.specs.Element.{res, centre, elem}
-use Rattle.field.proofs.Elements.{elem-elem, elem-zero, res-lt, res-centre}
-use Rattle.field.specs.Operations.{pick, sum, difference, product, opposite, quotient, inverse, power, overBy, wholeQuotient, divideOf, divideZOf, intDivideOf, moduloOf, raised, exponentiateOf, infixOf}
-use Rattle.field.proofs.ByResidues.{pick-zero, pick-else}
-use Rattle.field.proofs.Laws.{sum-commutes, sum-zero, product-commutes, product-one, quotient-only}
 use Rattle.field.specs.declared.InfixOp.{InfixOp}
+use Rattle.field.specs.Prime.{P}
+use Rattle.field.specs.Element.{res, elem}
+use Rattle.field.specs.Operations.{pick, divideOf, divideZOf, intDivideOf, moduloOf, infixOf}
+use Rattle.field.proofs.Elements.{elem-elem, elem-zero}
+use Rattle.field.proofs.ByResidues.{pick-else}
+use Rattle.field.proofs.Units.{one-element, zero-element, one-multiply, multiply-one, zero-multiply, multiply-zero, divide-one, divide-z-one, zero-divide-z, int-divide-one, modulo-one, zero-add, add-zero, subtract-zero}
 use Rattle.flat.specs.Meaning.{Assignment, Elements, DivisorNotZero}
 use Rattle.constraint.specs.declared.Term.{Term}
 use Rattle.constraint.specs.Trees.{Side}
@@ -25,25 +21,8 @@ use Rattle.constraint.specs.Meaning.{termValue, sideValue}
 use Rattle.passes.specs.Passes.{isOne, isZero, when, infixOp, cuttable}
 use Rattle.passes.proofs.Lists.{bool-not, same-number}
 
-above : 0 < P
+pub above : 0 < P
 above = omega arith
-
-one-element : elem P (pos 1) ≡ pos 1
-unfolding elem centre res
-one-element = refl
-
-pub zero-element : elem P (pos 0) ≡ pos 0
-unfolding elem centre res
-zero-element = refl
-
-one-counts : res P (pos 1) ≡ 0 → ⊥
-unfolding res
-one-counts e = omega arith
-
-over-one : (x : ℤ) → overBy x 1 ≡ x
-unfolding overBy
-over-one (pos m) = ap pos (omega arith)
-over-one (negsuc m) = ap negsuc (omega arith)
 
 -- the terms that infix_op looks for
 one-is : (σ : Assignment) (t : Term) → isOne t ≡ true → termValue σ t ≡ pos 1
@@ -60,157 +39,56 @@ pub term-element : (σ : Assignment) → Elements σ → (t : Term) → elem P (
 term-element σ h (Term.Variable v) = h v
 term-element σ h (Term.Constant c) = elem-elem P above c
 
--- products and sums with 0 and 1
-zero-times : (y : ℤ) → product P (pos 0) y ≡ pos 0
-unfolding product
-zero-times (pos n) = ap (λ (k : ℕ). elem P (pos k)) (zero-mul n) ∙ zero-element
-zero-times (negsuc n) = ap (λ (k : ℕ). elem P (negℤ (pos k))) (zero-mul (suc n)) ∙ zero-element
-
-module _ (x : ℤ) (h : elem P x ≡ x) where
-  times-one : product P x (pos 1) ≡ x
-  times-one = product-one P P-prime x ∙ h
-
-  over-by-one : quotient P x (pos 1) ≡ x
-  over-by-one = sym (quotient-only P P-prime (pos 1) one-counts x x (product-one P P-prime x)) ∙ h
-
-  less-zero : difference P x (pos 0) ≡ x
-  unfolding difference
-  less-zero = ap (elem P) (+ℤ-idr x) ∙ h
-
-  whole-by-one : elem P (wholeQuotient (elem P x) (elem P (pos 1))) ≡ x
-  unfolding wholeQuotient
-  whole-by-one = ap (λ (y : ℤ). elem P (wholeQuotient (elem P x) y)) one-element ∙ ap (elem P) (over-one (elem P x)) ∙ ap (elem P) h ∙ h
-
-zero-over : (y : ℤ) → (res P y ≡ 0 → ⊥) → quotient P (pos 0) y ≡ pos 0
-zero-over y k = sym (quotient-only P P-prime y k (pos 0) (pos 0) (zero-times y ∙ sym zero-element)) ∙ zero-element
-
-whole-one : (y : ℤ) → wholeQuotient y (pos 1) ≡ y
-unfolding wholeQuotient
-whole-one y = over-one y
-
-less-self : (y : ℤ) → difference P y y ≡ pos 0
-unfolding difference
-less-self y = ap (elem P) (+ℤ-invr y) ∙ zero-element
-
-rest-by-one : (x : ℤ) → difference P (elem P x) (product P (elem P (pos 1)) (wholeQuotient (elem P x) (elem P (pos 1)))) ≡ pos 0
-rest-by-one x =
-    ap (λ (y : ℤ). difference P (elem P x) (product P y (wholeQuotient (elem P x) y))) one-element
-    ∙ ap (λ (y : ℤ). difference P (elem P x) (product P (pos 1) y)) (whole-one (elem P x))
-    ∙ ap (difference P (elem P x)) (product-commutes P P-prime (pos 1) (elem P x) ∙ times-one (elem P x) (elem-elem P above x))
-    ∙ less-self (elem P x)
-
-from-zero : (y : ℤ) → divideZOf P (pos 0) y ≡ Value (pos 0)
-unfolding divideZOf
-from-zero y = go (ℕ-discrete (res P y) 0)
-  where
-    go : Dec (res P y ≡ 0) → divideZOf P (pos 0) y ≡ Value (pos 0)
-    go (yes k) = pick-zero (res P y) _ _ k
-    go (no k) = pick-else (res P y) _ _ k ∙ ap Value (zero-over y k)
-
 -- the simplified right side has the value of the operation
-module _ (σ : Assignment) (h : Elements σ) where
-  when-value : {A : Answer} (b : Bool) (s t : Side) → (b ≡ true → sideValue σ s ≡ A) → sideValue σ t ≡ A → sideValue σ (when b s t) ≡ A
+module _ (σ : Assignment) (h : Elements σ) (a b : Term) where
+  x : ℤ
+  x = termValue σ a
+
+  y : ℤ
+  y = termValue σ b
+
+  when-value : {A : Answer} (t : Bool) (s u : Side) → (t ≡ true → sideValue σ s ≡ A) → sideValue σ u ≡ A → sideValue σ (when t s u) ≡ A
   unfolding when
-  when-value true s t f g = f refl
-  when-value false s t f g = g
+  when-value true s u f g = f refl
+  when-value false s u f g = g
 
-  by-one : (y : ℤ) (x z : Answer) → y ≡ pos 1 → pick (eqb (res P y) 0) x z ≡ z
-  by-one y x z e = pick-else (res P y) x z (λ k. one-counts (ap (res P) (sym e) ∙ k))
+  -- by a law at a left or a right side that is 1 or 0: the other side's value, or 0
+  at-left : (o : InfixOp) (u z : ℤ) → x ≡ u → infixOf P o u y ≡ Value z → Value z ≡ infixOf P o x y
+  at-left o u z e l = sym (ap (λ (w : ℤ). infixOf P o w y) e ∙ l)
 
-  pub infix-value : (o : InfixOp) (a b : Term) → sideValue σ (infixOp o a b) ≡ infixOf P o (termValue σ a) (termValue σ b)
-  unfolding infixOp infixOf sideValue divideOf divideZOf intDivideOf moduloOf
-  infix-value InfixOp.Divide a b =
-      when-value (isOne b) (Side.copy a) (Side.infixed InfixOp.Divide a b)
-      (λ e. sym (by-one (termValue σ b) _ _ (one-is σ b e) ∙ ap Value (ap (quotient P (termValue σ a)) (one-is σ b e) ∙ over-by-one (termValue σ a) (term-element σ h a))))
-      refl
-  infix-value InfixOp.DivideZ a b =
-      when-value (isOne b) (Side.copy a) _
-      (λ e. sym (by-one (termValue σ b) _ _ (one-is σ b e) ∙ ap Value (ap (quotient P (termValue σ a)) (one-is σ b e) ∙ over-by-one (termValue σ a) (term-element σ h a))))
-      (when-value (isZero a) (Side.copy a) (Side.infixed InfixOp.DivideZ a b) (λ e. ap Value (zero-is σ a e) ∙ sym (ap (λ (x : ℤ). divideZOf P x (termValue σ b)) (zero-is σ a e) ∙ from-zero (termValue σ b))) refl)
-  infix-value InfixOp.Multiply a b =
-      when-value (isOne a) (Side.copy b) _
-      (λ e. sym (ap Value (ap (λ (x : ℤ). product P x (termValue σ b)) (one-is σ a e) ∙ product-commutes P P-prime (pos 1) (termValue σ b) ∙ times-one (termValue σ b) (term-element σ h b))))
-      (when-value (isOne b) (Side.copy a) _
-      (λ e. sym (ap Value (ap (product P (termValue σ a)) (one-is σ b e) ∙ times-one (termValue σ a) (term-element σ h a))))
-      (when-value (isZero a) (Side.copy a) _
-      (λ e. ap Value (zero-is σ a e ∙ sym (ap (λ (x : ℤ). product P x (termValue σ b)) (zero-is σ a e) ∙ zero-times (termValue σ b))))
-      (when-value (isZero b) (Side.copy b) (Side.infixed InfixOp.Multiply a b)
-      (λ e. ap Value (zero-is σ b e ∙ sym (ap (product P (termValue σ a)) (zero-is σ b e) ∙ product-commutes P P-prime (termValue σ a) (pos 0) ∙ zero-times (termValue σ a))))
-      refl)))
-  infix-value InfixOp.Add a b =
-      when-value (isZero a) (Side.copy b) _
-      (λ e. sym (ap Value (ap (λ (x : ℤ). sum P x (termValue σ b)) (zero-is σ a e) ∙ sum-commutes P P-prime (pos 0) (termValue σ b) ∙ sum-zero P P-prime (termValue σ b) ∙ term-element σ h b)))
-      (when-value (isZero b) (Side.copy a) (Side.infixed InfixOp.Add a b)
-      (λ e. sym (ap Value (ap (sum P (termValue σ a)) (zero-is σ b e) ∙ sum-zero P P-prime (termValue σ a) ∙ term-element σ h a)))
-      refl)
-  infix-value InfixOp.Subtract a b =
-      when-value (isZero b) (Side.copy a) (Side.infixed InfixOp.Subtract a b)
-      (λ e. sym (ap Value (ap (difference P (termValue σ a)) (zero-is σ b e) ∙ less-zero (termValue σ a) (term-element σ h a))))
-      refl
-  infix-value InfixOp.Equal a b = refl
-  infix-value InfixOp.Exponentiate a b = refl
-  infix-value InfixOp.IntDivide a b =
-      when-value (isOne b) (Side.copy a) (Side.infixed InfixOp.IntDivide a b)
-      (λ e. sym (by-one (termValue σ b) _ _ (one-is σ b e) ∙ ap Value (ap (λ (y : ℤ). elem P (wholeQuotient (elem P (termValue σ a)) (elem P y))) (one-is σ b e) ∙ whole-by-one (termValue σ a) (term-element σ h a))))
-      refl
-  infix-value InfixOp.Modulo a b =
-      when-value (isOne b) (Side.copy (Term.Constant (pos 0))) (Side.infixed InfixOp.Modulo a b)
-      (λ e.
-      ap Value zero-element
-      ∙ sym (by-one (termValue σ b) _ _ (one-is σ b e) ∙ ap Value (ap (λ (y : ℤ). difference P (elem P (termValue σ a)) (product P (elem P y) (wholeQuotient (elem P (termValue σ a)) (elem P y)))) (one-is σ b e) ∙ rest-by-one (termValue σ a))))
-      refl
+  at-right : (o : InfixOp) (u z : ℤ) → y ≡ u → infixOf P o x u ≡ Value z → Value z ≡ infixOf P o x y
+  at-right o u z e l = sym (ap (infixOf P o x) e ∙ l)
 
--- what an operation answers is an element
-module _ where
-  centre-element : (r : ℕ) → r < P → elem P (centre P r) ≡ centre P r
-  unfolding elem
-  centre-element r l = ap (centre P) (res-centre P above r l)
+  left-back : Value x ≡ Value (elem P x)
+  unfolding x
+  left-back = ap Value (sym (term-element σ h a))
 
-  pick-element : (b : Bool) (x y : Answer) (z : ℤ) → ((w : ℤ) → x ≡ Value w → elem P w ≡ w) → ((w : ℤ) → y ≡ Value w → elem P w ≡ w) → pick b x y ≡ Value z → elem P z ≡ z
-  pick-element true x y z f g e = f z e
-  pick-element false x y z f g e = g z e
+  right-back : Value y ≡ Value (elem P y)
+  unfolding y
+  right-back = ap Value (sym (term-element σ h b))
 
-  given : (x z : ℤ) → elem P x ≡ x → Value x ≡ Value z → elem P z ≡ z
-  given x z h e = let k : x ≡ z = cc in subst (λ (w : ℤ). elem P w ≡ w) k h
-
-  nothing : (z : ℤ) → Nothing ≡ Value z → elem P z ≡ z
-  nothing z e = absurd (let k : _≡_ {A = ℕ} 0 1 = cc in omega arith)
-
-  quotient-element : (x y : ℤ) → elem P (quotient P x y) ≡ quotient P x y
-  unfolding quotient product
-  quotient-element x y = elem-elem P above _
-
-  power-element : (x : ℤ) (n : ℕ) → elem P (power P x n) ≡ power P x n
-  unfolding power
-  power-element x n = centre-element _ (mod-lt _ above)
-
-  inverse-element : (x : ℤ) → elem P (inverse P x) ≡ inverse P x
-  unfolding inverse
-  inverse-element x = centre-element _ (inv-lt P P-prime _ (res-lt P above x))
-
-  pub opposite-element : (x : ℤ) → elem P (opposite P x) ≡ opposite P x
-  unfolding opposite
-  opposite-element x = elem-elem P above _
-
-  raised-element : (x y z : ℤ) → raised P x y ≡ Value z → elem P z ≡ z
-  unfolding raised
-  raised-element x (pos n) z e = given (power P x n) z (power-element x n) e
-  raised-element x (negsuc n) z e = pick-element (eqb (res P x) 0) Nothing _ z nothing (λ w. given _ w (inverse-element _)) e
-
-  pub infix-element : (o : InfixOp) (x y z : ℤ) → infixOf P o x y ≡ Value z → elem P z ≡ z
-  unfolding infixOf divideOf divideZOf intDivideOf moduloOf exponentiateOf product sum difference
-  infix-element InfixOp.Divide x y z e = pick-element (eqb (res P y) 0) Nothing _ z nothing (λ w. given _ w (quotient-element x y)) e
-  infix-element InfixOp.DivideZ x y z e = pick-element (eqb (res P y) 0) (Value (pos 0)) _ z (λ w. given (pos 0) w zero-element) (λ w. given _ w (quotient-element x y)) e
-  infix-element InfixOp.Multiply x y z e = given _ z (elem-elem P above _) e
-  infix-element InfixOp.Add x y z e = given _ z (elem-elem P above _) e
-  infix-element InfixOp.Subtract x y z e = given _ z (elem-elem P above _) e
-  infix-element InfixOp.Equal x y z e = nothing z e
-  infix-element InfixOp.Exponentiate x y z e = raised-element x (elem P y) z e
-  infix-element InfixOp.IntDivide x y z e = pick-element (eqb (res P y) 0) Nothing _ z nothing (λ w. given _ w (elem-elem P above _)) e
-  infix-element InfixOp.Modulo x y z e = pick-element (eqb (res P y) 0) Nothing _ z nothing (λ w. given _ w (elem-elem P above _)) e
+  pub infix-value : (o : InfixOp) → sideValue σ (infixOp o a b) ≡ infixOf P o (termValue σ a) (termValue σ b)
+  unfolding infixOp sideValue x y
+  infix-value InfixOp.Divide = when-value (isOne b) (Side.copy a) _ (λ e. left-back ∙ at-right InfixOp.Divide (pos 1) _ (one-is σ b e) (divide-one x)) refl
+  infix-value InfixOp.DivideZ =
+      when-value (isOne b) (Side.copy a) _ (λ e. left-back ∙ at-right InfixOp.DivideZ (pos 1) _ (one-is σ b e) (divide-z-one x))
+      (when-value (isZero a) (Side.copy a) _ (λ e. ap Value (zero-is σ a e) ∙ at-left InfixOp.DivideZ (pos 0) _ (zero-is σ a e) (zero-divide-z y)) refl)
+  infix-value InfixOp.Multiply =
+      when-value (isOne a) (Side.copy b) _ (λ e. right-back ∙ at-left InfixOp.Multiply (pos 1) _ (one-is σ a e) (one-multiply y))
+      (when-value (isOne b) (Side.copy a) _ (λ e. left-back ∙ at-right InfixOp.Multiply (pos 1) _ (one-is σ b e) (multiply-one x))
+      (when-value (isZero a) (Side.copy a) _ (λ e. ap Value (zero-is σ a e) ∙ at-left InfixOp.Multiply (pos 0) _ (zero-is σ a e) (zero-multiply y))
+      (when-value (isZero b) (Side.copy b) _ (λ e. ap Value (zero-is σ b e) ∙ at-right InfixOp.Multiply (pos 0) _ (zero-is σ b e) (multiply-zero x)) refl)))
+  infix-value InfixOp.Add =
+      when-value (isZero a) (Side.copy b) _ (λ e. right-back ∙ at-left InfixOp.Add (pos 0) _ (zero-is σ a e) (zero-add y))
+      (when-value (isZero b) (Side.copy a) _ (λ e. left-back ∙ at-right InfixOp.Add (pos 0) _ (zero-is σ b e) (add-zero x)) refl)
+  infix-value InfixOp.Subtract = when-value (isZero b) (Side.copy a) _ (λ e. left-back ∙ at-right InfixOp.Subtract (pos 0) _ (zero-is σ b e) (subtract-zero x)) refl
+  infix-value InfixOp.Equal = refl
+  infix-value InfixOp.Exponentiate = refl
+  infix-value InfixOp.IntDivide = when-value (isOne b) (Side.copy a) _ (λ e. left-back ∙ at-right InfixOp.IntDivide (pos 1) _ (one-is σ b e) (int-divide-one x)) refl
+  infix-value InfixOp.Modulo = when-value (isOne b) (Side.copy (Term.Constant (pos 0))) _ (λ e. ap Value zero-element ∙ at-right InfixOp.Modulo (pos 1) _ (one-is σ b e) (modulo-one x)) refl
 
 -- an operation of the passes has a value unless its divisor is 0
-pub divisor-counts : (y : ℤ) → elem P y ≡ y → (Value y ≡ Value (pos 0) → ⊥) → res P y ≡ 0 → ⊥
+divisor-counts : (y : ℤ) → elem P y ≡ y → (Value y ≡ Value (pos 0) → ⊥) → res P y ≡ 0 → ⊥
 divisor-counts y h k e = k (ap Value (sym h ∙ elem-zero P above y e))
 
 picked : (y : ℤ) (x : Answer) (w : ℤ) → elem P y ≡ y → (Value y ≡ Value (pos 0) → ⊥) → (z : ℤ) × (pick (eqb (res P y) 0) x (Value w) ≡ Value z)

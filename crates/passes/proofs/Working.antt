@@ -10,6 +10,9 @@ use borrow.Author.Tests.{eqb-true}
 use Rattle.field.specs.declared.Answer.{Answer}
 use Rattle.field.specs.declared.Answer.the-variants.{Value, Nothing}
 use Rattle.field.specs.Prime.{P}
+use Rattle.field.proofs.Primality.{P-prime}
+use Rattle.field.proofs.Answers.{opposite-element, infix-element}
+use Rattle.field.proofs.Units.{zero-element}
 use Rattle.field.specs.Element.{elem}
 use Rattle.field.proofs.Elements.{elem-elem}
 use Rattle.field.specs.Operations.{opposite}
@@ -19,16 +22,16 @@ use Rattle.flat.specs.Rules.{All, Every, Ordered}
 use Rattle.passes.specs.Passes.{keepIf, those, cuttable, cuttableExpr, cuttableDefs}
 use Rattle.passes.specs.Statements.{InTurnIsAtEnd}
 use Rattle.passes.proofs.Lists.{update-all, update-same, update-other, both-true, both-false, defines-cons, every-map, every-both, or-false, defines-those, value-agrees}
-use Rattle.passes.proofs.Simplified.{opposite-element, infix-element, zero-element, has-value}
+use Rattle.passes.proofs.Simplified.{has-value}
 use Rattle.passes.proofs.Cutting.{same-value, both-values, negated-value}
 
 -- a value is an element
 pub value-element : (σ : Assignment) → Elements σ → (e : Flat) (z : ℤ) → value σ e ≡ Value z → elem P z ≡ z
 unfolding value
-value-element σ el (Flat.infixed o a b) z h = let p = both-values o (value σ a) (value σ b) z h in infix-element o (p .0) (p .1) z (p .4)
+value-element σ el (Flat.infixed o a b) z h = let p = both-values o (value σ a) (value σ b) z h in infix-element P P-prime o (p .0) (p .1) z (p .4)
 value-element σ el (Flat.negate a) z h =
     let p = negated-value (value σ a) z h in
-    subst (λ (w : ℤ). elem P w ≡ w) (p .2) (opposite-element (p .0))
+    subst (λ (w : ℤ). elem P w ≡ w) (p .2) (opposite-element P P-prime (p .0))
 value-element σ el (Flat.constant c) z h = subst (λ (w : ℤ). elem P w ≡ w) (same-value _ _ h) (elem-elem P (omega arith) c)
 value-element σ el (Flat.variable v) z h = subst (λ (w : ℤ). elem P w ≡ w) (same-value _ _ h) (el v)
 

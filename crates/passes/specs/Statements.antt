@@ -5,12 +5,15 @@ use mathlib.Core.Bool.{Bool, true, false}
 use mathlib.Core.Logic.{_↔_}
 use mathlib.Core.Option.{none, some}
 use Prim.Native.Nat.{ℕ, _<_}
-use lib.ListN.{length}
+use lib.ListN.{length, getD}
 use Rattle.flat.specs.Trees.{Flat, Definition, Equation, FlatModule, defines}
+use Rattle.flat.specs.Record.{Read, flatOf}
 use Rattle.flat.specs.Rules.{All, Every, Ordered, WellFormed}
 use Rattle.flat.specs.Meaning.{update, Assignment, Elements, DefinitionHolds, EquationHolds, NoZeroDivisor, workedOut, NoZeroInTurn}
 use Rattle.constraint.specs.declared.Term.{Term}
 use Rattle.constraint.specs.Trees.{Equality, ConstraintModule}
+use Rattle.constraint.specs.Reading.{constraintOf, SignedTree, Signed}
+use Rattle.constraint.specs.Record.{constraintBytes}
 use Rattle.constraint.specs.Meaning.{InTerm, InEquality, EqualityHolds, Solution}
 use Rattle.passes.specs.Passes.{member, classifyDefs, Substitutions, walk, copyPropagateExpr, copyPropagateDef, afterDef, copyPropagateEquations, copyPropagate, counted, cut, passes, cutOf}
 use Rattle.passes.specs.Meaning.{Inputs, Uncounted, Given, worked}
@@ -81,6 +84,22 @@ PassesKeepSolutions =
     All (λ d. (d .id < f .next) × Every (λ v. v < f .next) (d .right)) (f .definitions) →
     All (λ e. Every (λ v. v < f .next) (e .left) × Every (λ v. v < f .next) (e .right)) (f .equations) →
     KeepsSolutions f (passes f)
+
+-- CONSTANTS STAY SIGNED 32-BIT, so that the record's bytes say the list that the passes leave (ReadBack in crate constraint)
+abbrev pub SignedModule : FlatModule → Type 0
+SignedModule f = All (λ d. SignedTree (d .right)) (f .definitions) × All (λ e. SignedTree (e .left) × SignedTree (e .right)) (f .equations)
+
+abbrev pub PassesKeepSigned : Type 0
+PassesKeepSigned = (f : FlatModule) → SignedModule f → Signed (passes f)
+
+-- the constants of a lent record are; so the bytes written for it say the list that its module is cut into
+abbrev pub LentReadBack : Type 0
+LentReadBack =
+    (b : List ℕ) (f : FlatModule) (c : ConstraintModule) →
+    ((k : ℕ) → getD b k 0 < 256) →
+    flatOf b ≡ Read.module-of f →
+    cutOf f ≡ cut c →
+    constraintOf (constraintBytes c) ≡ c
 
 -- COPY PROPAGATION ENDS, on every list of definitions, ids defined twice included: at each definition, and after the last, every walk with
 -- the steps that copyPropagate gives ends in a term that nothing stands for

@@ -1,2 +1,1 @@
-// The four passes.
-pub fn nothing() {}
+// The four passes: classify_defs, copy_propagate, eliminate_dead_equalities, flatten_module_to_3ac. specs/ defines them, and says what is proved of them.

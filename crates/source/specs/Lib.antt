@@ -1,1 +1,9 @@
 pub mod Trees
+pub mod Indices
+pub mod Layout
+pub mod Names
+pub mod Nodes
+pub mod Uses
+pub mod Record
+pub mod Readable
+pub mod Marks

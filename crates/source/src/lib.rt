@@ -1,1 +1,176 @@
-// The source record: its layout and its reader (refusals 1 to 6).
+// The source record: its layout, its names and nodes, and its check (refusals 1 to 6).
+mod asking;
+mod entries;
+mod naming;
+mod reading;
+
+use entries::entry;
+use field::InfixOp;
+use naming::names_differ;
+use naming::names_fit;
+use reading::read_trees;
+ghost use mathlib.Core.Path.{_≡_};
+ghost use Prim.Native.Nat.{_+_, _*_, _≤_, _<_};
+ghost use lib.ListN.{length};
+ghost use Rattle.words.specs.Words.{wordAt};
+ghost use Rattle.source.specs.Layout.{layoutOf};
+ghost use Rattle.source.specs.Nodes.{entryOf};
+ghost use Rattle.source.specs.Record.{sourceOf, checked};
+
+// What the check of a source record answers.
+pub enum Checked {
+    Accepted,
+    Refused(u32),
+}
+
+// The counts of the header, the word at which each list starts (the names' pairs start at word 5), and the byte at which the name text starts.
+pub struct Layout {
+    pub names: usize,
+    pub publics: usize,
+    pub definitions: usize,
+    pub expressions: usize,
+    pub nodes: usize,
+    pub publics_at: usize,
+    pub definitions_at: usize,
+    pub expressions_at: usize,
+    pub nodes_at: usize,
+    pub text_at: usize,
+}
+
+// An expression node: children and chains of links by their node indices, names by theirs.
+pub enum Form {
+    Unit,
+    Nil,
+    Product(usize, usize),
+    Cons(usize, usize),
+    Infix(InfixOp, usize, usize),
+    Negate(usize),
+    Application(usize, usize),
+    Constant(i64),
+    Variable(usize),
+    Function(usize, usize),
+    Let(usize, usize, usize),
+    Match(usize, usize),
+    Sequence(usize),
+}
+
+// A pattern node.
+pub enum Shape {
+    Unit,
+    Nil,
+    As(usize, usize),
+    Product(usize, usize),
+    Cons(usize, usize),
+    Variable(usize),
+    Constant(i64),
+}
+
+// What the reader of a node answers: an expression, a pattern, a link (item, next link, arm result), or no node.
+pub enum Entry {
+    Expression(Form),
+    Pattern(Shape),
+    Link(usize, usize, usize),
+    Bad,
+}
+
+// Whose links a chain's are.
+pub enum Chain {
+    Parameters,
+    Arms,
+    Items,
+}
+
+// What a word of a node must be: a name, an expression, a pattern, or the first link of a chain; of no node, nothing can serve.
+pub enum Child {
+    Nothing,
+    Name(usize),
+    Expression(usize),
+    Pattern(usize),
+    Links(Chain, usize),
+    Wrong,
+}
+
+pub struct Children {
+    pub first: Child,
+    pub second: Child,
+    pub third: Child,
+}
+
+// A word, as a count or an index.
+fn count(s: &[u8], i: usize) -> usize
+    requires { ⌜ 4 * i + 4 ≤ length (now s) ⌝ }
+    ensures { λ r. ⌜ (r ≡ wordAt (now (s .entry)) i) × (r < 4294967296) ⌝ }
+{
+    words::word_at(s, i) as usize
+}
+
+// The layout that the header says.
+pub fn layout_of(s: &[u8]) -> Layout
+    requires { ⌜ 20 ≤ length (now s) ⌝ }
+    ensures { λ r. ⌜ r ≡ layoutOf (now (s .entry)) ⌝ }
+{
+    let names = count(s, 0);
+    let publics = count(s, 1);
+    let definitions = count(s, 2);
+    let expressions = count(s, 3);
+    let nodes = count(s, 4);
+    let publics_at = 5 + 2 * names;
+    let definitions_at = publics_at + publics;
+    let expressions_at = definitions_at + 2 * definitions;
+    let nodes_at = expressions_at + expressions;
+    Layout {
+        names,
+        publics,
+        definitions,
+        expressions,
+        nodes,
+        publics_at,
+        definitions_at,
+        expressions_at,
+        nodes_at,
+        text_at: 4 * (nodes_at + 4 * nodes),
+    }
+}
+
+// Node k of the nodes that start at word `at`.
+pub fn node_at(s: &[u8], at: usize, k: usize) -> Entry
+    requires { ⌜ 4 * (at + 4 * k + 4) ≤ length (now s) ⌝ }
+    ensures { λ r. ⌜ r ≡ entryOf (now (s .entry)) at k ⌝ }
+{
+    let base = at + 4 * k;
+    let kind = words::word_at(s, base);
+    let a = words::word_at(s, base + 1);
+    let b = words::word_at(s, base + 2);
+    let c = words::word_at(s, base + 3);
+    entry(kind, a, b, c)
+}
+
+// A source record: accepted, or refused with the first of the numbers 1 to 6.
+pub fn check_source(s: &[u8]) -> Checked
+    ensures { λ r. ⌜ r ≡ checked (sourceOf (now (s .entry))) ⌝ }
+{
+    let size = s.len();
+    if size < 20 {
+        return Checked::Refused(1);
+    }
+    let l = layout_of(s);
+    let counted = (l.names <= 512)
+        & ((l.publics <= 64)
+            & ((l.definitions <= 512) & ((l.expressions <= 512) & (l.nodes <= 2048))));
+    if !counted {
+        return Checked::Refused(2);
+    }
+    let text = l.text_at;
+    let names = l.names;
+    let listed = (text <= size) & ((0 < names) | (size == text));
+    if !listed {
+        return Checked::Refused(1);
+    }
+    if !names_fit(s, text, names) {
+        return Checked::Refused(3);
+    }
+    if !names_differ(s, text, names) {
+        return Checked::Refused(4);
+    }
+    read_trees(s, l)
+}

@@ -55,7 +55,7 @@ loop-less : tie.Need-loop-less Inv-loop μ-loop
 loop-less c = search needs
 
 loop-again : tie.Need-loop-again Inv-loop μ-loop
-loop-again c = (over-next (c .before .before .before .before .before .before .before .before .loop .inv .0) (c .before .before .before .before .before .before .before .loop-test .taken), defs-turn (c .before .before .before .before .before .before .before .before .loop .inv .0) (c .before .before .before .before .before .before .before .before .before .before .before .pre .0 .0) (c .before .before .before .before .before .before .before .loop-test .taken) (c .before .before .before .before .before .before .word-at .ensures) (c .before .before .before .before .before .word-at2 .ensures) _ _ _ _ _ _ (c .before .before .flatten-def-to-3ac .ensures) _ _ _ _ (c .before .before .before .before .before .before .before .before .loop .inv .1), room-turn (c .before .before .before .before .before .before .before .before .loop .inv .0) (c .before .before .before .before .before .before .before .before .before .before .before .pre .0 .0) (c .before .before .before .before .before .before .before .loop-test .taken) (c .before .before .before .before .before .before .word-at .ensures) (c .before .before .before .before .before .word-at2 .ensures) _ _ _ _ _ _ (c .before .before .flatten-def-to-3ac .ensures) (c .before .before .before .before .before .before .before .before .loop .inv .2), c .before .before .flatten-def-to-3ac .ensures .2, ap length (c .before .before .flatten-def-to-3ac .ensures .0 .0) ∙ length-put _ _ _ ∙ c .before .before .before .before .before .before .before .before .loop .inv .4)
+loop-again c = (over-next (c .before .before .before .before .before .before .before .before .loop .inv .0) (c .before .before .before .before .before .before .before .loop-test .taken), defs-turn (c .before .before .before .before .before .before .before .before .loop .inv .0) (c .before .before .before .before .before .before .before .before .before .before .before .pre .0 .0) (c .before .before .before .before .before .before .before .loop-test .taken) (c .before .before .before .before .before .before .word-at .ensures) (c .before .before .before .before .before .word-at2 .ensures) _ _ _ _ _ _ (c .before .before .flatten-def-to-3ac .ensures) _ _ _ _ (c .before .before .before .before .before .before .before .before .loop .inv .1), room-turn (c .before .before .before .before .before .before .before .before .loop .inv .0) (c .before .before .before .before .before .before .before .before .before .before .before .pre .0 .0) (c .before .before .before .before .before .before .before .loop-test .taken) (c .before .before .before .before .before .before .word-at .ensures) (c .before .before .before .before .before .word-at2 .ensures) _ _ _ _ _ _ (c .before .before .flatten-def-to-3ac .ensures) (c .before .before .before .before .before .before .before .before .loop .inv .2), c .before .before .flatten-def-to-3ac .ensures .3, ap length (c .before .before .flatten-def-to-3ac .ensures .0) ∙ length-put _ _ _ ∙ c .before .before .before .before .before .before .before .before .loop .inv .4)
 
 same-length : tie.Need-same-length Inv-loop μ-loop
 same-length c = c .before .loop .inv .4

@@ -7,7 +7,7 @@ use mathlib.Core.Path.{_∙_, sym}
 use borrow.Author.Tests.{not-true, not-false, le-leb, lt-leb}
 use Rattle.flat.specs.Record.{rulesOf}
 use Rattle.flat.proofs.Laws.{and-no, and-on}
-use Rattle.flat.proofs.Answers.{later-long, later-none, hold-definitions, hold-nodes}
+use Rattle.flat.proofs.Answers.{hold-definitions, hold-nodes}
 
 returns : tie.Need-returns
 unfolding rulesOf
@@ -62,15 +62,12 @@ returns-5 : tie.Need-returns-5
 unfolding rulesOf
 returns-5 c = and-on _ (le-leb _ _ (c .before .before .before .before .before .before .before .before .if1 .left)) (and-on _ (sym (c .before .before .before .before .before .before .before .all-below .ensures) ∙ (not-false _ (c .before .before .before .before .before .before .if2 .left))) (and-on _ (sym (c .before .before .before .before .before .all-below2 .ensures) ∙ (not-false _ (c .before .before .before .before .if3 .left))) (and-on _ (sym (c .before .before .before .rises .ensures) ∙ (not-false _ (c .before .before .if4 .left))) (and-no _ _ (sym (c .before .trees-hold .ensures) ∙ not-true _ (c .if5 .taken))))))
 
-no-later-requires : tie.Need-no-later-requires
-no-later-requires c κs = search needs
-
 in-order-requires : tie.Need-in-order-requires
-in-order-requires c κs = (((hold-definitions _ _ _ _ _ _ _ _ (sym (c .before .before .before .trees-hold .ensures) ∙ (not-false _ (c .before .before .if5 .left))), hold-nodes _ _ _ _ _ _ _ _ (sym (c .before .before .before .trees-hold .ensures) ∙ (not-false _ (c .before .before .if5 .left)))), (omega (arith, c .before .before .before .before .before .before .before .before .before .before .before .before .pre .0), (omega (arith, c .before .before .before .before .before .before .before .before .before .before .before .before .pre .0), c .before .before .before .before .before .before .before .before .before .before .if1 .left))), (later-long (c .before .no-later .ensures), later-none _ _ (c .before .no-later .ensures)))
+in-order-requires c κs = ((hold-definitions _ _ _ _ _ _ _ _ (sym (c .before .trees-hold .ensures) ∙ (not-false _ (c .if5 .left))), hold-nodes _ _ _ _ _ _ _ _ (sym (c .before .trees-hold .ensures) ∙ (not-false _ (c .if5 .left)))), (omega (arith, c .before .before .before .before .before .before .before .before .before .before .pre .0), (omega (arith, c .before .before .before .before .before .before .before .before .before .before .pre .0), c .before .before .before .before .before .before .before .before .if1 .left)))
 
 returns-6 : tie.Need-returns-6
 unfolding rulesOf
-returns-6 c = and-on _ (le-leb _ _ (c .before .before .before .before .before .before .before .before .before .before .before .if1 .left)) (and-on _ (sym (c .before .before .before .before .before .before .before .before .before .before .all-below .ensures) ∙ (not-false _ (c .before .before .before .before .before .before .before .before .before .if2 .left))) (and-on _ (sym (c .before .before .before .before .before .before .before .before .all-below2 .ensures) ∙ (not-false _ (c .before .before .before .before .before .before .before .if3 .left))) (and-on _ (sym (c .before .before .before .before .before .before .rises .ensures) ∙ (not-false _ (c .before .before .before .before .before .if4 .left))) (and-on _ (sym (c .before .before .before .before .trees-hold .ensures) ∙ (not-false _ (c .before .before .before .if5 .left))) (c .in-order .ensures)))))
+returns-6 c = and-on _ (le-leb _ _ (c .before .before .before .before .before .before .before .before .before .if1 .left)) (and-on _ (sym (c .before .before .before .before .before .before .before .before .all-below .ensures) ∙ (not-false _ (c .before .before .before .before .before .before .before .if2 .left))) (and-on _ (sym (c .before .before .before .before .before .before .all-below2 .ensures) ∙ (not-false _ (c .before .before .before .before .before .if3 .left))) (and-on _ (sym (c .before .before .before .before .rises .ensures) ∙ (not-false _ (c .before .before .before .if4 .left))) (and-on _ (sym (c .before .before .trees-hold .ensures) ∙ (not-false _ (c .before .if5 .left))) (c .in-order .ensures)))))
 
 pub rules-hold-spec : {M : Type 1} → statement M
 rules-hold-spec =
@@ -92,6 +89,5 @@ rules-hold-spec =
     mul-trees-hold
     trees-hold-requires
     returns-5
-    no-later-requires
     in-order-requires
     returns-6)

@@ -46,7 +46,11 @@ free-free-requires : (t : ℕ) → free-lts.Need-free-requires (
   free-below t,
   free.Post,
 ) (free-at t) free.Post
-free-free-requires t c κs = let w = (infix-below _ _ _ _ (c .before .before .before .before .before .pre .1 .0 .1) _ (c .before .before .before .before .before .pre .1 .0 .0) (sym (c .before .before .before .node-at .ensures) ∙ c .before .x .given .1)) .0 in (omega (arith, c .before .before .before .before .before .pre .0, w), ((omega (arith, w, c .before .before .before .before .before .pre .1 .0 .0), c .before .before .before .before .before .pre .1 .0 .1), c .before .before .before .before .before .pre .1 .1))
+free-free-requires t c κs =
+    let s = c .before .before .before .before .before in
+    let e = sym (c .before .before .before .node-at .ensures) ∙ c .before .x .given .1 in
+    let w = infix-below _ _ _ _ (s .pre .1 .0 .1) _ (s .pre .1 .0 .0) e in
+    (omega (arith, s .pre .0, w .0), ((omega (arith, w .0, s .pre .1 .0 .0), s .pre .1 .0 .1), s .pre .1 .1))
 
 free-returns : (t : ℕ) → free-lts.Need-returns (
   node-at-reads.Asked,
@@ -54,7 +58,11 @@ free-returns : (t : ℕ) → free-lts.Need-returns (
   free-below t,
   free.Post,
 ) (free-at t) free.Post
-free-returns t c = walk-infix-no _ _ _ _ (sym (c .before .before .before .before .before .node-at .ensures) ∙ c .before .before .before .x .given .1) (infix-below _ _ _ _ (c .before .before .before .before .before .before .before .pre .1 .0 .1) _ (c .before .before .before .before .before .before .before .pre .1 .0 .0) (sym (c .before .before .before .before .before .node-at .ensures) ∙ c .before .before .before .x .given .1)) (c .before .free .ensures) (not-true _ (c .if1 .taken))
+free-returns t c =
+    let s = c .before .before .before .before .before .before .before in
+    let e = sym (c .before .before .before .before .before .node-at .ensures) ∙ c .before .before .before .x .given .1 in
+    let w = infix-below _ _ _ _ (s .pre .1 .0 .1) _ (s .pre .1 .0 .0) e in
+    walk-infix-no _ _ _ _ e w (c .before .free .ensures) (not-true _ (c .if1 .taken))
 
 free-free-requires-2 : (t : ℕ) → free-lts.Need-free-requires-2 (
   node-at-reads.Asked,
@@ -62,7 +70,11 @@ free-free-requires-2 : (t : ℕ) → free-lts.Need-free-requires-2 (
   free-below t,
   free.Post,
 ) (free-at t) free.Post
-free-free-requires-2 t c κs = let w = (infix-below _ _ _ _ (c .before .before .before .before .before .before .before .pre .1 .0 .1) _ (c .before .before .before .before .before .before .before .pre .1 .0 .0) (sym (c .before .before .before .before .before .node-at .ensures) ∙ c .before .before .before .x .given .1)) .1 in (omega (arith, c .before .before .before .before .before .before .before .pre .0, w), ((omega (arith, w, c .before .before .before .before .before .before .before .pre .1 .0 .0), c .before .before .before .before .before .before .before .pre .1 .0 .1), c .before .before .before .before .before .before .before .pre .1 .1))
+free-free-requires-2 t c κs =
+    let s = c .before .before .before .before .before .before .before in
+    let e = sym (c .before .before .before .before .before .node-at .ensures) ∙ c .before .before .before .x .given .1 in
+    let w = infix-below _ _ _ _ (s .pre .1 .0 .1) _ (s .pre .1 .0 .0) e in
+    (omega (arith, s .pre .0, w .1), ((omega (arith, w .1, s .pre .1 .0 .0), s .pre .1 .0 .1), s .pre .1 .1))
 
 free-enum-known-x-2 : (t : ℕ) → free-lts.Need-enum-known-x-2 (
   node-at-reads.Asked,
@@ -78,7 +90,11 @@ free-free-requires-3 : (t : ℕ) → free-lts.Need-free-requires-3 (
   free-below t,
   free.Post,
 ) (free-at t) free.Post
-free-free-requires-3 t c κs = let w = (negate-below _ _ _ _ (c .before .before .before .before .before .pre .1 .0 .1) _ (c .before .before .before .before .before .pre .1 .0 .0) (sym (c .before .before .before .node-at .ensures) ∙ c .before .x2 .given .1)) in (omega (arith, c .before .before .before .before .before .pre .0, w), ((omega (arith, w, c .before .before .before .before .before .pre .1 .0 .0), c .before .before .before .before .before .pre .1 .0 .1), c .before .before .before .before .before .pre .1 .1))
+free-free-requires-3 t c κs =
+    let s = c .before .before .before .before .before in
+    let e = sym (c .before .before .before .node-at .ensures) ∙ c .before .x2 .given .1 in
+    let w = negate-below _ _ _ _ (s .pre .1 .0 .1) _ (s .pre .1 .0 .0) e in
+    (omega (arith, s .pre .0, w), ((omega (arith, w, s .pre .1 .0 .0), s .pre .1 .0 .1), s .pre .1 .1))
 
 free-enum-told : (t : ℕ) → free-lts.Need-enum-told (
   node-at-reads.Asked,
@@ -118,7 +134,10 @@ free-element-copy-out-result : (t : ℕ) → free-lts.Need-element-copy-out-resu
   free-below t,
   free.Post,
 ) (free-at t) free.Post
-free-element-copy-out-result t c = omega (arith, (variable-below _ _ _ _ (c .before .before .before .before .before .pre .1 .0 .1) _ (c .before .before .before .before .before .pre .1 .0 .0) (sym (c .before .before .before .node-at .ensures) ∙ c .before .v .given .1)))
+free-element-copy-out-result t c =
+    let s = c .before .before .before .before .before in
+    let e = sym (c .before .before .before .node-at .ensures) ∙ c .before .v .given .1 in
+    omega (arith, variable-below _ _ _ _ (s .pre .1 .0 .1) _ (s .pre .1 .0 .0) e)
 
 free-returns-2 : (t : ℕ) → free-lts.Need-returns-2 (
   node-at-reads.Asked,
@@ -126,7 +145,11 @@ free-returns-2 : (t : ℕ) → free-lts.Need-returns-2 (
   free-below t,
   free.Post,
 ) (free-at t) free.Post
-free-returns-2 t c = walk-infix _ _ _ _ (sym (c .before .before .before .before .before .before .node-at .ensures) ∙ c .before .before .before .before .x .given .1) (infix-below _ _ _ _ (c .before .before .before .before .before .before .before .before .pre .1 .0 .1) _ (c .before .before .before .before .before .before .before .before .pre .1 .0 .0) (sym (c .before .before .before .before .before .before .node-at .ensures) ∙ c .before .before .before .before .x .given .1)) (c .before .before .free .ensures) (not-false _ (c .before .if1 .left)) (c .free2 .ensures)
+free-returns-2 t c =
+    let s = c .before .before .before .before .before .before .before .before in
+    let e = sym (c .before .before .before .before .before .before .node-at .ensures) ∙ c .before .before .before .before .x .given .1 in
+    let w = infix-below _ _ _ _ (s .pre .1 .0 .1) _ (s .pre .1 .0 .0) e in
+    walk-infix _ _ _ _ e w (c .before .before .free .ensures) (not-false _ (c .before .if1 .left)) (c .free2 .ensures)
 
 free-returns-3 : (t : ℕ) → free-lts.Need-returns-3 (
   node-at-reads.Asked,
@@ -134,7 +157,11 @@ free-returns-3 : (t : ℕ) → free-lts.Need-returns-3 (
   free-below t,
   free.Post,
 ) (free-at t) free.Post
-free-returns-3 t c = walk-negate _ _ _ _ (sym (c .before .before .before .before .node-at .ensures) ∙ c .before .before .x2 .given .1) (negate-below _ _ _ _ (c .before .before .before .before .before .before .pre .1 .0 .1) _ (c .before .before .before .before .before .before .pre .1 .0 .0) (sym (c .before .before .before .before .node-at .ensures) ∙ c .before .before .x2 .given .1)) (c .free3 .ensures)
+free-returns-3 t c =
+    let s = c .before .before .before .before .before .before in
+    let e = sym (c .before .before .before .before .node-at .ensures) ∙ c .before .before .x2 .given .1 in
+    let w = negate-below _ _ _ _ (s .pre .1 .0 .1) _ (s .pre .1 .0 .0) e in
+    walk-negate _ _ _ _ e w (c .free3 .ensures)
 
 free-returns-4 : (t : ℕ) → free-lts.Need-returns-4 (
   node-at-reads.Asked,

@@ -3,7 +3,7 @@ use Rattle.flat.proofs.ordering.in_order.Statement.{statement}
 use Rattle.flat.proofs.ordering.in_order.Tie as tie
 use borrow.Author.Needs.{needs}
 use native.Mathlib.Omega.{arith}
-use Prim.Native.Nat.{_-_, _≤_}
+use Prim.Native.Nat.{_-_, _≤_, _<_}
 use mathlib.Core.Path.{_≡_}
 use mathlib.Core.Bool.{true}
 use lib.ListN.{length, length-set}
@@ -18,8 +18,11 @@ Inv-loop s at n trees nodes limit later₀ k₀ later k = ((ordered (rows (n - k
 abbrev μ-loop : tie.MeasureT-loop
 μ-loop s at n trees nodes limit later₀ k₀ later k = k
 
+no-later-requires : tie.Need-no-later-requires Inv-loop μ-loop
+no-later-requires c κs = search needs
+
 loop-holds : tie.Need-loop-holds Inv-loop μ-loop
-loop-holds c = (order-start _ (definitionAt (c .before .args .s .now) (c .before .args .at) (c .before .args .trees) (c .before .args .nodes)) (c .before .args .later .now) (c .before .pre .1 .1), (omega arith, c .before .pre .1 .0))
+loop-holds c = order-start (c .before .before .args .n) (definitionAt (c .before .before .args .s .now) (c .before .before .args .at) (c .before .before .args .trees) (c .before .before .args .nodes)) (c .no-later .ensures)
 
 sub-k : tie.Need-sub-k Inv-loop μ-loop
 sub-k c = search needs
@@ -48,29 +51,51 @@ count-requires-2 c κs = search needs
 mul-if1 : tie.Need-mul-if1 Inv-loop μ-loop
 mul-if1 c = search needs
 
-element-copy-out-if1 : tie.Need-element-copy-out-if1 Inv-loop μ-loop
-element-copy-out-if1 c = omega (arith, (definition-fits _ _ _ _ _ (c .before .before .before .loop .k - 1) _ _ (c .before .before .before .before .before .pre .0 .0 .0) (omega arith) (c .before .count .ensures .0) (c .count2 .ensures .0)) .0)
+-- the definition that was read fits
+fits : (c : tie.After-count2 Inv-loop μ-loop) → (c .before .count .result < c .before .before .before .before .before .before .args .limit) × (c .count2 .result < c .before .before .before .before .before .before .args .nodes)
+fits c = definition-fits _ _ _ _ _ (c .before .before .before .loop .k - 1) _ _ (c .before .before .before .before .before .before .pre .0 .0) (omega arith) (c .before .count .ensures .0) (c .count2 .ensures .0)
+
+-- and its id is marked
+marked : (c : tie.After-count2 Inv-loop μ-loop) → c .before .count .result < length (c .before .before .before .loop .later)
+marked c = omega (arith, fits c .0, c .before .before .before .loop .inv .1 .1)
+
+array-read-if1 : tie.Need-array-read-if1 Inv-loop μ-loop
+array-read-if1 c = omega (arith, fits c .0)
 
 returns : tie.Need-returns Inv-loop μ-loop
-returns c = order-double (c .before .before .before .before .before .before .before .args .s .now) (c .before .before .before .before .before .before .before .args .at) (c .before .before .before .before .before .before .before .args .n) (c .before .before .before .before .before .before .before .args .trees) (c .before .before .before .before .before .before .before .args .nodes) (c .before .before .before .before .before .loop .k) (c .before .before .before .before .loop-test .taken) (c .before .before .before .before .before .loop .inv .1 .0) (c .before .before .before .before .before .loop .later) (c .before .before .before .before .before .loop .inv .0 .1) (c .before .before .before .count .result) (c .before .before .count2 .result) (c .before .before .before .count .ensures .0) (c .before .before .count2 .ensures .0) (c .if1 .taken)
+returns c =
+    let r = c .before in
+    let l = r .before .before .before .loop in
+    order-double _ _ _ _ _ _ (r .before .before .loop-test .taken) (l .inv .1 .0) (l .later) (l .inv .0 .1) _ _ (r .before .count .ensures .0) (r .count2 .ensures .0) (c .if1 .taken)
 
 mul-later : tie.Need-mul-later Inv-loop μ-loop
 mul-later c = search needs
 
-element-write-later : tie.Need-element-write-later Inv-loop μ-loop
-element-write-later c = omega (arith, (definition-fits _ _ _ _ _ (c .before .before .before .before .before .loop .k - 1) _ _ (c .before .before .before .before .before .before .before .pre .0 .0 .0) (omega arith) (c .before .before .before .count .ensures .0) (c .before .before .count2 .ensures .0)) .0)
+array-write-later : tie.Need-array-write-later Inv-loop μ-loop
+array-write-later c = omega (arith, fits (c .before) .0)
 
 free-requires : tie.Need-free-requires Inv-loop μ-loop
-free-requires c κs = let w = (definition-fits _ _ _ _ _ (c .before .before .before .before .before .before .loop .k - 1) _ _ (c .before .before .before .before .before .before .before .before .pre .0 .0 .0) (omega arith) (c .before .before .before .before .count .ensures .0) (c .before .before .before .count2 .ensures .0)) in ((omega (arith, w .1), c .before .before .before .before .before .before .before .before .pre .0 .0 .1), (c .before .before .before .before .before .before .before .before .pre .0 .1 .0, c .before .before .before .before .before .before .before .before .pre .0 .1 .1 .1))
+free-requires c κs =
+    let w = fits (c .before .before) in
+    let p = c .before .before .before .before .before .before .before .before .pre in
+    ((w .1, p .0 .1), (p .1 .0, p .1 .1 .1))
 
 returns-2 : tie.Need-returns-2 Inv-loop μ-loop
-returns-2 c = order-used (c .before .before .before .before .before .before .before .before .before .before .args .s .now) (c .before .before .before .before .before .before .before .before .before .before .args .at) (c .before .before .before .before .before .before .before .before .before .before .args .n) (c .before .before .before .before .before .before .before .before .before .before .args .trees) (c .before .before .before .before .before .before .before .before .before .before .args .nodes) (c .before .before .before .before .before .before .before .before .loop .k) (c .before .before .before .before .before .before .before .loop-test .taken) (c .before .before .before .before .before .before .before .before .loop .inv .1 .0) (c .before .before .before .before .before .before .before .before .loop .later) (c .before .before .before .before .before .before .before .before .loop .inv .0 .1) (c .before .before .before .before .before .before .count .result) (c .before .before .before .before .before .count2 .result) (c .before .before .before .before .before .before .count .ensures .0) (c .before .before .before .before .before .count2 .ensures .0) _ (c .before .before .before .if1 .left) (omega (arith, (definition-fits _ _ _ _ _ (c .before .before .before .before .before .before .before .before .loop .k - 1) _ _ (c .before .before .before .before .before .before .before .before .before .before .pre .0 .0 .0) (omega arith) (c .before .before .before .before .before .before .count .ensures .0) (c .before .before .before .before .before .count2 .ensures .0)) .0, c .before .before .before .before .before .before .before .before .loop .inv .1 .1)) ((definition-fits _ _ _ _ _ (c .before .before .before .before .before .before .before .before .loop .k - 1) _ _ (c .before .before .before .before .before .before .before .before .before .before .pre .0 .0 .0) (omega arith) (c .before .before .before .before .before .before .count .ensures .0) (c .before .before .before .before .before .count2 .ensures .0)) .1) (c .before .free .ensures) (not-true _ (c .if2 .taken))
+returns-2 c =
+    let r = c .before .before .before .before in
+    let l = r .before .before .before .loop in
+    order-used _ _ _ _ _ _ (r .before .before .loop-test .taken) (l .inv .1 .0) (l .later) (l .inv .0 .1) _ _ (r .before .count .ensures .0) (r .count2 .ensures .0) _ (c .before .before .before .if1 .left) (marked r) (fits r .1) (c .before .free .ensures) (not-true _ (c .if2 .taken))
 
 loop-less : tie.Need-loop-less Inv-loop μ-loop
 loop-less c = search needs
 
 loop-again : tie.Need-loop-again Inv-loop μ-loop
-loop-again c = (order-more (c .before .before .before .before .before .before .before .before .before .before .args .s .now) (c .before .before .before .before .before .before .before .before .before .before .args .at) (c .before .before .before .before .before .before .before .before .before .before .args .n) (c .before .before .before .before .before .before .before .before .before .before .args .trees) (c .before .before .before .before .before .before .before .before .before .before .args .nodes) (c .before .before .before .before .before .before .before .before .loop .k) (c .before .before .before .before .before .before .before .loop-test .taken) (c .before .before .before .before .before .before .before .before .loop .inv .1 .0) (c .before .before .before .before .before .before .before .before .loop .later) (c .before .before .before .before .before .before .before .before .loop .inv .0 .1) (c .before .before .before .before .before .before .count .result) (c .before .before .before .before .before .count2 .result) (c .before .before .before .before .before .before .count .ensures .0) (c .before .before .before .before .before .count2 .ensures .0) _ (c .before .before .before .if1 .left) (omega (arith, (definition-fits _ _ _ _ _ (c .before .before .before .before .before .before .before .before .loop .k - 1) _ _ (c .before .before .before .before .before .before .before .before .before .before .pre .0 .0 .0) (omega arith) (c .before .before .before .before .before .before .count .ensures .0) (c .before .before .before .before .before .count2 .ensures .0)) .0, c .before .before .before .before .before .before .before .before .loop .inv .1 .1)) ((definition-fits _ _ _ _ _ (c .before .before .before .before .before .before .before .before .loop .k - 1) _ _ (c .before .before .before .before .before .before .before .before .before .before .pre .0 .0 .0) (omega arith) (c .before .before .before .before .before .before .count .ensures .0) (c .before .before .before .before .before .count2 .ensures .0)) .1) (c .before .free .ensures) (not-false _ (c .if2 .left)) (c .before .before .before .before .before .before .before .before .loop .inv .0 .0), (omega arith, simp length-set (c .before .before .before .before .before .before .before .before .loop .inv .1 .1)))
+loop-again c =
+    let r = c .before .before .before .before in
+    let l = r .before .before .before .loop in (
+      order-more _ _ _ _ _ _ (r .before .before .loop-test .taken) (l .inv .1 .0) (l .later) (l .inv .0 .1) _ _ (r .before .count .ensures .0) (r .count2 .ensures .0) _ (c .before .before .before .if1 .left) (marked r) (fits r .1) (c .before .free .ensures) (not-false _ (c .if2 .left)) (l .inv .0 .0),
+      (omega arith, simp length-set (l .inv .1 .1)),
+    )
 
 returns-3 : tie.Need-returns-3 Inv-loop μ-loop
 returns-3 c = order-end _ _ _ (omega (arith, c .loop-test .left)) (c .before .loop .inv .0 .0)
@@ -81,6 +106,7 @@ in-order-spec =
     (tie.spec
     Inv-loop
     μ-loop
+    no-later-requires
     loop-holds
     sub-k
     mul-count
@@ -91,10 +117,10 @@ in-order-spec =
     add-count-3
     count-requires-2
     mul-if1
-    element-copy-out-if1
+    array-read-if1
     returns
     mul-later
-    element-write-later
+    array-write-later
     free-requires
     returns-2
     loop-less

@@ -1,0 +1,188 @@
+-- Demand 3: numbering, evaluation and the passes keep what a plain module says.
+use mathlib.Core.Path.{_≡_, refl, sym, ap, _∙_}
+use mathlib.Core.Bool.{Bool, true, false, _&&_}
+use mathlib.Core.List.{List, [], _∷_}
+use mathlib.Core.Option.{Option, none, some}
+use Prim.Native.Nat.{ℕ}
+use native.Mathlib.Omega.{arith}
+use lib.IntN.{ℤ, pos}
+use Rattle.field.specs.declared.InfixOp.the-variants.{Divide, DivideZ, Multiply, Add, Subtract, Equal, Exponentiate, IntDivide, Modulo}
+use Rattle.field.specs.Prime.{P}
+use Rattle.field.specs.Element.{elem}
+use Rattle.field.proofs.Units.{zero-element}
+use Rattle.source.specs.Trees.{Module}
+use Rattle.flat.specs.Trees.{Flat, Definition, Equation, FlatModule, defines}
+use Rattle.flat.specs.Rules.{All}
+use Rattle.flat.specs.Meaning.{Assignment, Elements, workedOut}
+use Rattle.constraint.specs.Trees.{ConstraintModule}
+use Rattle.constraint.specs.Meaning as Constraints
+use Rattle.passes.specs.Passes.{member, classifyDefs, cuttable, cuttableExpr, cuttableDefs, cuttableEquations, counted, cut, unless, fitting, cutOf, passes}
+use Rattle.passes.specs.Meaning.{Inputs, Given}
+use Rattle.passes.specs.Meaning
+use Rattle.passes.specs.Statements.{KeepsMeaning}
+use Rattle.passes.proofs.Lists.{all-map, all-those, every-map, every-both, defines-those}
+use Rattle.passes.proofs.Classified.{all-both}
+use Rattle.passes.proofs.Agreement.{cut-keeps-meaning-at, inputs-given}
+use Rattle.numbering.specs.Numbering.{namesOf, numbered}
+use Rattle.numbering.specs.Inputs.{inputs, inputIds}
+use Rattle.numbering.specs.Inputs
+use Rattle.numbering.specs.Statements.{Pointwise}
+use Rattle.numbering.specs.Statements
+use Rattle.numbering.proofs.Lists.{all-member, members, pointwise-map}
+use Rattle.numbering.proofs.Names.{nameOf, falling-named}
+use Rattle.numbering.proofs.Facts.{module-step}
+use Rattle.evaluation.specs.Evaluation.{Evaluated, flat, refusal, evaluated}
+use Rattle.plain.specs.Plain.{isPlain}
+use Rattle.plain.specs.Meaning.{NoDivisorZero}
+use Rattle.plain.specs.Statements.{IsInput, Gives, Known, Cuttable, PlainFlat, SaysTheSame}
+use Rattle.plain.proofs.Agreement.{plain-modules-agree}
+use Rattle.agreement.specs.Flattened.{passed, flattenedOf}
+use Rattle.agreement.specs.Statement.{Solves, Agrees, Agreement}
+
+false-true : false ≡ true → ⊥
+false-true e = let o : _≡_ {A = ℕ} 0 1 = cc in omega arith
+
+-- the flat module's inputs are the module's
+module _ (m : Module) (f : FlatModule) (w : PlainFlat m f) where
+  not-given : (v : ℕ) (b : Bool) → (b ≡ true → member v (f .provers) ≡ true) → b ≡ false
+  unfolding member
+  not-given v true h = absurd (false-true (ap (member v) (sym (w .no-provers)) ∙ h refl))
+  not-given v false h = refl
+
+  known : (v : ℕ) → Meaning.Known f (Given f) v × Known m f v → Meaning.Known f (IsInput m) v
+  known v h n = h .1 (not-given v (defines (f .definitions) v) (h .0 n .1))
+
+  has-inputs : Inputs f (IsInput m)
+  unfolding counted classifyDefs
+  has-inputs =
+      let g : Inputs f (Given f) = inputs-given f (w .well-formed) in
+      record {
+        equations =
+            all-map (λ e h. (every-map known (e .left) (every-both _ _ (e .left) (h .0 .0) (h .1 .0)), every-map known (e .right) (every-both _ _ (e .right) (h .0 .1) (h .1 .1)))) (f .equations)
+            (all-both _ _ (f .equations) (g .equations) (w .equations-known));
+        definitions =
+            all-map (λ d h. every-map known (d .right) (every-both _ _ (d .right) (h .0) (h .1))) (counted f)
+            (all-both _ _ (counted f) (g .definitions) (all-those _ _ _ (all-those _ _ (f .definitions) (w .definitions-known))));
+        only = λ v i. let u = w .inputs-undefined v i in (u .0, defines-those _ _ v (defines-those _ (f .definitions) v (u .1)));
+      }
+
+  -- "any assignment that gives the inputs" by names or by ids
+  from-ids : (ρ : ℕ → ℤ) (υ σ : Assignment) → Gives m ρ υ → ((v : ℕ) → IsInput m v → σ v ≡ υ v) → Gives m ρ σ
+  from-ids ρ υ σ g h = given-by (inputs m) (inputIds (numbered m)) g (members (λ i. σ i ≡ υ i) (inputIds (numbered m)) h)
+    where
+      given-by : (xs is : List ℕ) → Pointwise (λ x i. υ i ≡ ρ x) xs is → Statements.All (λ i. σ i ≡ υ i) is → Pointwise (λ x i. σ i ≡ ρ x) xs is
+      given-by [] [] p a = tt
+      given-by [] (i ∷ is) p a = absurd p
+      given-by (x ∷ xs) [] p a = absurd p
+      given-by (x ∷ xs) (i ∷ is) p a = (a .0 ∙ p .0, given-by xs is (p .1) (a .1))
+
+  to-ids : (ρ : ℕ → ℤ) (υ σ : Assignment) → Gives m ρ υ → Gives m ρ σ → (v : ℕ) → IsInput m v → σ v ≡ υ v
+  to-ids ρ υ σ g h v k = all-member (λ i. σ i ≡ υ i) v (inputIds (numbered m)) (same (inputs m) (inputIds (numbered m)) g h) k
+    where
+      same : (xs is : List ℕ) → Pointwise (λ x i. υ i ≡ ρ x) xs is → Pointwise (λ x i. σ i ≡ ρ x) xs is → Statements.All (λ i. σ i ≡ υ i) is
+      same [] [] p q = tt
+      same [] (i ∷ is) p q = absurd p
+      same (x ∷ xs) [] p q = absurd p
+      same (x ∷ xs) (i ∷ is) p q = (q .0 ∙ sym (p .0), same xs is (p .1) (q .1))
+
+-- the inputs' elements by id, 0 elsewhere
+named-or : (ℕ → ℤ) → Option ℕ → ℤ
+named-or ρ none = pos 0
+named-or ρ (some x) = ρ x
+
+by-id : Module → (ℕ → ℤ) → Assignment
+by-id m ρ i = named-or ρ (nameOf i (namesOf m .globals))
+
+by-id-elements : (m : Module) (ρ : ℕ → ℤ) → ((x : ℕ) → elem P (ρ x) ≡ ρ x) → Elements (by-id m ρ)
+unfolding by-id named-or
+by-id-elements m ρ c i = go (nameOf i (namesOf m .globals))
+  where
+    go : (o : Option ℕ) → elem P (named-or ρ o) ≡ named-or ρ o
+    go none = zero-element
+    go (some x) = c x
+
+by-id-gives : (m : Module) (ρ : ℕ → ℤ) → Gives m ρ (by-id m ρ)
+unfolding by-id named-or
+by-id-gives m ρ =
+    let s = module-step m .rest in
+    pointwise-map (λ x i e. ap (named-or ρ) (falling-named _ _ (s .grown .well .falling) x i e)) (inputs m) (inputIds (numbered m)) (s .free)
+
+-- for an evaluated plain module
+module _ (m : Module) (plain : isPlain m ≡ true) (capacity : ℕ) (f : FlatModule) (e : evaluated capacity (numbered m) ≡ flat f) (c : ConstraintModule) (is-cut : cutOf f ≡ cut c) (ρ : ℕ → ℤ) (elements : (x : ℕ) → elem P (ρ x) ≡ ρ x) (no-zero : NoDivisorZero m ρ) where
+  υ : Assignment
+  υ = by-id m ρ
+
+  shape : PlainFlat m f
+  shape = plain-modules-agree m plain capacity f e .0
+
+  says : SaysTheSame m ρ f υ (workedOut (f .definitions) υ)
+  unfolding υ
+  says = plain-modules-agree m plain capacity f e .1 ρ elements no-zero (by-id m ρ) (by-id-elements m ρ elements) (by-id-gives m ρ)
+
+  keeps : KeepsMeaning f c (IsInput m) υ (workedOut (f .definitions) υ)
+  unfolding counted classifyDefs
+  keeps = cut-keeps-meaning-at f c (shape .well-formed) is-cut (IsInput m) (has-inputs m f shape) υ (workedOut (f .definitions) υ) (says .elements) (says .inputs-kept) (all-those _ _ _ (all-those _ _ (f .definitions) (says .definitions-hold)))
+
+  by-ids : (σ : Assignment) → Solves m c ρ σ → Constraints.Solution (IsInput m) c υ σ
+  unfolding υ
+  by-ids σ s = record { elements = s .elements; inputs = to-ids m f shape ρ υ σ (by-id-gives m ρ) (s .given); fulfils = s .fulfils }
+
+  by-names : (σ : Assignment) → Constraints.Solution (IsInput m) c υ σ → Solves m c ρ σ
+  unfolding υ
+  by-names σ s = record { elements = s .elements; given = from-ids m f shape ρ υ σ (by-id-gives m ρ) (s .inputs); fulfils = s .fulfils }
+
+  agrees-at : Agrees m c ρ
+  agrees-at = record {
+    agrees = (
+      (λ h. let r = keeps .agrees .0 (says .equations-agree .0 h) in (r .0, by-names (r .0) (r .1))),
+      (λ s. says .equations-agree .1 (keeps .agrees .1 (s .0, by-ids (s .0) (s .1)))),
+    );
+    unique = λ σ τ s r. keeps .unique σ τ (by-ids σ s) (by-ids τ r);
+  }
+
+-- THE THEOREM
+pub agreement : Agreement
+unfolding flattenedOf passed
+agreement m plain capacity c e ρ elements no-zero = go (evaluated capacity (numbered m)) refl e
+  where
+    go : (r : Evaluated) → evaluated capacity (numbered m) ≡ r → passed r ≡ cut c → Agrees m c ρ
+    go (flat f) h k = agrees-at m plain capacity f h c k ρ elements no-zero
+    go (refusal n) h k = absurd (let z : _≡_ {A = ℕ} 0 1 = cc in omega arith)
+
+-- 22 does not arise: an accepted plain module is cut, or refused because an id passes 65,535
+and-true : (a b : Bool) → a ≡ true → b ≡ true → (a && b) ≡ true
+and-true true b p q = q
+and-true false b p q = p
+
+cuttable-expr : (e : Flat) → Cuttable e → cuttableExpr e ≡ true
+unfolding cuttableExpr cuttable
+cuttable-expr (Flat.infixed Divide a b) h = and-true _ _ (cuttable-expr a (h .0)) (cuttable-expr b (h .1))
+cuttable-expr (Flat.infixed DivideZ a b) h = and-true _ _ (cuttable-expr a (h .0)) (cuttable-expr b (h .1))
+cuttable-expr (Flat.infixed Multiply a b) h = and-true _ _ (cuttable-expr a (h .0)) (cuttable-expr b (h .1))
+cuttable-expr (Flat.infixed Add a b) h = and-true _ _ (cuttable-expr a (h .0)) (cuttable-expr b (h .1))
+cuttable-expr (Flat.infixed Subtract a b) h = and-true _ _ (cuttable-expr a (h .0)) (cuttable-expr b (h .1))
+cuttable-expr (Flat.infixed Equal a b) h = absurd h
+cuttable-expr (Flat.infixed Exponentiate a b) h = absurd h
+cuttable-expr (Flat.infixed IntDivide a b) h = and-true _ _ (cuttable-expr a (h .0)) (cuttable-expr b (h .1))
+cuttable-expr (Flat.infixed Modulo a b) h = and-true _ _ (cuttable-expr a (h .0)) (cuttable-expr b (h .1))
+cuttable-expr (Flat.negate a) h = cuttable-expr a h
+cuttable-expr (Flat.constant c) h = refl
+cuttable-expr (Flat.variable v) h = refl
+
+cuttable-definitions : (ds : List Definition) → All (λ d. Cuttable (d .right)) ds → cuttableDefs ds ≡ true
+unfolding cuttableDefs
+cuttable-definitions [] h = refl
+cuttable-definitions (d ∷ ds) h = and-true _ _ (cuttable-expr (d .right) (h .0)) (cuttable-definitions ds (h .1))
+
+cuttable-equations : (es : List Equation) → All (λ e. Cuttable (e .left) × Cuttable (e .right)) es → cuttableEquations es ≡ true
+unfolding cuttableEquations
+cuttable-equations [] h = refl
+cuttable-equations (e ∷ es) h = and-true _ _ (cuttable-expr (e .left) (h .0 .0)) (and-true _ _ (cuttable-expr (e .right) (h .0 .1)) (cuttable-equations es (h .1)))
+
+pub plain-not-22 : (m : Module) → isPlain m ≡ true → (capacity : ℕ) (f : FlatModule) → evaluated capacity (numbered m) ≡ flat f → flattenedOf capacity m ≡ fitting (passes f)
+unfolding flattenedOf passed cutOf unless counted classifyDefs
+plain-not-22 m plain capacity f e =
+    let w = plain-modules-agree m plain capacity f e .0 in
+    ap passed e
+    ∙ ap (λ (b : Bool). unless b 22 (fitting (passes f)))
+    (and-true _ _ (cuttable-definitions (counted f) (all-those _ _ _ (all-those _ _ (f .definitions) (w .definitions-cuttable)))) (cuttable-equations (f .equations) (w .equations-cuttable)))

@@ -1,0 +1,4 @@
+pub mod Agreement
+pub mod Cases
+pub mod Example
+pub mod Operators

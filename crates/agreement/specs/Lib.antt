@@ -1,0 +1,2 @@
+pub mod Flattened
+pub mod Statement

@@ -1,0 +1,1 @@
+// A plain module and its equalities say the same.

@@ -1,0 +1,4 @@
+pub mod Turns
+pub mod Delivered
+pub mod Building
+pub mod Answers

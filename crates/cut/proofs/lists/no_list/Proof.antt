@@ -1,0 +1,12 @@
+-- `cut::lists::no_list` meets its contract. Assumes nothing.
+use Rattle.cut.proofs.lists.no_list.Statement.{statement}
+use Rattle.cut.proofs.lists.no_list.Tie as tie
+use mathlib.Core.Path.{refl}
+use Rattle.cut.specs.Body.{noList}
+
+returns : tie.Need-returns
+unfolding noList
+returns c = refl
+
+pub no-list-spec : {M : Type 1} → statement M
+no-list-spec = tie.close (tie.spec returns)

@@ -1,0 +1,2 @@
+pub mod Body
+pub mod Cut

@@ -1,0 +1,48 @@
+-- Equalities in the words of a constraint record, and the text of a record. For a reader with document 01, "Constraint record", beside it.
+-- That the bytes of a constraint list have the text of the list: `text-listed` in proofs/Listed.antt.
+use mathlib.Core.List.{List, [], _++_}
+use Prim.Native.Nat.{ℕ, zero, suc, _+_}
+use lib.Dec.{eqb, leb}
+use mir.Val.{SFits, toZ}
+use mir.Syntax.{w32}
+use Rattle.words.specs.Words.{wordAt}
+use Rattle.flat.specs.Record.{pick, operatorOf}
+use Rattle.constraint.specs.declared.Term.{Term}
+use Rattle.constraint.specs.declared.Operation.{Operation}
+use Rattle.constraint.specs.declared.Equality.{Equality as Written}
+use Rattle.listing.specs.Text.{equalityText, nextText}
+
+-- "operation (0 to 8, 9 negate, 10 copy)"
+unfoldable pub operationOf : ℕ → Operation
+operationOf n = pick (leb n 8) (Operation.Infix (operatorOf n)) (pick (eqb n 9) Operation.Negate Operation.Copy)
+
+-- "0 and an id, or 1 and a number"
+unfoldable pub termOf : ℕ → ℕ → Term
+termOf kind w = pick (eqb kind 0) (Term.Variable w) (Term.Constant (toZ w32 w))
+
+-- "seven words: left term, operation, two terms"
+unfoldable pub equalityAt : List ℕ → ℕ → Written
+equalityAt b at =
+    record {
+      left = termOf (wordAt b at) (wordAt b (at + 1));
+      operation = operationOf (wordAt b (at + 2));
+      first = termOf (wordAt b (at + 3)) (wordAt b (at + 4));
+      second = termOf (wordAt b (at + 5)) (wordAt b (at + 6));
+    }
+
+-- n lines, of the equalities from word `at` on
+unfoldable pub linesFrom : List ℕ → ℕ → ℕ → List ℕ
+linesFrom b at zero = []
+linesFrom b at (suc n) = equalityText (equalityAt b at) ++ linesFrom b (at + 7) n
+
+-- the text of a record's bytes. "Words: next id, counts of publics, prover ids, equalities, [...]; then the lists"
+unfoldable pub textOf : List ℕ → List ℕ
+textOf b = nextText (wordAt b 0) ++ linesFrom b (6 + wordAt b 1 + wordAt b 2) (wordAt b 3)
+
+-- "constants in records are signed 32-bit"
+abbrev pub Small : Term → Type 0
+Small (Term.Variable v) = Unit {0}
+Small (Term.Constant c) = SFits w32 c
+
+abbrev pub SmallWritten : Written → Type 0
+SmallWritten q = Small (q .left) × Small (q .first) × Small (q .second)

@@ -1,0 +1,131 @@
+// Variable numbering: names become ids.
+mod expressions;
+mod listing;
+mod patterns;
+mod registering;
+mod rows;
+
+use listing::number_definitions;
+use listing::number_expressions;
+use registering::number_publics;
+use registering::register;
+use source::Checked;
+use source::Layout;
+use source::check_source;
+use source::layout_of;
+ghost use mathlib.Core.Path.{_≡_};
+ghost use mathlib.Core.Bool.{true};
+ghost use mathlib.Core.List.{[]};
+ghost use Prim.Native.Nat.{_+_, _*_, _≤_, _<_};
+ghost use lib.ListN.{length};
+ghost use Rattle.source.specs.Indices.{rows};
+ghost use Rattle.source.specs.Layout.{layoutOf};
+ghost use Rattle.source.specs.Names.{namesFit, nameOf};
+ghost use Rattle.source.specs.Readable.{Readable};
+ghost use Rattle.numbering.specs.Numbering.{registered};
+ghost use Rattle.numbering.specs.Numbers.{NumberedIn};
+ghost use Rattle.numbering.specs.Outcome.{Outcome};
+ghost use Rattle.numbering.specs.Walks.{Holds, noRow, noEntries};
+
+// The next free id, or the record's refusal.
+pub enum Numbered {
+    Next(u32),
+    Refused(u32),
+}
+
+fn no_row() -> [u32; 512]
+    ensures { λ r. ⌜ r ≡ noRow ⌝ }
+{
+    [0u32; 512]
+}
+
+fn no_entries() -> [u32; 2048]
+    ensures { λ r. ⌜ r ≡ noEntries ⌝ }
+{
+    [0u32; 2048]
+}
+
+// fresh, iter and fold, as transform.rs registers them.
+fn register_intrinsics(s: &[u8], text: usize, count: usize, globals: &mut [u32; 512])
+    requires { ⌜ ((namesFit (now s) text count ≡ true) × (4 * (5 + 2 * count) ≤ length (now s))) × ((count ≤ 512) × (length (now globals) ≡ 512)) ⌝ }
+    ensures { λ r. ⌜ (length (now (globals .exit)) ≡ 512) × (Holds (now (globals .entry)) [] → Holds (now (globals .exit)) (registered (rows count 0 (nameOf (now (s .entry)) text)) .globals)) ⌝ }
+{
+    register(s, text, count, b"fresh", 0, globals);
+    register(s, text, count, b"iter", 2, globals);
+    register(s, text, count, b"fold", 5, globals);
+}
+
+// The lists of a record with this layout, where the globals hold what is registered.
+fn number_lists(
+    s: &[u8],
+    l: Layout,
+    globals: &mut [u32; 512],
+    ids: &mut [u32; 2048],
+    publics: &mut [u32; 64],
+) -> u32
+    requires { ⌜ (Readable (now s) × (l ≡ layoutOf (now s))) × ((length (now globals) ≡ 512) × ((length (now ids) ≡ 2048) × (length (now publics) ≡ 64))) ⌝ }
+    requires { ⌜ Holds (now globals) (registered (rows (l .names) 0 (nameOf (now s) (l .«text_at»))) .globals) ⌝ }
+    ensures { λ r. ⌜ NumberedIn (now (s .entry)) (now (ids .entry)) (now (publics .entry)) r (now (ids .exit)) (now (publics .exit)) ⌝ }
+{
+    let mut locals = no_row();
+    let mut undo = no_entries();
+    let mut old = no_entries();
+    let one = number_publics(
+        s,
+        l.names,
+        l.publics_at,
+        l.publics,
+        &locals,
+        globals,
+        publics,
+        9,
+    );
+    let two = number_definitions(
+        s,
+        l.nodes_at,
+        l.nodes,
+        l.definitions_at,
+        l.definitions,
+        &mut locals,
+        globals,
+        &mut undo,
+        &mut old,
+        ids,
+        one,
+    );
+    number_expressions(
+        s,
+        l.nodes_at,
+        l.nodes,
+        l.expressions_at,
+        l.expressions,
+        &mut locals,
+        globals,
+        &mut undo,
+        &mut old,
+        ids,
+        two,
+    )
+}
+
+// A record that is accepted: the id of every node that has a name goes to its index, that of every public to its position.
+pub fn number_checked(s: &[u8], ids: &mut [u32; 2048], publics: &mut [u32; 64]) -> u32
+    requires { ⌜ Readable (now s) × ((length (now ids) ≡ 2048) × (length (now publics) ≡ 64)) ⌝ }
+    ensures { λ r. ⌜ NumberedIn (now (s .entry)) (now (ids .entry)) (now (publics .entry)) r (now (ids .exit)) (now (publics .exit)) ⌝ }
+{
+    let l = layout_of(s);
+    let mut globals = no_row();
+    register_intrinsics(s, l.text_at, l.names, &mut globals);
+    number_lists(s, l, &mut globals, ids, publics)
+}
+
+// Any bytes: refused as the record is, with the arrays as they were, or numbered.
+pub fn number_module_variables(s: &[u8], ids: &mut [u32; 2048], publics: &mut [u32; 64]) -> Numbered
+    requires { ⌜ (length (now ids) ≡ 2048) × (length (now publics) ≡ 64) ⌝ }
+    ensures { λ r. ⌜ Outcome (now (s .entry)) (now (ids .entry)) (now (publics .entry)) r (now (ids .exit)) (now (publics .exit)) ⌝ }
+{
+    match check_source(s) {
+        Checked::Accepted => Numbered::Next(number_checked(s, ids, publics)),
+        Checked::Refused(n) => Numbered::Refused(n),
+    }
+}

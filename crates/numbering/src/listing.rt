@@ -1,0 +1,85 @@
+// The definitions and the expressions of a module, from the first to the last.
+use super::expressions::number_expr_variables;
+use super::patterns::number_pattern_variables;
+ghost use mathlib.Core.Path.{_≡_};
+ghost use mathlib.Core.Bool.{true};
+ghost use Prim.Native.Nat.{_+_, _*_, _-_, _≤_, _<_};
+ghost use lib.ListN.{length};
+ghost use Rattle.source.specs.Nodes.{isPattern, definitionsFit, expressionsFit};
+ghost use Rattle.numbering.specs.Walks.{Sizes, ReadyTwo, ReadyDefinitions, ReadyExpressions, DefinitionWalk, DefinitionsWalk, ExpressionsWalk};
+
+// The definition of pattern p by value v: its value before its pattern, whose names stay bound.
+fn number_def_variables(
+    s: &[u8],
+    at: usize,
+    n: usize,
+    p: usize,
+    v: usize,
+    locals: &mut [u32; 512],
+    globals: &mut [u32; 512],
+    undo: &mut [u32; 2048],
+    old: &mut [u32; 2048],
+    ids: &mut [u32; 2048],
+    next: u32,
+) -> u32
+    requires { ⌜ ReadyTwo (now s) at n isPattern n p v next 0 × (Sizes (now locals) (now undo) (now old) (now ids) × (length (now globals) ≡ 512)) ⌝ }
+    ensures { λ r. ⌜ DefinitionWalk (now (s .entry)) at n p v next (now (locals .entry)) (now (globals .entry)) (now (ids .entry)) r (now (locals .exit)) (now (globals .exit)) (now (undo .exit)) (now (old .exit)) (now (ids .exit)) ⌝ }
+{
+    let one = number_expr_variables(s, at, n, v, locals, globals, undo, old, ids, next, 0);
+    number_pattern_variables(s, at, n, p, locals, undo, old, ids, one, 0)
+}
+
+// The definitions whose pairs start at word `list`.
+pub fn number_definitions(
+    s: &[u8],
+    at: usize,
+    n: usize,
+    list: usize,
+    count: usize,
+    locals: &mut [u32; 512],
+    globals: &mut [u32; 512],
+    undo: &mut [u32; 2048],
+    old: &mut [u32; 2048],
+    ids: &mut [u32; 2048],
+    next: u32,
+) -> u32
+    requires { ⌜ ((4 * (list + 2 * count) ≤ length (now s)) × (definitionsFit (now s) at n list count ≡ true)) × (ReadyDefinitions (now s) at n list count 0 next × (Sizes (now locals) (now undo) (now old) (now ids) × (length (now globals) ≡ 512))) ⌝ }
+    ensures { λ r. ⌜ DefinitionsWalk (now (s .entry)) at n list count 0 next (now (locals .entry)) (now (globals .entry)) (now (ids .entry)) r (now (locals .exit)) (now (globals .exit)) (now (undo .exit)) (now (old .exit)) (now (ids .exit)) ⌝ }
+{
+    let mut i = 0usize;
+    let mut one = next;
+    while i < count {
+        let p = words::word_at(s, list + 2 * i) as usize;
+        let v = words::word_at(s, list + 2 * i + 1) as usize;
+        one = number_def_variables(s, at, n, p, v, locals, globals, undo, old, ids, one);
+        i += 1;
+    }
+    one
+}
+
+// The expressions whose nodes start at word `list`.
+pub fn number_expressions(
+    s: &[u8],
+    at: usize,
+    n: usize,
+    list: usize,
+    count: usize,
+    locals: &mut [u32; 512],
+    globals: &mut [u32; 512],
+    undo: &mut [u32; 2048],
+    old: &mut [u32; 2048],
+    ids: &mut [u32; 2048],
+    next: u32,
+) -> u32
+    requires { ⌜ ((4 * (list + count) ≤ length (now s)) × (expressionsFit (now s) at n list count ≡ true)) × (ReadyExpressions (now s) at n list count 0 next × (Sizes (now locals) (now undo) (now old) (now ids) × (length (now globals) ≡ 512))) ⌝ }
+    ensures { λ r. ⌜ ExpressionsWalk (now (s .entry)) at n list count 0 next 0 (now (locals .entry)) (now (globals .entry)) (now (undo .entry)) (now (old .entry)) (now (ids .entry)) r (now (locals .exit)) (now (globals .exit)) (now (undo .exit)) (now (old .exit)) (now (ids .exit)) ⌝ }
+{
+    let mut i = 0usize;
+    let mut one = next;
+    while i < count {
+        let e = words::word_at(s, list + i) as usize;
+        one = number_expr_variables(s, at, n, e, locals, globals, undo, old, ids, one, 0);
+        i += 1;
+    }
+    one
+}

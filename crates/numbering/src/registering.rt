@@ -1,0 +1,72 @@
+// What stands among the globals before definitions: fresh, iter and fold, found by their texts, and the publics.
+use super::rows::Drawn;
+use super::rows::number_variable;
+ghost use mathlib.Core.Path.{_≡_};
+ghost use mathlib.Core.Bool.{true};
+ghost use Prim.Native.Nat.{_+_, _*_, _≤_, _<_};
+ghost use lib.ListN.{length, take, drop};
+ghost use Rattle.source.specs.Names.{namesFit};
+ghost use Rattle.source.specs.Nodes.{publicsFit};
+ghost use Rattle.numbering.specs.Numbering.{sameText};
+ghost use Rattle.numbering.specs.Walks.{Published, Registered};
+
+// Whether the n bytes from `from` on are the text t.
+fn same_text(s: &[u8], from: usize, n: usize, t: &[u8]) -> bool
+    requires { ⌜ from + n ≤ length (now s) ⌝ }
+    ensures { λ r. ⌜ r ≡ sameText (now (t .entry)) (take n (drop from (now (s .entry)))) ⌝ }
+{
+    if n != t.len() {
+        return false;
+    }
+    let mut i = 0usize;
+    while i < n {
+        if t[i] != s[from + i] {
+            return false;
+        }
+        i += 1;
+    }
+    true
+}
+
+// The name that is the text t, if there is one, has this id.
+pub fn register(s: &[u8], text: usize, count: usize, t: &[u8], id: u32, globals: &mut [u32; 512])
+    requires { ⌜ ((namesFit (now s) text count ≡ true) × (4 * (5 + 2 * count) ≤ length (now s))) × (((count ≤ 512) × (length (now globals) ≡ 512)) × (id < 65536)) ⌝ }
+    ensures { λ r. ⌜ Registered (now (s .entry)) (now (t .entry)) text count id (now (globals .entry)) (now (globals .exit)) ⌝ }
+{
+    let mut k = 0usize;
+    while k < count {
+        let offset = words::word_at(s, 5 + 2 * k) as usize;
+        let n = words::word_at(s, 5 + 2 * k + 1) as usize;
+        if same_text(s, text + offset, n, t) {
+            globals[k] = id + 1;
+            return;
+        }
+        k += 1;
+    }
+}
+
+// The publics whose names start at word `list`: globals, never locals.
+pub fn number_publics(
+    s: &[u8],
+    names: usize,
+    list: usize,
+    count: usize,
+    locals: &[u32; 512],
+    globals: &mut [u32; 512],
+    publics: &mut [u32; 64],
+    next: u32,
+) -> u32
+    requires { ⌜ ((4 * (list + count) ≤ length (now s)) × (publicsFit (now s) names list count ≡ true)) × (((names ≤ 512) × (count ≤ 64)) × ((length (now globals) ≡ 512) × ((length (now publics) ≡ 64) × (next ≤ 9)))) ⌝ }
+    ensures { λ r. ⌜ Published (now (s .entry)) list count 0 next (now (locals .entry)) (now (globals .entry)) (now (publics .entry)) r (now (globals .exit)) (now (publics .exit)) ⌝ }
+{
+    let mut i = 0usize;
+    let mut one = next;
+    while i < count {
+        let x = words::word_at(s, list + i) as usize;
+        let drawn = number_variable(x, locals, globals, one);
+        publics[i] = drawn.id;
+        one = drawn.next;
+        i += 1;
+    }
+    one
+}

@@ -1,0 +1,13 @@
+pub mod Powers
+pub mod Values
+pub mod Terms
+pub mod Steps
+pub mod Lets
+pub mod Modules
+pub mod Order
+pub mod OrderModules
+pub mod Numbered
+pub mod Working
+pub mod Divisors
+pub mod Agreement
+pub mod Example

@@ -1,0 +1,76 @@
+-- What is proved of an accepted plain module and its flat module, in proofs/Agreement.antt.
+use mathlib.Core.Path.{_≡_}
+use mathlib.Core.Bool.{true, false}
+use mathlib.Core.List.{[]}
+use mathlib.Core.Logic.{_↔_}
+use Prim.Native.Nat.{ℕ, _<_}
+use lib.IntN.{ℤ}
+use Rattle.field.specs.declared.InfixOp.the-variants.{Divide, DivideZ, Multiply, Add, Subtract, Equal, Exponentiate, IntDivide, Modulo}
+use Rattle.field.specs.Prime.{P}
+use Rattle.field.specs.Element.{elem}
+use Rattle.source.specs.Trees.{Module}
+use Rattle.flat.specs.Trees.{Flat, FlatModule, defines}
+use Rattle.flat.specs.Rules.{All, Every, WellFormed}
+use Rattle.flat.specs.Meaning.{Assignment, Elements, DefinitionHolds, EquationHolds, workedOut, NoZeroInTurn}
+use Rattle.numbering.specs.Numbering.{numbered}
+use Rattle.numbering.specs.Inputs.{member, inputs, inputIds}
+use Rattle.numbering.specs.Statements.{Pointwise}
+use Rattle.evaluation.specs.Evaluation.{flat, evaluated}
+use Rattle.plain.specs.Plain.{isPlain}
+use Rattle.plain.specs.Meaning.{Holds, NoDivisorZero}
+
+-- "An input's id is the one numbering gives its name in those uses"
+abbrev pub IsInput : Module → ℕ → Type 0
+IsInput m i = member i (inputIds (numbered m)) ≡ true
+
+-- υ gives the inputs' ids the elements that ρ gives their names
+abbrev pub Gives : Module → (ℕ → ℤ) → Assignment → Type 0
+Gives m ρ υ = Pointwise (λ x i. υ i ≡ ρ x) (inputs m) (inputIds (numbered m))
+
+-- an id that a list uses: an input, or one that it defines
+abbrev pub Known : Module → FlatModule → ℕ → Type 0
+Known m f v = defines (f .definitions) v ≡ false → IsInput m v
+
+-- without `^` and `=`, which the passes refuse (22)
+abbrev pub Cuttable : Flat → Type 0
+Cuttable (Flat.infixed Divide a b) = Cuttable a × Cuttable b
+Cuttable (Flat.infixed DivideZ a b) = Cuttable a × Cuttable b
+Cuttable (Flat.infixed Multiply a b) = Cuttable a × Cuttable b
+Cuttable (Flat.infixed Add a b) = Cuttable a × Cuttable b
+Cuttable (Flat.infixed Subtract a b) = Cuttable a × Cuttable b
+Cuttable (Flat.infixed Equal a b) = ⊥
+Cuttable (Flat.infixed Exponentiate a b) = ⊥
+Cuttable (Flat.infixed IntDivide a b) = Cuttable a × Cuttable b
+Cuttable (Flat.infixed Modulo a b) = Cuttable a × Cuttable b
+Cuttable (Flat.negate a) = Cuttable a
+Cuttable (Flat.constant c) = Unit {0}
+Cuttable (Flat.variable v) = Unit {0}
+
+-- what the flat module is, whatever the inputs' elements
+pub record PlainFlat (m : Module) (f : FlatModule) : Type 0 where
+  pub well-formed : WellFormed f
+  pub no-provers : f .provers ≡ []
+  -- its lists use inputs and what they define; no input is defined
+  pub definitions-known : All (λ d. Every (Known m f) (d .right)) (f .definitions)
+  pub equations-known : All (λ e. Every (Known m f) (e .left) × Every (Known m f) (e .right)) (f .equations)
+  pub inputs-undefined : (i : ℕ) → IsInput m i → (i < f .next) × (defines (f .definitions) i ≡ false)
+  -- 22 does not arise
+  pub definitions-cuttable : All (λ d. Cuttable (d .right)) (f .definitions)
+  pub equations-cuttable : All (λ e. Cuttable (e .left) × Cuttable (e .right)) (f .equations)
+
+-- what it says where ρ are the inputs' elements by name, υ by id, and τ the values of all its variables: its definitions worked out in order from υ
+pub record SaysTheSame (m : Module) (ρ : ℕ → ℤ) (f : FlatModule) (υ τ : Assignment) : Type 0 where
+  pub elements : Elements τ
+  pub inputs-kept : (i : ℕ) → IsInput m i → τ i ≡ υ i
+  pub no-zero-divisor : NoZeroInTurn (f .definitions) υ
+  pub definitions-hold : All (DefinitionHolds τ) (f .definitions)
+  pub equations-agree : Holds m ρ ↔ All (EquationHolds τ) (f .equations)
+
+-- NUMBERING AND EVALUATION KEEP WHAT A PLAIN MODULE SAYS
+abbrev pub PlainModulesAgree : Type 0
+PlainModulesAgree =
+    (m : Module) →
+    isPlain m ≡ true →
+    (capacity : ℕ) (f : FlatModule) →
+    evaluated capacity (numbered m) ≡ flat f →
+    PlainFlat m f × ((ρ : ℕ → ℤ) → ((x : ℕ) → elem P (ρ x) ≡ ρ x) → NoDivisorZero m ρ → (υ : Assignment) → Elements υ → Gives m ρ υ → SaysTheSame m ρ f υ (workedOut (f .definitions) υ))

@@ -1,0 +1,1 @@
+// Plain modules: what they mean, and that numbering and evaluation keep it.

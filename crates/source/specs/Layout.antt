@@ -1,0 +1,65 @@
+-- The layout of a source record with the bytes b: its counts, where its lists start, and what 1 and 2 say of them.
+use Prim.Native.Nat.{ℕ, _+_, _*_}
+use mathlib.Core.List.{List}
+use mathlib.Core.Bool.{Bool, _&&_, _||_}
+use lib.ListN.{length}
+use lib.Dec.{leb, ltb, eqb}
+use Rattle.words.specs.Words.{wordAt}
+use Rattle.source.specs.declared.Layout.{Layout}
+
+module _ (b : List ℕ) where
+  -- "Header: counts of names (to 512), publics (to 64), definitions (to 512), expressions (to 512), nodes (to 2,048)"
+  abbrev pub names : ℕ
+  names = wordAt b 0
+
+  abbrev pub publics : ℕ
+  publics = wordAt b 1
+
+  abbrev pub definitions : ℕ
+  definitions = wordAt b 2
+
+  abbrev pub expressions : ℕ
+  expressions = wordAt b 3
+
+  abbrev pub nodes : ℕ
+  nodes = wordAt b 4
+
+  -- "Then one pair of offset and length per name; public name indices; definition pairs; expression nodes; nodes of four words": the word at which each starts; the names' pairs start at word 5
+  abbrev pub publicsAt : ℕ
+  publicsAt = 5 + 2 * names
+
+  abbrev pub definitionsAt : ℕ
+  definitionsAt = publicsAt + publics
+
+  abbrev pub expressionsAt : ℕ
+  expressionsAt = definitionsAt + 2 * definitions
+
+  abbrev pub nodesAt : ℕ
+  nodesAt = expressionsAt + expressions
+
+  -- "last the name text": the byte at which it starts
+  abbrev pub textAt : ℕ
+  textAt = 4 * (nodesAt + 4 * nodes)
+
+-- the counts and places, as the code has them
+unfoldable pub layoutOf : List ℕ → Layout
+layoutOf b = record {
+  names = names b;
+  publics = publics b;
+  definitions = definitions b;
+  expressions = expressions b;
+  nodes = nodes b;
+  «publics_at» = publicsAt b;
+  «definitions_at» = definitionsAt b;
+  «expressions_at» = expressionsAt b;
+  «nodes_at» = nodesAt b;
+  «text_at» = textAt b;
+}
+
+-- not 2: no "count over its limit"
+unfoldable pub counted : List ℕ → Bool
+counted b = leb (names b) 512 && (leb (publics b) 64 && (leb (definitions b) 512 && (leb (expressions b) 512 && leb (nodes b) 2048)))
+
+-- not 1 after a whole header: no "file shorter than its lists", no "text without names"
+unfoldable pub listed : List ℕ → Bool
+listed b = leb (textAt b) (length b) && (ltb 0 (names b) || eqb (length b) (textAt b))
