@@ -2,7 +2,7 @@
 use mathlib.Core.Path.{_≡_, refl, sym, ap, ap₂, _∙_}
 use mathlib.Core.List.{List, [], _∷_, _++_}
 use mathlib.Core.Bool.{Bool, true, false, not}
-use Prim.Native.Nat.{ℕ, zero, suc, _+_, _≤_, _<_}
+use Prim.Native.Nat.{ℕ, zero, suc, _+_}
 use native.Mathlib.Omega.{arith}
 use lib.ListN.{length, getD}
 use lib.Dec.{eqb}
@@ -10,7 +10,7 @@ use borrow.Author.Tests.{eq-eqb, ne-eqb}
 use Rattle.flat.specs.Trees.{Flat, Definition, treeNodes, definitionsNodes}
 use Rattle.flat.specs.Record.{moduleOf}
 use Rattle.constraint.specs.declared.Term.{Term}
-use Rattle.passes.specs.Passes.{member, keepIf, those, Usage, isNever, usage, classifyDefs, Substitutions, copyPropagateExpr, substituting, copyPropagateDef, afterDef, copyPropagateDefs, afterDefs, Cuts, cutsOf, joined, flattenDefTo3ac, flattenDefs}
+use Rattle.passes.specs.Passes.{member, keepIf, those, Usage, isNever, usage, Substitutions, copyPropagateExpr, substituting, copyPropagateDef, afterDef, copyPropagateDefs, afterDefs, Cuts, cutsOf, joined, flattenDefTo3ac, flattenDefs}
 use Rattle.passes.proofs.Loops.{those-append, copies-append, after-append, defs-append}
 use Rattle.classify.specs.Arrays.{usageAt, usageOf, marked, Classified}
 use Rattle.copies.specs.Substituted.{substOf}
@@ -21,7 +21,7 @@ use Rattle.classify.specs.Arrays.{proversOf, usedOf}
 use Rattle.cutting.specs.Cutting.{targetOf, treeCut, putEqualities, placeFrom, defsCut, defsAfter, Room}
 use Rattle.cutting.proofs.Trees.{cut-few, cut-ids}
 use Rattle.cutting.proofs.Ways.{Leaves}
-use Rattle.cutting.proofs.Joining.{Puts, place-next, puts-none, puts-tree, puts-join, joined-none, Few, few-none, few-join, few-less, room-puts}
+use Rattle.cutting.proofs.Joining.{place-next, puts-none, puts-tree, puts-join, joined-none, Few, few-none, few-join, few-less, room-puts}
 
 -- ---- what the arrays say of an id
 

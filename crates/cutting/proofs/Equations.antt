@@ -1,15 +1,14 @@
 -- Equations: one by its sides' roots, a list by its first. Assumes nothing.
 use mathlib.Core.Path.{_≡_, refl, sym, ap, ap₂, _∙_}
-use mathlib.Core.List.{List, [], _∷_, _++_}
-use mathlib.Core.Bool.{Bool, true, false, not}
-use mathlib.Core.Option.{none, some}
-use Prim.Native.Nat.{ℕ, zero, suc, _+_, _*_, _≤_, _<_}
+use mathlib.Core.List.{List, [], _∷_}
+use mathlib.Core.Bool.{Bool, true, false}
+use Prim.Native.Nat.{ℕ, _+_, _*_, _≤_, _<_}
 use native.Mathlib.Omega.{arith}
 use lib.IntN.{ℤ}
 use lib.ListN.{length, length-append}
 use Rattle.flat.specs.Trees.{Flat, Equation, treeNodes, equationsNodes}
 use Rattle.constraint.specs.declared.Term.{Term}
-use Rattle.passes.specs.Passes.{keepIf, toExpr, Substitutions, copyPropagateExpr, copyPropagateEquations, dead, alive, Cut as Cutting, copied, flattenExprTo3ac, Cuts, cutsOf, joined, Sides as SidesOf, into, both, sides, flattenSides, flattenEquations}
+use Rattle.passes.specs.Passes.{keepIf, Substitutions, copyPropagateExpr, copyPropagateEquations, dead, alive, Cut as Cutting, copied, Cuts, cutsOf, joined, Sides as SidesOf, into, both, sides, flattenSides, flattenEquations}
 use Rattle.passes.proofs.Loops.{copied-equations-append, alive-append, equations-append}
 use Rattle.copies.specs.declared.Copied.{Copied}
 use Rattle.copies.specs.Substituted.{copiedOf, deadRoots}
@@ -19,10 +18,10 @@ use Rattle.cutting.specs.declared.Cut.{Cut}
 use Rattle.cutting.specs.declared.Place.{Place}
 use Rattle.cutting.specs.declared.Sides.{Sides}
 use Rattle.cutting.specs.declared.Sides.the-variants.{Left, Right, Neither}
-use Rattle.cutting.specs.Cutting.{targetOf, treeCut, after, cutFrom, sidesOf, equationsCut, Room}
+use Rattle.cutting.specs.Cutting.{targetOf, treeCut, after, sidesOf, equationsCut, Room}
 use Rattle.cutting.proofs.Trees.{term-cut, cut-new-few, cut-few, cut-ids}
 use Rattle.cutting.proofs.Placing.{length-put}
-use Rattle.cutting.proofs.Ways.{Leaves, its-term, its-next, its-at, room-on}
+use Rattle.cutting.proofs.Ways.{Leaves, its-term, its-next, its-at}
 use Rattle.cutting.proofs.Joining.{Puts, place-next, puts-none, puts-tree, puts-join, joined-none, Few, few-none, few-join, few-less, room-puts}
 
 -- ---- which side is the left term

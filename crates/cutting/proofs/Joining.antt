@@ -1,14 +1,14 @@
 -- Cuts put one after the other, and the room that they leave. Assumes nothing.
-use mathlib.Core.Path.{_≡_, refl, sym, ap, ap₂, _∙_}
-use mathlib.Core.List.{List, [], _∷_, _++_, append-nil}
-use Prim.Native.Nat.{ℕ, _+_, _*_, _≤_, _<_}
+use mathlib.Core.Path.{_≡_, sym, ap, ap₂, _∙_}
+use mathlib.Core.List.{List, [], append-nil}
+use Prim.Native.Nat.{ℕ, _+_, _≤_}
 use native.Mathlib.Omega.{arith}
 use lib.ListN.{length, length-append}
 use Rattle.constraint.specs.Trees.{Equality}
 use Rattle.passes.specs.Passes.{Cut as Cutting, Cuts, cutsOf, joined}
 use Rattle.cutting.specs.declared.Cut.{Cut}
 use Rattle.cutting.specs.declared.Place.{Place}
-use Rattle.cutting.specs.Cutting.{putEqualities, after, cutFrom, placeFrom, Room}
+use Rattle.cutting.specs.Cutting.{putEqualities, after, placeFrom, Room}
 use Rattle.cutting.proofs.Placing.{put-none, after-none, put-append, after-append, length-put}
 use Rattle.cutting.proofs.Ways.{Leaves, its-next, its-at}
 

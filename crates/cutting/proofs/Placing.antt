@@ -1,27 +1,20 @@
 -- Equalities written one after the other are the list of them; what each way through the cut of a tree leaves. Assumes nothing.
-use mathlib.Core.Path.{_≡_, refl, sym, ap, ap₂, _∙_}
+use mathlib.Core.Path.{_≡_, refl, sym, ap, _∙_}
 use mathlib.Core.List.{List, [], _∷_, _++_, append-nil}
-use mathlib.Core.Option.{Option, none, some}
-use Prim.Native.Nat.{ℕ, suc, _+_, _*_, _≤_, _<_}
-use native.Mathlib.Numerals.{add-one}
+use Prim.Native.Nat.{ℕ, _+_}
 use native.Mathlib.Omega.{arith}
-use lib.IntN.{ℤ}
 use lib.ListN.{length, length-append}
 use Rattle.words.specs.Words.{setWords}
 use Rattle.words.proofs.Laws.{setWords-append, length-setWords}
-use Rattle.field.specs.declared.InfixOp.{InfixOp}
-use Rattle.flat.specs.Trees.{Flat, treeNodes}
 use Rattle.constraint.specs.declared.Term.{Term}
 use Rattle.constraint.specs.declared.Equality.{Equality as Written}
-use Rattle.constraint.specs.Trees.{Side, Equality, written}
+use Rattle.constraint.specs.Trees.{Side, Equality}
 use Rattle.constraint.specs.Record.{writtenWords, equalityWords, equalitiesWords}
 use Rattle.constraint.proofs.Lengths.{length-equalities, equalities-append}
-use Rattle.passes.specs.Passes.{Substitutions, walk, infixOp, Cut as Cutting, orVariable, pushConstraintDef, copied}
+use Rattle.passes.specs.Passes.{orVariable, copied}
 use Rattle.cutting.specs.declared.Target.{Target}
 use Rattle.cutting.specs.declared.Target.the-variants.{New, Given}
-use Rattle.cutting.specs.declared.Cut.{Cut}
-use Rattle.cutting.specs.Cutting.{equalityOf, targetOf, treeCut, putEqualities, after, cutFrom, Room}
-use Rattle.cutting.proofs.Trees.{cut-infix, cut-negate, cut-constant, cut-variable, cut-few, cut-new-few, cut-ids}
+use Rattle.cutting.specs.Cutting.{equalityOf, targetOf, putEqualities, after, cutFrom}
 
 -- ---- lists of equalities
 

@@ -1,8 +1,8 @@
 -- A tree with the substitutions made, cut: by its root; and how many equalities and ids the cut takes at most. Assumes nothing.
-use mathlib.Core.Path.{_≡_, refl, sym, ap, _∙_}
-use mathlib.Core.List.{List, [], _∷_, _++_}
+use mathlib.Core.Path.{_≡_, refl}
+use mathlib.Core.List.{List, _++_}
 use mathlib.Core.Option.{Option, none, some}
-use Prim.Native.Nat.{ℕ, suc, _+_, _≤_, _<_}
+use Prim.Native.Nat.{ℕ, _+_, _≤_, _<_}
 use native.Mathlib.Omega.{arith}
 use lib.IntN.{ℤ}
 use lib.ListN.{length, length-append}
@@ -14,10 +14,10 @@ use Rattle.flat.specs.Readable.{Inside}
 use Rattle.flat.proofs.Nodes.{tree-infix, tree-negate}
 use Rattle.classify.proofs.Walks.{left-inside, right-inside, child-inside}
 use Rattle.constraint.specs.declared.Term.{Term}
-use Rattle.constraint.specs.Trees.{Side, Equality}
+use Rattle.constraint.specs.Trees.{Side}
 use Rattle.passes.specs.Passes.{Substitutions, walk, toExpr, copyPropagateExpr, infixOp, Cut, pushConstraintDef, copied, flattenExprTo3ac}
 use Rattle.cutting.specs.declared.Target.{Target}
-use Rattle.cutting.specs.declared.Target.the-variants.{New, Given}
+use Rattle.cutting.specs.declared.Target.the-variants.{New}
 use Rattle.cutting.specs.Cutting.{targetOf, treeCut}
 
 -- a node's tree, by those of its children

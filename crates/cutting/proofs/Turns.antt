@@ -1,13 +1,13 @@
 -- The loops over definitions and equations: where they start, a turn, and where they end. Assumes nothing.
-use mathlib.Core.Path.{_≡_, refl, sym, ap, _∙_}
+use mathlib.Core.Path.{_≡_, ap}
 use mathlib.Core.List.{List, [], _∷_}
 use Prim.Native.Nat.{ℕ, _+_, _*_, _≤_, _<_}
 use native.Mathlib.Omega.{arith}
 use lib.ListN.{length}
 use Rattle.words.specs.Words.{wordAt}
-use Rattle.flat.specs.Trees.{Flat, Definition, Equation, treeNodes, definitionsNodes, equationsNodes}
+use Rattle.flat.specs.Trees.{Flat, Definition, treeNodes, definitionsNodes, equationsNodes}
 use Rattle.flat.specs.Record.{definitions, equations, tree, moduleOf}
-use Rattle.flat.specs.Readable.{Readable, Inside}
+use Rattle.flat.specs.Readable.{Readable}
 use Rattle.passes.specs.Passes.{Substitutions}
 use Rattle.classify.proofs.Lists.{definitionsFrom, equationsFrom, definitions-none, equations-none, definitions-whole, equations-whole, OverDefinitions, OverEquations, definitions-more, equations-more}
 use Rattle.copies.specs.Substituted.{substOf}

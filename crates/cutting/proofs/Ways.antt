@@ -1,8 +1,8 @@
 -- The ways through the cut of a tree: from what the calls say, in the order of the code, to the whole. Assumes nothing.
 use mathlib.Core.Path.{_≡_, refl, sym, ap, ap₂, _∙_}
 use mathlib.Core.List.{List, [], _∷_, _++_}
-use mathlib.Core.Option.{Option, none, some}
-use Prim.Native.Nat.{ℕ, suc, _+_, _*_, _≤_, _<_}
+use mathlib.Core.Option.{Option}
+use Prim.Native.Nat.{ℕ, _+_, _*_, _≤_, _<_}
 use native.Mathlib.Numerals.{add-one}
 use native.Mathlib.Omega.{arith}
 use lib.IntN.{ℤ}
@@ -16,10 +16,10 @@ use Rattle.constraint.specs.Trees.{Side, Equality, written}
 use Rattle.constraint.specs.Record.{writtenWords}
 use Rattle.passes.specs.Passes.{Substitutions, walk, infixOp, Cut as Cutting, orVariable, pushConstraintDef, copied}
 use Rattle.cutting.specs.declared.Target.{Target}
-use Rattle.cutting.specs.declared.Target.the-variants.{New, Given}
+use Rattle.cutting.specs.declared.Target.the-variants.{New}
 use Rattle.cutting.specs.declared.Cut.{Cut}
 use Rattle.cutting.specs.Cutting.{equalityOf, targetOf, treeCut, putEqualities, after, cutFrom, Room}
-use Rattle.cutting.proofs.Trees.{cut-infix, cut-negate, cut-constant, cut-variable, cut-few, cut-new-few, cut-ids, nodes-some}
+use Rattle.cutting.proofs.Trees.{cut-infix, cut-negate, cut-constant, cut-variable, cut-few, cut-ids, nodes-some}
 use Rattle.cutting.proofs.Placing.{put-append, after-append, length-put, put-one, after-one}
 
 -- what a cut from word `at` on leaves: the body b′ where it was b, and the answer r

@@ -1,19 +1,19 @@
 -- What the code of the last pass answers, by the definitions of the passes.
+use mathlib.Core.Path.{_≡_}
 use mathlib.Core.List.{List}
-use mathlib.Core.Bool.{not}
 use mathlib.Core.Option.{Option, none, some}
 use Prim.Native.Nat.{ℕ, _+_, _*_, _≤_}
 use lib.ListN.{length}
 use Rattle.words.specs.Words.{setWords}
 use Rattle.flat.specs.Trees.{Flat, Definition, Equation}
-use Rattle.flat.specs.Record.{moduleOf}
 use Rattle.constraint.specs.declared.Term.{Term}
 use Rattle.constraint.specs.declared.Equality.{Equality as Written}
 use Rattle.constraint.specs.Trees.{Side, Equality, written}
 use Rattle.constraint.specs.Record.{equalitiesWords}
-use Rattle.passes.specs.Passes.{those, isNever, usage, classifyDefs, Substitutions, copyPropagateExpr, copyPropagateDefs, afterDefs, copyPropagateEquations, alive, flattenExprTo3ac, flattenDefs, flattenEquations, Cut as Cutting, Cuts}
+use Rattle.passes.specs.Passes.{Substitutions, copyPropagateExpr, copyPropagateDefs, afterDefs, copyPropagateEquations, alive, flattenExprTo3ac, flattenDefs, flattenEquations, Cut as Cutting, Cuts}
 use Rattle.classify.specs.Arrays.{proversOf, usedOf}
 use Rattle.copies.specs.declared.Copied.{Copied}
+use Rattle.copies.specs.Substituted.{substOf}
 use Rattle.cutting.specs.declared.Target.{Target}
 use Rattle.cutting.specs.declared.Target.the-variants.{New, Given}
 use Rattle.cutting.specs.declared.Cut.{Cut}
@@ -45,6 +45,10 @@ after at qs = at + 7 * length qs
 unfoldable pub cutFrom : ℕ → Cutting → Cut
 cutFrom at c = record { term = c .term; next = c .next; at = after at (c .equalities) }
 
+-- what the cut of a tree from word `at` on leaves: the body after it, and the answer
+abbrev pub CutPut : List ℕ → List ℕ → ℕ → Cutting → Cut → Type 0
+CutPut body body′ at c r = (body′ ≡ putEqualities body at (c .equalities)) × (r ≡ cutFrom at c)
+
 -- room for an equality of each of n nodes, and ids for them
 pub record Room (n at next : ℕ) (body : List ℕ) : Type 0 where
   pub words : 4 * (at + 7 * n) ≤ length body
@@ -56,7 +60,15 @@ pub record Room (n at next : ℕ) (body : List ℕ) : Type 0 where
 unfoldable pub placeFrom : ℕ → Cuts → Place
 placeFrom at c = record { next = c .next; at = after at (c .equalities) }
 
--- definitions of that record, those that are used, with the substitutions made one after the other: cut, and the substitutions after them
+-- what such cuts leave: the body after them, and the answer
+abbrev pub CutsPut : List ℕ → List ℕ → ℕ → Cuts → Place → Type 0
+CutsPut body body′ at c r = (body′ ≡ putEqualities body at (c .equalities)) × (r ≡ placeFrom at c)
+
+-- and those of definitions: the array of the substitutions after them too
+abbrev pub DefsPut : List ℕ → List ℕ → ℕ → Cuts → Place → List ℕ → Substitutions → Type 0
+DefsPut body body′ at c r subs′ s = (body′ ≡ putEqualities body at (c .equalities)) × (r ≡ placeFrom at c) × (substOf subs′ ≡ s) × (length subs′ ≡ 131072)
+
+-- definitions of a record with the bytes b, those that are used, with the substitutions made one after the other: cut, and the substitutions after them
 unfoldable pub defsCut : List ℕ → ℕ → Substitutions → List Definition → ℕ → Cuts
 defsCut b steps s ds next = flattenDefs (proversOf b) (copyPropagateDefs (proversOf b) steps s (usedOf b ds)) next
 
@@ -67,7 +79,7 @@ defsAfter b steps s ds = afterDefs (proversOf b) steps s (usedOf b ds)
 unfoldable pub equationsCut : ℕ → Substitutions → List Equation → ℕ → Cuts
 equationsCut steps s es next = flattenEquations (alive (copyPropagateEquations steps s es)) next
 
--- which side of an equation is the left term, by the sides' roots: "a left variable, else a right variable, else a left constant, else a right constant"
+-- which side of an equation is the left term, by the sides' roots: a left variable, else a right variable, else a left constant, else a right constant
 unfoldable pub sidesOf : Copied → Copied → Sides
 sidesOf Copied.Tree Copied.Tree = Neither
 sidesOf Copied.Tree (Copied.Leaf y) = Right y

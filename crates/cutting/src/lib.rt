@@ -26,7 +26,7 @@ ghost use Rattle.constraint.specs.Record.{writtenWords};
 ghost use Rattle.passes.specs.Passes.{copyPropagateExpr, orVariable, copied, cutsOf, both, flattenSides};
 ghost use Rattle.classify.specs.Arrays.{Classified};
 ghost use Rattle.copies.specs.Substituted.{substOf};
-ghost use Rattle.cutting.specs.Cutting.{targetOf, treeCut, putEqualities, cutFrom, Room, placeFrom, defsCut, defsAfter, equationsCut, sidesOf};
+ghost use Rattle.cutting.specs.Cutting.{targetOf, treeCut, CutPut, Room, CutsPut, DefsPut, defsCut, defsAfter, equationsCut, sidesOf};
 
 // The left side of what is cut: a new variable, or the term that is given.
 pub enum Target {
@@ -67,7 +67,7 @@ fn push_constraint_def(body: &mut [u8], at: usize, next: u32, equality: Equality
 // A term draws no id: it stands for itself, or is copied to the left side that is given.
 fn place_term(body: &mut [u8], at: usize, next: u32, target: Target, term: Term) -> Cut
     requires { ⌜ 4 * at + 28 ≤ length (now body) ⌝ }
-    ensures { λ r. ⌜ (now (body .exit) ≡ putEqualities (now (body .entry)) at (copied (targetOf target) term next .equalities)) × (r ≡ cutFrom at (copied (targetOf target) term next)) ⌝ }
+    ensures { λ r. ⌜ CutPut (now (body .entry)) (now (body .exit)) at (copied (targetOf target) term next) r ⌝ }
 {
     let Target::Given(left) = target else {
         return Cut { term, next, at };
@@ -93,7 +93,7 @@ fn flatten_expr_to_3ac(
     target: Target,
 ) -> Cut
     requires { ⌜ Inside (now s) nodes k × Room (treeNodes (tree (now s) nodes (k + 1) k)) at next (now body) ⌝ }
-    ensures { λ r. ⌜ (now (body .exit) ≡ putEqualities (now (body .entry)) at (treeCut target steps (substOf (now (subs .entry))) (tree (now (s .entry)) nodes (k + 1) k) next .equalities)) × (r ≡ cutFrom at (treeCut target steps (substOf (now (subs .entry))) (tree (now (s .entry)) nodes (k + 1) k) next)) ⌝ }
+    ensures { λ r. ⌜ CutPut (now (body .entry)) (now (body .exit)) at (treeCut target steps (substOf (now (subs .entry))) (tree (now (s .entry)) nodes (k + 1) k) next) r ⌝ }
 {
     let node = flat::node_at(s, nodes, k);
     match node {
@@ -138,7 +138,7 @@ fn flatten_def_to_3ac(
     next: u32,
 ) -> Place
     requires { ⌜ Inside (now s) nodes k × Classified (now s) (now usage) (now provers) × (id < 65536) × (length (now subs) ≡ 131072) × Room (treeNodes (tree (now s) nodes (k + 1) k)) at next (now body) ⌝ }
-    ensures { λ r. ⌜ (now (body .exit) ≡ putEqualities (now (body .entry)) at (defsCut (now (s .entry)) steps (substOf (now (subs .entry))) (record { id = id; right = tree (now (s .entry)) nodes (k + 1) k } ∷ []) next .equalities)) × (r ≡ placeFrom at (defsCut (now (s .entry)) steps (substOf (now (subs .entry))) (record { id = id; right = tree (now (s .entry)) nodes (k + 1) k } ∷ []) next)) × (substOf (now (subs .exit)) ≡ defsAfter (now (s .entry)) steps (substOf (now (subs .entry))) (record { id = id; right = tree (now (s .entry)) nodes (k + 1) k } ∷ [])) × (length (now (subs .exit)) ≡ 131072) ⌝ }
+    ensures { λ r. ⌜ DefsPut (now (body .entry)) (now (body .exit)) at (defsCut (now (s .entry)) steps (substOf (now (subs .entry))) (record { id = id; right = tree (now (s .entry)) nodes (k + 1) k } ∷ []) next) r (now (subs .exit)) (defsAfter (now (s .entry)) steps (substOf (now (subs .entry))) (record { id = id; right = tree (now (s .entry)) nodes (k + 1) k } ∷ [])) ⌝ }
 {
     let i = id as usize;
     if usage[i] == 0 {
@@ -147,17 +147,8 @@ fn flatten_def_to_3ac(
     if provers[i] != 0 {
         return Place { next, at };
     }
-    let c = flatten_expr_to_3ac(
-        s,
-        nodes,
-        k,
-        subs,
-        steps,
-        body,
-        at,
-        next,
-        Target::Given(Term::Variable(id)),
-    );
+    let left = Target::Given(Term::Variable(id));
+    let c = flatten_expr_to_3ac(s, nodes, k, subs, steps, body, at, next, left);
     substitute(s, nodes, id, k, subs, steps);
     Place {
         next: c.next,
@@ -181,7 +172,7 @@ pub fn flatten_defs(
 ) -> Place
     requires { ⌜ Readable (now s) × Classified (now s) (now usage) (now provers) × (definitions ≡ definitionsAt (now s)) × (n ≡ definitionCount (now s)) × (nodes ≡ nodesAt (now s)) ⌝ }
     requires { ⌜ (length (now subs) ≡ 131072) × Room (definitionsNodes (moduleOf (now s) .definitions)) at next (now body) ⌝ }
-    ensures { λ r. ⌜ (now (body .exit) ≡ putEqualities (now (body .entry)) at (defsCut (now (s .entry)) steps (substOf (now (subs .entry))) (moduleOf (now (s .entry)) .definitions) next .equalities)) × (r ≡ placeFrom at (defsCut (now (s .entry)) steps (substOf (now (subs .entry))) (moduleOf (now (s .entry)) .definitions) next)) × (substOf (now (subs .exit)) ≡ defsAfter (now (s .entry)) steps (substOf (now (subs .entry))) (moduleOf (now (s .entry)) .definitions)) × (length (now (subs .exit)) ≡ 131072) ⌝ }
+    ensures { λ r. ⌜ DefsPut (now (body .entry)) (now (body .exit)) at (defsCut (now (s .entry)) steps (substOf (now (subs .entry))) (moduleOf (now (s .entry)) .definitions) next) r (now (subs .exit)) (defsAfter (now (s .entry)) steps (substOf (now (subs .entry))) (moduleOf (now (s .entry)) .definitions)) ⌝ }
 {
     let mut to = at;
     let mut id = next;
@@ -226,7 +217,7 @@ fn left_side(a: Copied, b: Copied) -> Sides
     Sides::Right(y)
 }
 
-// Node k's tree is cut, and its term is the left one.
+// Node k's tree is cut into the left term that is given.
 fn flatten_into(
     s: &[u8],
     nodes: usize,
@@ -239,19 +230,10 @@ fn flatten_into(
     left: Term,
 ) -> Place
     requires { ⌜ Inside (now s) nodes k × Room (treeNodes (tree (now s) nodes (k + 1) k)) at next (now body) ⌝ }
-    ensures { λ r. ⌜ (now (body .exit) ≡ putEqualities (now (body .entry)) at (cutsOf (treeCut (Target.Given left) steps (substOf (now (subs .entry))) (tree (now (s .entry)) nodes (k + 1) k) next) .equalities)) × (r ≡ placeFrom at (cutsOf (treeCut (Target.Given left) steps (substOf (now (subs .entry))) (tree (now (s .entry)) nodes (k + 1) k) next))) ⌝ }
+    ensures { λ r. ⌜ CutsPut (now (body .entry)) (now (body .exit)) at (cutsOf (treeCut (Target.Given left) steps (substOf (now (subs .entry))) (tree (now (s .entry)) nodes (k + 1) k) next)) r ⌝ }
 {
-    let c = flatten_expr_to_3ac(
-        s,
-        nodes,
-        k,
-        subs,
-        steps,
-        body,
-        at,
-        next,
-        Target::Given(left),
-    );
+    let target = Target::Given(left);
+    let c = flatten_expr_to_3ac(s, nodes, k, subs, steps, body, at, next, target);
     Place {
         next: c.next,
         at: c.at,
@@ -271,21 +253,12 @@ fn flatten_both(
     next: u32,
 ) -> Place
     requires { ⌜ Inside (now s) nodes left × Inside (now s) nodes right × Room (treeNodes (tree (now s) nodes (left + 1) left) + treeNodes (tree (now s) nodes (right + 1) right)) at next (now body) ⌝ }
-    ensures { λ r. ⌜ (now (body .exit) ≡ putEqualities (now (body .entry)) at (flattenSides (both (copyPropagateExpr steps (substOf (now (subs .entry))) (tree (now (s .entry)) nodes (left + 1) left)) (copyPropagateExpr steps (substOf (now (subs .entry))) (tree (now (s .entry)) nodes (right + 1) right))) next .equalities)) × (r ≡ placeFrom at (flattenSides (both (copyPropagateExpr steps (substOf (now (subs .entry))) (tree (now (s .entry)) nodes (left + 1) left)) (copyPropagateExpr steps (substOf (now (subs .entry))) (tree (now (s .entry)) nodes (right + 1) right))) next)) ⌝ }
+    ensures { λ r. ⌜ CutsPut (now (body .entry)) (now (body .exit)) at (flattenSides (both (copyPropagateExpr steps (substOf (now (subs .entry))) (tree (now (s .entry)) nodes (left + 1) left)) (copyPropagateExpr steps (substOf (now (subs .entry))) (tree (now (s .entry)) nodes (right + 1) right))) next) r ⌝ }
 {
     let a = flatten_expr_to_3ac(s, nodes, left, subs, steps, body, at, next, Target::New);
-    let b = flatten_expr_to_3ac(
-        s,
-        nodes,
-        right,
-        subs,
-        steps,
-        body,
-        a.at,
-        a.next,
-        Target::New,
-    );
     let x = a.term;
+    let to = a.at;
+    let b = flatten_expr_to_3ac(s, nodes, right, subs, steps, body, to, a.next, Target::New);
     let y = b.term;
     let c = place_term(body, b.at, b.next, Target::Given(x), y);
     Place {
@@ -307,7 +280,7 @@ fn flatten_equation(
     next: u32,
 ) -> Place
     requires { ⌜ Inside (now s) nodes left × Inside (now s) nodes right × Room (treeNodes (tree (now s) nodes (left + 1) left) + treeNodes (tree (now s) nodes (right + 1) right)) at next (now body) ⌝ }
-    ensures { λ r. ⌜ (now (body .exit) ≡ putEqualities (now (body .entry)) at (equationsCut steps (substOf (now (subs .entry))) (record { left = tree (now (s .entry)) nodes (left + 1) left; right = tree (now (s .entry)) nodes (right + 1) right } ∷ []) next .equalities)) × (r ≡ placeFrom at (equationsCut steps (substOf (now (subs .entry))) (record { left = tree (now (s .entry)) nodes (left + 1) left; right = tree (now (s .entry)) nodes (right + 1) right } ∷ []) next)) ⌝ }
+    ensures { λ r. ⌜ CutsPut (now (body .entry)) (now (body .exit)) at (equationsCut steps (substOf (now (subs .entry))) (record { left = tree (now (s .entry)) nodes (left + 1) left; right = tree (now (s .entry)) nodes (right + 1) right } ∷ []) next) r ⌝ }
 {
     let a = copy_expr(s, nodes, left, subs, steps);
     let b = copy_expr(s, nodes, right, subs, steps);
@@ -335,7 +308,7 @@ pub fn flatten_equations(
     next: u32,
 ) -> Place
     requires { ⌜ Readable (now s) × (equations ≡ equationsAt (now s)) × (n ≡ equationCount (now s)) × (nodes ≡ nodesAt (now s)) × Room (equationsNodes (moduleOf (now s) .equations)) at next (now body) ⌝ }
-    ensures { λ r. ⌜ (now (body .exit) ≡ putEqualities (now (body .entry)) at (equationsCut steps (substOf (now (subs .entry))) (moduleOf (now (s .entry)) .equations) next .equalities)) × (r ≡ placeFrom at (equationsCut steps (substOf (now (subs .entry))) (moduleOf (now (s .entry)) .equations) next)) ⌝ }
+    ensures { λ r. ⌜ CutsPut (now (body .entry)) (now (body .exit)) at (equationsCut steps (substOf (now (subs .entry))) (moduleOf (now (s .entry)) .equations) next) r ⌝ }
 {
     let mut to = at;
     let mut id = next;
