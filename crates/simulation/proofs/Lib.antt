@@ -1,2 +1,3 @@
 pub mod Runs
 pub mod Stands
+pub mod Steps
