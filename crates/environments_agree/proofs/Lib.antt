@@ -1,0 +1,3 @@
+pub mod Rebinding
+pub mod Entries
+pub mod Frames
