@@ -1,3 +1,5 @@
 pub mod Rebinding
 pub mod Entries
 pub mod Frames
+pub mod Threads
+pub mod Opening
