@@ -3,3 +3,4 @@ pub mod Entries
 pub mod Frames
 pub mod Threads
 pub mod Opening
+pub mod Lets
