@@ -4,3 +4,4 @@ pub mod Frames
 pub mod Threads
 pub mod Opening
 pub mod Lets
+pub mod Longer
