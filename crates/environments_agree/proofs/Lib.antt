@@ -5,3 +5,4 @@ pub mod Threads
 pub mod Opening
 pub mod Lets
 pub mod Longer
+pub mod Counts
