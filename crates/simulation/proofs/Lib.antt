@@ -2,3 +2,4 @@ pub mod Runs
 pub mod Stands
 pub mod Steps
 pub mod Numbers
+pub mod Lists
