@@ -3,3 +3,4 @@ pub mod Stands
 pub mod Steps
 pub mod Numbers
 pub mod Lists
+pub mod Provers
