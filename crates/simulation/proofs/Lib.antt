@@ -4,3 +4,4 @@ pub mod Steps
 pub mod Numbers
 pub mod Lists
 pub mod Provers
+pub mod Nodes
