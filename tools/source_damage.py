@@ -530,6 +530,11 @@ def names():
         for i, j in ((0, 1), (0, n - 1), (n - 2, n - 1), (n // 2 - 1, n // 2)):
             if i < j:
                 yield named(texts[:j] + [texts[i]] + texts[j + 1 :])
+    # names that a sum of their bytes, weighted by 1 or by powers of 31, does not tell apart
+    for alike in (["".join(t) for t in itertools.permutations("abcd")], ["".join(t) for t in itertools.product(("Ax", "BY"), repeat=9)]):
+        yield named(alike)
+        for k in (0, len(alike) // 2, len(alike) - 2):
+            yield named(alike[:-1] + alike[k : k + 1])
     long = [("%03x" % k) * 21 + "!" for k in range(512)]
     yield named(long)
     yield named(long[:511] + long[:1])
