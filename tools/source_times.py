@@ -62,7 +62,7 @@ def lets(nodes):
 def nested(nodes):
     """Lets of 4 nodes, each in the body of the one before, each with a name of its own."""
     r = Record()
-    bound = [(r.bind("n%d" % k), r.node(NEGATE, r.node(CONSTANT, k))) for k in range((nodes - 1) // 4)]
+    bound = [(r.bind("n%d" % k), r.node(NEGATE, r.node(CONSTANT, k))) for k in range(nodes // 4)]
     body = r.node(UNIT)
     for p, v in reversed(bound):
         body = r.node(LET, p, v, body)
@@ -82,7 +82,7 @@ def main():
     sys.setrecursionlimit(10000)
     for n in (256, 512, 1024, 2048):
         measure("%d nodes, lets one after another" % n, lets(n), oracle, times)
-    for n in (256, 512, 1024, 2048):
+    for n in (253, 509, 1021, 2045):
         measure("%d nodes, lets in each other" % n, nested(n), oracle, times)
     for n in (64, 128, 256, 512):
         measure("%d names of 3 bytes" % n, named(n, "", ""), oracle, times)
