@@ -1,13 +1,10 @@
+-- `source_replay::copy` meets its contract. Assumes nothing.
 use Rattle.source_replay.proofs.copy.Statement.{statement}
 use Rattle.source_replay.proofs.copy.Tie as tie
-use Rattle.source_replay.proofs.copy.Reads as reads
-use Rattle.source_replay.proofs.copy.Lts as lts
 use borrow.Author.Needs.{needs}
-use native.Mathlib.Omega.{arith}
-use Prim.Native.Nat.{ℕ, _-_, _+_, _*_, _≤_, _<_}
+use Prim.Native.Nat.{_-_, _≤_}
 use mathlib.Core.Path.{_≡_}
 use lib.ListN.{length}
-use Rattle.io.proofs.Counting.{counts}
 
 abbrev Inv-loop : tie.InvT-loop
 Inv-loop base image₀ n i₀ image i = (i ≤ n) × (length image ≡ length image₀)

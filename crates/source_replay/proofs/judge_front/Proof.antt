@@ -1,13 +1,7 @@
+-- `source_replay::judge_front` meets its contract. Assumes nothing.
 use Rattle.source_replay.proofs.judge_front.Statement.{statement}
 use Rattle.source_replay.proofs.judge_front.Tie as tie
-use Rattle.source_replay.proofs.judge_front.Reads as reads
-use Rattle.source_replay.proofs.judge_front.Lts as lts
-use Rattle.source_replay.proofs.judge.Reads as judge-reads
 use borrow.Author.Needs.{needs}
-use native.Mathlib.Omega.{arith}
-use Prim.Native.Nat.{ℕ, _-_, _+_, _*_, _≤_, _<_}
-use mathlib.Core.Path.{_≡_}
-use lib.ListN.{length}
 use Rattle.io.proofs.Counting.{counts}
 
 returns : tie.Need-returns

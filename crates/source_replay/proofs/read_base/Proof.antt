@@ -1,13 +1,7 @@
+-- `source_replay::read_base` meets its contract. Assumes nothing.
 use Rattle.source_replay.proofs.read_base.Statement.{statement}
 use Rattle.source_replay.proofs.read_base.Tie as tie
-use Rattle.source_replay.proofs.read_base.Reads as reads
-use Rattle.source_replay.proofs.read_base.Lts as lts
-use Rattle.io.proofs.read_full.Reads as read-full-reads
 use borrow.Author.Needs.{needs}
-use native.Mathlib.Omega.{arith}
-use Prim.Native.Nat.{ℕ, _-_, _+_, _*_, _≤_, _<_}
-use mathlib.Core.Path.{_≡_}
-use lib.ListN.{length}
 use Rattle.io.proofs.Counting.{counts}
 
 returns : tie.Need-returns

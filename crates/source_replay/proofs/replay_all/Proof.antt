@@ -1,16 +1,8 @@
+-- `source_replay::replay_all` meets its contract. Assumes nothing.
 use Rattle.source_replay.proofs.replay_all.Statement.{statement}
 use Rattle.source_replay.proofs.replay_all.Tie as tie
-use Rattle.source_replay.proofs.replay_all.Reads as reads
-use Rattle.source_replay.proofs.replay_all.Lts as lts
-use Rattle.source_replay.proofs.count.Reads as count-reads
-use Rattle.source_replay.proofs.place.Reads as place-reads
-use Rattle.source_replay.proofs.replay.Reads as replay-reads
-use Rattle.source_replay.proofs.report_all.Reads as report-all-reads
-use Rattle.source_replay.proofs.report_different.Reads as report-different-reads
-use Rattle.source_replay.proofs.turns_after.Reads as turns-after-reads
 use borrow.Author.Needs.{needs}
-use native.Mathlib.Omega.{arith}
-use Prim.Native.Nat.{ℕ, _-_, _+_, _*_, _≤_, _<_}
+use Prim.Native.Nat.{_≤_}
 use mathlib.Core.Path.{_≡_}
 use lib.ListN.{length}
 
