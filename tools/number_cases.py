@@ -152,4 +152,5 @@ def main():
         sys.stdout.buffer.write(case(record, answer))
 
 
-main()
+if __name__ == "__main__":
+    main()
