@@ -57,6 +57,7 @@ const TRANSFORM: &[Call] = &[
     // evaluation: its depth, what an application refreshes, the sides of operators
     Before(465, "let _level = crate::twin::Level::enter();"),
     Before(468, "crate::twin::refreshed(&expr1);"),
+    Before(620, "if !std::ptr::eq(expr, seq.last().unwrap()) { crate::twin::item(&val); }"), // what a sequence discards
     Before(648, "crate::twin::arith(&e1); crate::twin::arith(&e2);"),
     Before(648, "if let Some(flat) = flattened { crate::twin::power(&e1, &e2, flat.defs.len()); }"),
     Before(699, "crate::twin::arith(&expr1); crate::twin::arith(&expr2);"),

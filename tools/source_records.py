@@ -26,6 +26,7 @@ import sys
 sys.path.insert(0, os.path.join(os.path.dirname(os.path.abspath(__file__)), "..", "oracle", "model"))
 import assemble
 import closure_modules
+import directed
 import model
 
 LAST_STORE = 1048592  # one node more than document 01's 65,535, and 16 bytes
@@ -36,20 +37,20 @@ COUNTS = re.compile(r" first=(\d+) made=(\d+) made-at-first=(\d+) ")
 
 
 class Answer:
-    """What evaluation gives with a store that is never full: the refusal's number or 0, the flat record, the nodes made by then."""
+    """What to expect with a store that is never full: the refusal's number or 0, the nodes made by then, the record, and by whom."""
 
-    def __init__(self, number, made, flat=None, by=""):
-        self.number, self.made, self.flat, self.by = number, made, flat, by
+    def __init__(self, number, made, record=None, by=""):
+        self.number, self.made, self.record, self.by = number, made, record, by
 
     def with_store(self, store):
         """The number to expect with a store of so many bytes: 30 once the made nodes pass it."""
         return 30 if self.made > min(LAST_COUNT, store // 16) else self.number
 
     def same(self, other):
-        return (self.number, self.made, self.flat) == (other.number, other.made, other.flat)
+        return (self.number, self.made, self.record) == (other.number, other.made, other.record)
 
     def __str__(self):
-        return "%s, %d nodes made" % ("refused %d" % self.number if self.number else "flat record of %d bytes" % len(self.flat), self.made)
+        return "%s, %d nodes made" % ("refused %d" % self.number if self.number else "a record of %d bytes" % len(self.record), self.made)
 
 
 def run(command, text):
@@ -70,8 +71,15 @@ def module_record(module):
     return record if struct.unpack_from("<I", record, 16)[0] <= 2048 else None
 
 
-def answer_of(line):
-    """The answer that a result line of the twin tells, or None where the Rust crashed or ran out of time."""
+def accepted(record, made, by):
+    """An accepted record; in a constraint record the last pass may have drawn too many ids."""
+    if struct.unpack_from("<I", record)[0] > LAST_COUNT + 1:
+        return Answer(32, made, by=by)
+    return Answer(0, made, record, by)
+
+
+def answer_of(line, wanted="flat"):
+    """The answer that a result line of the twin tells, or None where the Rust crashed or ran out of time. Wanted: flat or cons."""
     if line.startswith("refused "):
         return Answer(int(line.split(" ")[1]), 0, by="the reader")
     counts = COUNTS.search(line)
@@ -82,10 +90,10 @@ def answer_of(line):
         return Answer(first, made_at_first, by="the twin's first refusal")
     if line.startswith("panic stage=evaluate"):
         return Answer(int(re.search(r" num=(\d+) ", line).group(1)), made, by="the Rust's error")
-    return Answer(0, made, bytes.fromhex(re.search(r" flat=([0-9a-f]+) ", line).group(1)), "the Rust's flat record")
+    return accepted(bytes.fromhex(re.search(r" %s=([0-9a-f]+) " % wanted, line).group(1)), made, "the Rust's record")
 
 
-def model_answer(record):
+def model_answer(record, wanted="flat"):
     """The model's answer. Run it inside model.deep, on a large stack."""
     try:
         numbered = model.number_module(model.parse_source(record))
@@ -94,21 +102,24 @@ def model_answer(record):
     state = model.Ev(numbered, 16 * LAST_COUNT)
     try:
         state.run(numbered)
+        flat = model.flat_of(state)
+        written = model.write_flat(flat) if wanted == "flat" else model.write_constraint(model.passes(flat), 1 << 30)
     except model.Refuse as refusal:
         return Answer(refusal.n, state.made, by="the model")
-    return Answer(0, state.made, model.write_flat(model.flat_of(state)), "the model")
+    return Answer(0, state.made, written, "the model")
 
 
-def twin_lines(twin, records, timeout=5):
-    return run([twin, "batch", "src", "--stop", "--timeout", str(timeout)], "".join(r.hex() + "\n" for r in records)).splitlines()
+def twin_lines(twin, records, timeout=5, jobs=2):
+    command = [twin, "batch", "src", "--stop", "--timeout", str(timeout), "--jobs", str(jobs)]
+    return run(command, "".join(r.hex() + "\n" for r in records)).splitlines()
 
 
-def answers(twin, records, timeout=5):
+def answers(twin, records, timeout=5, jobs=2, wanted="flat"):
     """The answer to each record: the twin's, or the model's where the Rust has none."""
-    lines = twin_lines(twin, records, timeout)
+    lines = twin_lines(twin, records, timeout, jobs)
     if len(lines) != len(records):
         raise SystemExit("the twin answered %d of %d records" % (len(lines), len(records)))
-    return [answer_of(line) or model_answer(record) for line, record in zip(lines, records)]
+    return [answer_of(line, wanted) or model_answer(record, wanted) for line, record in zip(lines, records)]
 
 
 def stores(answer, k):
@@ -122,6 +133,6 @@ def stores(answer, k):
 def group(record, answer, lengths):
     """A group of evaluation_replay."""
     numbers = [answer.with_store(n) for n in lengths]
-    flat = answer.flat if 0 in numbers else b""
+    expected = answer.record if 0 in numbers else b""
     runs = [w for run in zip(lengths, numbers) for w in run]
-    return struct.pack("<%dI" % (3 + len(runs)), len(record), len(lengths), len(flat), *runs) + record + flat
+    return struct.pack("<%dI" % (3 + len(runs)), len(record), len(lengths), len(expected), *runs) + record + expected

@@ -4,6 +4,7 @@
 //! list, function or intrinsic (row 18), how many nodes document 01 calls made,
 //! and which refusal would be met first. With `--stop` it ends there.
 use crate::ast::{Expr, TExpr, TPat, Pat};
+use crate::error::Error;
 use num_traits::ToPrimitive;
 use std::cell::RefCell;
 use std::sync::atomic::{AtomicBool, Ordering};
@@ -67,6 +68,13 @@ pub fn event(n: u32) {
     }
 }
 
+/* An item before the last of a sequence: the Rust discards its error, the port refuses. */
+pub fn item(val: &Option<Result<TExpr, Error>>) {
+    if let Some(Err(e)) = val {
+        event(crate::run::number_of(e.name()));
+    }
+}
+
 /* No store holds more than 65,535 nodes. */
 pub fn made(n: u64) {
     let mut over = false;
@@ -118,10 +126,17 @@ fn expr_nodes(e: &TExpr) -> u64 {
     }
 }
 
-pub fn refreshed(e: &TExpr) {
-    if let Expr::Function(_) | Expr::Intrinsic(_) = e.v {
-        made(expr_nodes(e));
+/* The functions and intrinsics that the refresh of a value makes anew, pairs and lists looked through. */
+fn refreshed_nodes(e: &TExpr) -> u64 {
+    match &e.v {
+        Expr::Function(_) | Expr::Intrinsic(_) => expr_nodes(e),
+        Expr::Product(a, b) | Expr::Cons(a, b) => refreshed_nodes(a) + refreshed_nodes(b),
+        _ => 0,
     }
+}
+
+pub fn refreshed(e: &TExpr) {
+    made(refreshed_nodes(e));
 }
 
 /* Row 18. */
