@@ -37,6 +37,15 @@ case('two values 2', ([], [D('g', gg), (P2('a', 'h'), A(V('g'), F(['q'], V('q'))
      + [(P2('yy', 'ff'), A(V('h'), C(2)))] + [D('e', ('match', V('yy'), [(P2('p', 'q'), C(1))])),
      (P2('a2', 'h2'), A(V('g'), V('h'))), D('a3', A(V('h2'), C(3))),
      (P2('a4', 'h4'), A(V('g'), F(['w'], ('match', A(V('h'), V('w')), [(P2('m', 'n'), PR(V('m'), V('h')))]))))], []))
+# the lowest hit: y is split, and then taken by implicit_env over a pair of which one closure has the old y and the other has none
+gy = L('y', PR(V('i0'), V('i1')), F(['b'], PR(V('b'), PR(V('y'), F(['z'], V('y'))))))
+P3 = lambda a, b, c: ('pprod', a, P2(b, c))
+old = [D('g', gy), (P3(PV('s'), 't', 'h'), A(V('g'), C(0))), D('e', ('match', A(V('h'), C(1)), [(P2('p', 'q'), C(1))])), D('w', F(['v'], V('i2')))]
+seen = [(P3(PV('b3'), 'y3', 'h3'), A(V('gg'), C(7)))], [I(EQ, V('y3'), PR(V('o0'), V('o1')))]
+case('lowest hit, left', ([], old + [(P3(P2('gg', 'ww'), 't2', 'h2'), A(V('g'), PR(V('g'), V('w'))))] + seen[0], seen[1]))
+case('lowest hit, right', ([], old + [(P3(P2('ww', 'gg'), 't2', 'h2'), A(V('g'), PR(V('w'), V('g'))))] + seen[0], seen[1]))
+case('lowest hit, list', ([], old + [(P3(PV('bb'), 't2', 'h2'), A(V('g'), lst(V('w'), V('g'), V('h'), V('g'))))],
+     [A(V('fold'), V('bb'), F(['f', 'acc'], ('seq', [('match', A(V('f'), C(3)), [(PV('r'), U)]), PR(A(V('f'), C(2)), V('acc'))])), U)]))
 # -- self application: implicit_env, keys present
 case('implicit', ([], [D('p', A(F(['x', 's'], A(V('s'), F(['w'], PR(V('x'), V('w'))))), C(5))),
      D('p2', A(F(['x', 's'], V('s')), C(6)))], []))
