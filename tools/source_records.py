@@ -6,13 +6,14 @@ memory or time explodes, and gives a second opinion everywhere.
 
 The input of evaluation_replay is a list of groups, in little-endian words of 32 bits, bytes unpadded:
 
-    words    length of the source record in bytes, number of runs (1 to 8), length of the expected record in bytes (0: no run is accepted)
+    words    length of the source record in bytes (at most 76,052, the longest legal one), number of runs (1 to 8), length of the
+             expected record in bytes (at most 344,344, the longest flat record; 0: no run is accepted)
     a run    two words: length of the lent store in bytes (at most 1,048,592), expected answer: 0 for accepted, else the refusal's number
     bytes    the source record
     bytes    the expected record: the flat record of document 01, which every accepted run has to give. Its nodes stand in list order:
              definitions, then equations (left, right); each tree's nodes children first, left to right. Prover ids rise.
 
-Each run gets a store of that length, filled beforehand with bytes that are not 0; afterwards it has to be 0. The program prints a line
+Each run gets a store of that length, filled beforehand with bytes that are not 0; afterwards it has to be 0, refused or not. The program prints a line
 `group G run R differs: N` for each run that differs, both counted from 0, where N is what it answered: the refusal's number, or 0 for
 accepted (another record, or a store that is not 0). Its last line is `A accepted, R refused, D differ`, and counts runs.
 """
@@ -31,6 +32,7 @@ import model
 
 LAST_STORE = 1048592  # one node more than document 01's 65,535, and 16 bytes
 LAST_COUNT = 65535
+LAST_SOURCE, LAST_FLAT = 76052, 344344
 ORACLE_KINDS = ("mixed", "plain", "rich", "big", "deep")
 MODEL_KINDS = ("typed", "untyped", "closures", "lambda", "mix", "lost", "combi", "obs", "rec", "mix+", "lost+", "combi+", "obs+", "rec+")
 COUNTS = re.compile(r" first=(\d+) made=(\d+) made-at-first=(\d+) ")
@@ -134,5 +136,7 @@ def group(record, answer, lengths):
     """A group of evaluation_replay."""
     numbers = [answer.with_store(n) for n in lengths]
     expected = answer.record if 0 in numbers else b""
+    if len(record) > LAST_SOURCE or len(expected) > LAST_FLAT or len(lengths) > 8 or max(lengths) > LAST_STORE:
+        raise SystemExit("too long for a group: " + record.hex())
     runs = [w for run in zip(lengths, numbers) for w in run]
     return struct.pack("<%dI" % (3 + len(runs)), len(record), len(lengths), len(expected), *runs) + record + expected
