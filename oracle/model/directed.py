@@ -46,6 +46,12 @@ case('lowest hit, left', ([], old + [(P3(P2('gg', 'ww'), 't2', 'h2'), A(V('g'), 
 case('lowest hit, right', ([], old + [(P3(P2('ww', 'gg'), 't2', 'h2'), A(V('g'), PR(V('w'), V('g'))))] + seen[0], seen[1]))
 case('lowest hit, list', ([], old + [(P3(PV('bb'), 't2', 'h2'), A(V('g'), lst(V('w'), V('g'), V('h'), V('g'))))],
      [A(V('fold'), V('bb'), F(['f', 'acc'], ('seq', [('match', A(V('f'), C(3)), [(PV('r'), U)]), PR(A(V('f'), C(2)), V('acc'))])), U)]))
+# the innermost frame: the lost closure takes the split y by implicit_env, and is applied where g's own y is the old one
+gi = L('y', PR(V('i0'), V('i1')), F(['b'], PR(A(V('b'), C(3)), PR(V('y'), F(['z'], V('y'))))))
+inner = [D('g', gi), (P3(PV('s'), 't', 'h'), A(V('g'), F(['q'], V('q')))), D('e', ('match', A(V('h'), C(1)), [(P2('p', 'q'), C(1))]))]
+case('innermost frame', ([], inner + [(P3(PV('y3'), 'y4', 'h4'), A(V('g'), V('h')))], [I(EQ, V('y3'), PR(V('o0'), V('o1'))), I(EQ, V('y4'), V('y3'))]))
+case('innermost frame, nested', ([], inner + [(P3(PV('y3'), 'y4', 'h4'), A(V('g'), F(['u'], ('match', A(V('g'), V('h')), [(P3(PV('a'), 'c', 'd'), PR(V('a'), PR(V('c'), A(V('d'), V('u')))))]))))],
+     [I(EQ, V('y3'), PR(PR(V('o0'), V('o1')), PR(V('y4'), V('y4'))))]))
 # -- self application: implicit_env, keys present
 case('implicit', ([], [D('p', A(F(['x', 's'], A(V('s'), F(['w'], PR(V('x'), V('w'))))), C(5))),
      D('p2', A(F(['x', 's'], V('s')), C(6)))], []))
