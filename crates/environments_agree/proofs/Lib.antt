@@ -6,3 +6,5 @@ pub mod Opening
 pub mod Lets
 pub mod Longer
 pub mod Counts
+pub mod Whole
+pub mod Growing
