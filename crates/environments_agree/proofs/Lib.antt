@@ -8,3 +8,4 @@ pub mod Longer
 pub mod Counts
 pub mod Whole
 pub mod Growing
+pub mod Adding
