@@ -9,3 +9,4 @@ pub mod Counts
 pub mod Whole
 pub mod Growing
 pub mod Adding
+pub mod Held
