@@ -10,3 +10,5 @@ pub mod Whole
 pub mod Growing
 pub mod Adding
 pub mod Held
+pub mod Lacking
+pub mod Captures
