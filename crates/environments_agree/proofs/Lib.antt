@@ -12,3 +12,4 @@ pub mod Adding
 pub mod Held
 pub mod Lacking
 pub mod Captures
+pub mod CaptureList
