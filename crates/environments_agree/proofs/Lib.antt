@@ -13,3 +13,4 @@ pub mod Held
 pub mod Lacking
 pub mod Captures
 pub mod CaptureList
+pub mod CaptureEntries
