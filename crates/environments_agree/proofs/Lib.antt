@@ -14,3 +14,4 @@ pub mod Lacking
 pub mod Captures
 pub mod CaptureList
 pub mod CaptureEntries
+pub mod CaptureImplicit
