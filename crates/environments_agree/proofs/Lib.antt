@@ -15,3 +15,4 @@ pub mod Captures
 pub mod CaptureList
 pub mod CaptureEntries
 pub mod CaptureImplicit
+pub mod Extending
