@@ -16,3 +16,4 @@ pub mod CaptureList
 pub mod CaptureEntries
 pub mod CaptureImplicit
 pub mod Extending
+pub mod Arguments
