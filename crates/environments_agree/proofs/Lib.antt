@@ -17,3 +17,5 @@ pub mod CaptureEntries
 pub mod CaptureImplicit
 pub mod Extending
 pub mod Arguments
+pub mod Finishing
+pub mod Variables
