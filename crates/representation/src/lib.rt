@@ -1,0 +1,1 @@
+// What the evaluator's memory represents.
