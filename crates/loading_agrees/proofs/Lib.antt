@@ -1,0 +1,6 @@
+pub mod Words
+pub mod Says
+pub mod Few
+pub mod Held
+pub mod Counted
+pub mod Patterns
