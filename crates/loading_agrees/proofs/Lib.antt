@@ -4,3 +4,5 @@ pub mod Few
 pub mod Held
 pub mod Counted
 pub mod Patterns
+pub mod Expressions
+pub mod Module
