@@ -5,3 +5,5 @@ pub mod Numbers
 pub mod Lists
 pub mod Provers
 pub mod Nodes
+pub mod Cells
+pub mod Pairs
