@@ -5,3 +5,4 @@ pub mod Numbers
 pub mod Lists
 pub mod Provers
 pub mod Nodes
+pub mod Sums
