@@ -1,3 +1,4 @@
 pub mod Values
 pub mod Constants
 pub mod Operations
+pub mod Numbers
