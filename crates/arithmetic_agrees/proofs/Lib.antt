@@ -2,3 +2,4 @@ pub mod Values
 pub mod Constants
 pub mod Operations
 pub mod Numbers
+pub mod Powers
