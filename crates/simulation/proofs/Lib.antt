@@ -7,3 +7,4 @@ pub mod Provers
 pub mod Nodes
 pub mod Cells
 pub mod Pairs
+pub mod Sums
