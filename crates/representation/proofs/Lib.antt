@@ -2,3 +2,4 @@ pub mod Kept
 pub mod Written
 pub mod Marked
 pub mod Codes
+pub mod Moved
