@@ -19,3 +19,4 @@ pub mod Extending
 pub mod Arguments
 pub mod Finishing
 pub mod Variables
+pub mod Chains
