@@ -1,3 +1,4 @@
 pub mod Runs
 pub mod Stands
 pub mod Steps
+pub mod Numbers
