@@ -1,3 +1,4 @@
 pub mod Values
 pub mod Tools
 pub mod Equals
+pub mod Rows
