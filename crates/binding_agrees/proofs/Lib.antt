@@ -2,3 +2,4 @@ pub mod Values
 pub mod Tools
 pub mod Equals
 pub mod Rows
+pub mod Places

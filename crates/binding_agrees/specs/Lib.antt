@@ -1,1 +1,1 @@
-
+pub mod Expanded
