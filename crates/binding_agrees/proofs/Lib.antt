@@ -3,3 +3,4 @@ pub mod Tools
 pub mod Equals
 pub mod Rows
 pub mod Places
+pub mod Variables
