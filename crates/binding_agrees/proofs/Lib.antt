@@ -4,3 +4,4 @@ pub mod Equals
 pub mod Rows
 pub mod Places
 pub mod Variables
+pub mod Expand
