@@ -5,3 +5,4 @@ pub mod Rows
 pub mod Places
 pub mod Variables
 pub mod Expand
+pub mod Flatten
