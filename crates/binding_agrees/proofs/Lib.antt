@@ -6,3 +6,4 @@ pub mod Places
 pub mod Variables
 pub mod Expand
 pub mod Flatten
+pub mod Resolve
