@@ -7,3 +7,6 @@ pub mod Variables
 pub mod Expand
 pub mod Flatten
 pub mod Resolve
+pub mod Halves
+pub mod Threads
+pub mod Bindings
