@@ -10,3 +10,4 @@ pub mod Resolve
 pub mod Halves
 pub mod Threads
 pub mod Bindings
+pub mod News
