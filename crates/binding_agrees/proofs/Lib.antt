@@ -11,3 +11,4 @@ pub mod Halves
 pub mod Threads
 pub mod Bindings
 pub mod News
+pub mod Split
