@@ -1,3 +1,5 @@
 pub mod Sizes
 pub mod Map
 pub mod Walking
+pub mod Blocks
+pub mod Patterns
