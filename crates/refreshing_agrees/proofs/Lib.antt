@@ -3,3 +3,4 @@ pub mod Map
 pub mod Walking
 pub mod Blocks
 pub mod Patterns
+pub mod Parameters
