@@ -4,3 +4,4 @@ pub mod Walking
 pub mod Blocks
 pub mod Patterns
 pub mod Parameters
+pub mod Copies
