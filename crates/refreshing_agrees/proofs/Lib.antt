@@ -5,3 +5,4 @@ pub mod Blocks
 pub mod Patterns
 pub mod Parameters
 pub mod Copies
+pub mod Nodes
