@@ -1,3 +1,4 @@
 pub mod Walks
 pub mod Patterns
 pub mod Expressions
+pub mod Parts
