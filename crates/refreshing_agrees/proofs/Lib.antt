@@ -6,3 +6,4 @@ pub mod Patterns
 pub mod Parameters
 pub mod Copies
 pub mod Nodes
+pub mod Lists
