@@ -7,3 +7,4 @@ pub mod Parameters
 pub mod Copies
 pub mod Nodes
 pub mod Lists
+pub mod Expressions
