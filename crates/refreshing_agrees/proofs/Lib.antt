@@ -8,3 +8,5 @@ pub mod Copies
 pub mod Nodes
 pub mod Lists
 pub mod Expressions
+pub mod Ends
+pub mod Values
