@@ -10,3 +10,4 @@ pub mod Lists
 pub mod Expressions
 pub mod Ends
 pub mod Values
+pub mod Refresh
