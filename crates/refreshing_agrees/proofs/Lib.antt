@@ -11,3 +11,4 @@ pub mod Expressions
 pub mod Ends
 pub mod Values
 pub mod Refresh
+pub mod Over
