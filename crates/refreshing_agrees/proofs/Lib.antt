@@ -12,3 +12,4 @@ pub mod Ends
 pub mod Values
 pub mod Refresh
 pub mod Over
+pub mod Going
