@@ -1,1 +1,3 @@
 pub mod ReadBack
+pub mod Trees
+pub mod Lists
