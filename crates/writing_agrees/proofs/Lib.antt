@@ -1,3 +1,4 @@
 pub mod ReadBack
 pub mod Trees
 pub mod Lists
+pub mod Sides
