@@ -2,3 +2,4 @@ pub mod ReadBack
 pub mod Trees
 pub mod Lists
 pub mod Sides
+pub mod Runs
