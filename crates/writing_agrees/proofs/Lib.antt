@@ -3,3 +3,4 @@ pub mod Trees
 pub mod Lists
 pub mod Sides
 pub mod Runs
+pub mod Ids
