@@ -4,3 +4,4 @@ pub mod Lists
 pub mod Sides
 pub mod Runs
 pub mod Ids
+pub mod Flat
