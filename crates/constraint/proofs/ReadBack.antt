@@ -38,7 +38,7 @@ module _ (b : List ℕ) where
       ap (wordAt b) p ∙ h (length xs + k) (omega (arith, length-append xs ys)) ∙ getD-append-add {A = ℕ} xs ys k 0
 
   -- a word at its place
-  at-place : (ws : List ℕ) (i j k : ℕ) → i + k ≡ j → k < length ws → Stands b i ws → wordAt b j ≡ getD ws k 0
+  pub at-place : (ws : List ℕ) (i j k : ℕ) → i + k ≡ j → k < length ws → Stands b i ws → wordAt b j ≡ getD ws k 0
   at-place ws i j k e l h = ap (wordAt b) (sym e) ∙ h k l
 
   -- a term
@@ -67,7 +67,7 @@ operator-reads InfixOp.Exponentiate = refl
 operator-reads InfixOp.IntDivide = refl
 operator-reads InfixOp.Modulo = refl
 
-operator-below : (o : InfixOp) → operatorWord o < 9
+pub operator-below : (o : InfixOp) → operatorWord o < 9
 unfolding operatorWord
 operator-below InfixOp.Divide = omega arith
 operator-below InfixOp.DivideZ = omega arith
@@ -100,15 +100,15 @@ signed-second (Side.negate x) h = tt
 signed-second (Side.copy x) h = tt
 
 -- where a definition's tree ends
-root-below : (base : ℕ) (d : Definition) (n count : ℕ) → base + (treeNodes (d .right) + n) ≤ count → rootFrom base (d .right) < count
+pub root-below : (base : ℕ) (d : Definition) (n count : ℕ) → base + (treeNodes (d .right) + n) ≤ count → rootFrom base (d .right) < count
 unfolding rootFrom nextFrom
 root-below base d n count l = let p = tree-positive (d .right) in omega arith
 
-next-below : (base : ℕ) (d : Definition) (n count : ℕ) → base + (treeNodes (d .right) + n) ≤ count → nextFrom base (d .right) + n ≤ count
+pub next-below : (base : ℕ) (d : Definition) (n count : ℕ) → base + (treeNodes (d .right) + n) ≤ count → nextFrom base (d .right) + n ≤ count
 unfolding nextFrom
 next-below base d n count l = omega arith
 
-next-words : (trees base : ℕ) (d : Definition) → trees + 4 * base + length (nodesFrom base (d .right)) ≡ trees + 4 * nextFrom base (d .right)
+pub next-words : (trees base : ℕ) (d : Definition) → trees + 4 * base + length (nodesFrom base (d .right)) ≡ trees + 4 * nextFrom base (d .right)
 unfolding nextFrom
 next-words trees base d = omega (arith, length-nodes (d .right) base)
 
@@ -132,7 +132,7 @@ module _ (b : List ℕ) where
       λ j. record { left = e0 j; right = e j }
 
   -- lists of ids and of equalities
-  ids-read : (xs : List ℕ) (at j : ℕ) → Stands b (at + j) xs → rows (length xs) j (λ k. wordAt b (at + k)) ≡ xs
+  pub ids-read : (xs : List ℕ) (at j : ℕ) → Stands b (at + j) xs → rows (length xs) j (λ k. wordAt b (at + k)) ≡ xs
   unfolding rows
   ids-read [] at j h = refl
   ids-read (x ∷ xs) at j h =
@@ -170,7 +170,7 @@ module _ (b : List ℕ) where
     variable-stands : kind ≡ 8 → nodeOf b at r ≡ Node.Variable x
     variable-stands e = sym (read-8 b at r kind x p0 p1 (λ (q : kind ≡ 4). omega arith) (λ (q : kind ≡ 5). omega arith) (λ (q : kind ≡ 7). omega arith))
 
-  moved : (ws : List ℕ) (i j : ℕ) → i ≡ j → Stands b i ws → Stands b j ws
+  pub moved : (ws : List ℕ) (i j : ℕ) → i ≡ j → Stands b i ws → Stands b j ws
   moved ws i j e h = subst (λ (k : ℕ). Stands b k ws) e h
 
   -- a tree, from the node with the index `base` on
@@ -205,7 +205,7 @@ module _ (b : List ℕ) where
       ∙ ap₂ (Flat.infixed o) (tree-reads x at base (s .0) (stands-left b (nodesFrom base x) (nodesFrom n y ++ w) (at + 4 * base) h)) (tree-reads y at n (s .1) (stands-left b (nodesFrom n y) w (at + 4 * n) g))
 
   -- the kept definitions and their trees
-  kept-read : (ds : List Definition) (at j trees base count : ℕ) → All (λ d. SignedTree (d .right)) ds → Stands b (at + 2 * j) (keptWords base ds) → Stands b (trees + 4 * base) (keptNodes base ds) → base + definitionsNodes ds ≤ count → rows (length ds) j (definitionAt b at trees count) ≡ ds
+  pub kept-read : (ds : List Definition) (at j trees base count : ℕ) → All (λ d. SignedTree (d .right)) ds → Stands b (at + 2 * j) (keptWords base ds) → Stands b (trees + 4 * base) (keptNodes base ds) → base + definitionsNodes ds ≤ count → rows (length ds) j (definitionAt b at trees count) ≡ ds
   unfolding rows keptWords keptNodes definitionsNodes definitionAt definitionWords
   kept-read [] at j trees base count s h g l = refl
   kept-read (d ∷ ds) at j trees base count s h g l =

@@ -1,0 +1,14 @@
+pub mod Values
+pub mod Tools
+pub mod Equals
+pub mod Rows
+pub mod Places
+pub mod Variables
+pub mod Expand
+pub mod Flatten
+pub mod Resolve
+pub mod Halves
+pub mod Threads
+pub mod Bindings
+pub mod News
+pub mod Split

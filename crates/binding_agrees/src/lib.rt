@@ -1,0 +1,1 @@
+// Patterns and values meet in the memory as they meet on trees.

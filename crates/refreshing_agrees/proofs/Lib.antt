@@ -1,0 +1,15 @@
+pub mod Sizes
+pub mod Map
+pub mod Walking
+pub mod Blocks
+pub mod Patterns
+pub mod Parameters
+pub mod Copies
+pub mod Nodes
+pub mod Lists
+pub mod Expressions
+pub mod Ends
+pub mod Values
+pub mod Refresh
+pub mod Over
+pub mod Going

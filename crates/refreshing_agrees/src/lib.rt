@@ -1,0 +1,1 @@
+// Refreshing over the memory agrees with refreshing on trees.

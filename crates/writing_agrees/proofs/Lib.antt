@@ -1,0 +1,7 @@
+pub mod ReadBack
+pub mod Trees
+pub mod Lists
+pub mod Sides
+pub mod Runs
+pub mod Ids
+pub mod Flat
