@@ -5,3 +5,6 @@ pub mod Numbers
 pub mod Lists
 pub mod Provers
 pub mod Nodes
+pub mod Cells
+pub mod Pairs
+pub mod Sums
