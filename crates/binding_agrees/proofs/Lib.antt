@@ -13,3 +13,4 @@ pub mod Bindings
 pub mod News
 pub mod Split
 pub mod Splits
+pub mod Arms
