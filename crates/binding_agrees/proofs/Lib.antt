@@ -12,3 +12,5 @@ pub mod Threads
 pub mod Bindings
 pub mod News
 pub mod Split
+pub mod Splits
+pub mod Arms
