@@ -3,7 +3,7 @@
 
     python3 tools/compare_flat.py ORACLE SEED N [KIND]
 
-ORACLE is the oracle, built from the unchanged Rust (tools/flat_records.py says what it has to answer). Run it at the top of
+ORACLE is the oracle, built from the unchanged Rust by oracle/build.sh (tools/flat_records.py says what it has to answer). Run it at the top of
 the repository, after `rt check flat_replay`. The records are those of the seeds from SEED on: random flat records, or with
 KIND (mixed, plain, rich, big, deep) those that evaluation makes of N random modules of that kind. Each goes in once as it is
 and once with a word changed; every third output is just long enough, and every third a byte short. A record that differs

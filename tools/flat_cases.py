@@ -3,7 +3,7 @@
 
     python3 tools/flat_cases.py ORACLE MODULE.. > crates/flat_replay/stdin
 
-ORACLE is the oracle, built from the unchanged Rust (tools/flat_records.py says what it has to answer). Each MODULE is a module
+ORACLE is the oracle, built from the unchanged Rust by oracle/build.sh (tools/flat_records.py says what it has to answer). Each MODULE is a module
 in the oracle's text form: what evaluation makes of it becomes a case. Nothing is random here but what the oracle makes from
 fixed seeds, so the same oracle and modules give the same file.
 """

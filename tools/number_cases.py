@@ -3,7 +3,7 @@
 
     python3 tools/number_cases.py ORACLE > crates/number_replay/stdin
 
-ORACLE is a program built around the unchanged Rust. `ORACLE gen-src SEED COUNT KIND` prints source records in hex, a line each,
+ORACLE is built around the unchanged Rust by oracle/build.sh. `ORACLE gen-src SEED COUNT KIND` prints source records in hex, a line each,
 and `ORACLE numbers FILE` answers such a file with a line for each record: `refused N`, or `next N pubs I,I,.. ids I,-,..`, where
 the ids are those of the numbered module at each node of the record, and `-` stands at a node with no name. Nothing is random
 here but what the oracle makes from fixed seeds.
@@ -152,4 +152,5 @@ def main():
         sys.stdout.buffer.write(case(record, answer))
 
 
-main()
+if __name__ == "__main__":
+    main()

@@ -149,6 +149,9 @@ module _ (b : List ℕ) (long : 20 ≤ length b) {l : Layout} (e : l ≡ layoutO
         is-trees y4 p = p ∙ trees y4 (shaped b) (usedOnce b) refl refl
 
 -- what a record with few counts and whole lists has
+pub few-names : (l : Layout) → (leb (l .names) 512 && (leb (l .publics) 64 && (leb (l .definitions) 512 && (leb (l .expressions) 512 && leb (l .nodes) 2048)))) ≡ true → l .names ≤ 512
+few-names l h = leb-true (l .names) 512 (and-left (leb (l .names) 512) (leb (l .publics) 64 && (leb (l .definitions) 512 && (leb (l .expressions) 512 && leb (l .nodes) 2048))) h)
+
 pub few-nodes : (l : Layout) → (leb (l .names) 512 && (leb (l .publics) 64 && (leb (l .definitions) 512 && (leb (l .expressions) 512 && leb (l .nodes) 2048)))) ≡ true → l .nodes ≤ 2048
 few-nodes l h =
     let a = leb (l .names) 512 in

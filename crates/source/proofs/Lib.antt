@@ -1,5 +1,6 @@
 mod Laws
 mod Names
+mod Prints
 mod Marks
 mod Links
 mod Lists

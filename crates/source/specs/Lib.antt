@@ -2,6 +2,7 @@ pub mod Trees
 pub mod Indices
 pub mod Layout
 pub mod Names
+pub mod Fingerprints
 pub mod Nodes
 pub mod Uses
 pub mod Record

@@ -1,6 +1,7 @@
 // The source record: its layout, its names and nodes, and its check (refusals 1 to 6).
 mod asking;
 mod entries;
+mod fingerprints;
 mod naming;
 mod reading;
 

@@ -1,10 +1,12 @@
 // The names: their pairs and bytes (refusal 3), and that no two are equal (refusal 4).
 use super::count;
+use super::fingerprints::fingerprints;
 ghost use mathlib.Core.Path.{_≡_};
 ghost use Prim.Native.Nat.{_+_, _*_, _≤_, _<_};
 ghost use mathlib.Core.Bool.{true};
 ghost use lib.ListN.{length};
 ghost use Rattle.source.specs.Names.{endOf, printed, nameFits, namesFit, sameBytes, sameName, nameNew, namesDiffer};
+ghost use Rattle.source.specs.Fingerprints.{Fingerprinted};
 
 // Whether n bytes from byte `from` on are from 33 to 126.
 fn prints(s: &[u8], from: usize, n: usize) -> bool
@@ -77,7 +79,7 @@ fn same_bytes(s: &[u8], from: usize, to: usize, n: usize) -> bool
     true
 }
 
-// Whether two of n names are equal; most pairs differ in length already.
+// Whether two of n names are equal.
 fn same_name(s: &[u8], text: usize, n: usize, j: usize, k: usize) -> bool
     requires { ⌜ ((4 * (5 + 2 * n) ≤ length (now s)) × (namesFit (now s) text n ≡ true)) × ((j < n) × (k < n)) ⌝ }
     ensures { λ r. ⌜ r ≡ sameName (now (s .entry)) text j k ⌝ }
@@ -91,14 +93,25 @@ fn same_name(s: &[u8], text: usize, n: usize, j: usize, k: usize) -> bool
     same_bytes(s, from, to, size)
 }
 
+// The same by fingerprints first: only where these are equal are bytes compared.
+fn same_found(s: &[u8], text: usize, n: usize, prints: &[u32; 512], j: usize, k: usize) -> bool
+    requires { ⌜ ((4 * (5 + 2 * n) ≤ length (now s)) × (namesFit (now s) text n ≡ true)) × (((j < n) × (k < n)) × ((n ≤ 512) × Fingerprinted (now s) text n (now prints))) ⌝ }
+    ensures { λ r. ⌜ r ≡ sameName (now (s .entry)) text j k ⌝ }
+{
+    if prints[j] != prints[k] {
+        return false;
+    }
+    same_name(s, text, n, j, k)
+}
+
 // Whether name k is none of those before it.
-fn name_new(s: &[u8], text: usize, n: usize, k: usize) -> bool
-    requires { ⌜ ((4 * (5 + 2 * n) ≤ length (now s)) × (namesFit (now s) text n ≡ true)) × (k < n) ⌝ }
+fn name_new(s: &[u8], text: usize, n: usize, prints: &[u32; 512], k: usize) -> bool
+    requires { ⌜ ((4 * (5 + 2 * n) ≤ length (now s)) × (namesFit (now s) text n ≡ true)) × ((k < n) × ((n ≤ 512) × Fingerprinted (now s) text n (now prints))) ⌝ }
     ensures { λ r. ⌜ r ≡ nameNew (now (s .entry)) text k ⌝ }
 {
     let mut j = 0usize;
     while j < k {
-        if same_name(s, text, n, j, k) {
+        if same_found(s, text, n, prints, j, k) {
             return false;
         }
         j += 1;
@@ -108,12 +121,13 @@ fn name_new(s: &[u8], text: usize, n: usize, k: usize) -> bool
 
 // Whether n names that fit are different: not 4.
 pub fn names_differ(s: &[u8], text: usize, n: usize) -> bool
-    requires { ⌜ (4 * (5 + 2 * n) ≤ length (now s)) × (namesFit (now s) text n ≡ true) ⌝ }
+    requires { ⌜ ((4 * (5 + 2 * n) ≤ length (now s)) × (namesFit (now s) text n ≡ true)) × (n ≤ 512) ⌝ }
     ensures { λ r. ⌜ r ≡ namesDiffer (now (s .entry)) text n ⌝ }
 {
+    let prints = fingerprints(s, text, n);
     let mut k = 0usize;
     while k < n {
-        if !name_new(s, text, n, k) {
+        if !name_new(s, text, n, &prints, k) {
             return false;
         }
         k += 1;

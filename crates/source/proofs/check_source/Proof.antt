@@ -4,7 +4,7 @@ use Rattle.source.proofs.check_source.Statement.{statement}
 use Rattle.source.proofs.check_source.Tie as tie
 use mathlib.Core.Path.{refl, _∙_, sym}
 use borrow.Author.Tests.{not-true, not-false}
-use Rattle.source.proofs.Answers.{room, is-short, is-over, is-unlisted, is-unnamed, is-equal, is-trees, few-nodes, long-lists}
+use Rattle.source.proofs.Answers.{room, is-short, is-over, is-unlisted, is-unnamed, is-equal, is-trees, few-names, few-nodes, long-lists}
 
 returns : tie.Need-returns
 returns c = is-short (c .before .before .args .s .now) (c .if1 .taken)
@@ -25,7 +25,7 @@ returns-4 : tie.Need-returns-4
 returns-4 c = is-unnamed (c .before .before .before .before .before .before .before .before .before .before .before .before .args .s .now) (c .before .before .before .before .before .before .before .before .before .before .if1 .left) (c .before .before .before .before .before .before .before .before .before .layout-of .ensures) refl (not-false _ (c .before .before .before .if2 .left)) refl (not-false _ (c .before .before .if3 .left)) (c .before .names-fit .ensures) (not-true _ (c .if4 .taken))
 
 names-differ-requires : tie.Need-names-differ-requires
-names-differ-requires c κs = ((room (c .before .before .before .before .before .before .before .before .before .before .before .before .args .s .now) _ (c .before .before .before .before .before .before .before .before .before .layout-of .ensures) (long-lists _ _ _ (not-false _ (c .before .before .if3 .left)))) .names-in, sym (c .before .names-fit .ensures) ∙ not-false _ (c .if4 .left))
+names-differ-requires c κs = (((room (c .before .before .before .before .before .before .before .before .before .before .before .before .args .s .now) _ (c .before .before .before .before .before .before .before .before .before .layout-of .ensures) (long-lists _ _ _ (not-false _ (c .before .before .if3 .left)))) .names-in, sym (c .before .names-fit .ensures) ∙ not-false _ (c .if4 .left)), few-names (c .before .before .before .before .before .before .before .before .before .layout-of .result) (not-false _ (c .before .before .before .if2 .left)))
 
 returns-5 : tie.Need-returns-5
 returns-5 c = is-equal (c .before .before .before .before .before .before .before .before .before .before .before .before .before .before .args .s .now) (c .before .before .before .before .before .before .before .before .before .before .before .before .if1 .left) (c .before .before .before .before .before .before .before .before .before .before .before .layout-of .ensures) refl (not-false _ (c .before .before .before .before .before .if2 .left)) refl (not-false _ (c .before .before .before .before .if3 .left)) (c .before .before .before .names-fit .ensures) (not-false _ (c .before .before .if4 .left)) (c .before .names-differ .ensures) (not-true _ (c .if5 .taken))

@@ -12,19 +12,19 @@ use Rattle.source.proofs.Laws.{every-none}
 use Rattle.source.proofs.Names.{new-more, new-fails, new-all}
 
 abbrev Inv-loop : tie.InvT-loop
-Inv-loop s text n k j₀ j = (every j (λ i. not (sameName s text i k)) ≡ true) × (j ≤ k)
+Inv-loop s text n prints k j₀ j = (every j (λ i. not (sameName s text i k)) ≡ true) × (j ≤ k)
 
 abbrev μ-loop : tie.MeasureT-loop
-μ-loop s text n k j₀ j = k - j
+μ-loop s text n prints k j₀ j = k - j
 
 loop-holds : tie.Need-loop-holds Inv-loop μ-loop
 loop-holds c = (every-none _, omega arith)
 
-same-name-requires : tie.Need-same-name-requires Inv-loop μ-loop
-same-name-requires c κs = (c .before .before .before .pre .0, (omega (arith, c .before .before .before .pre .1), c .before .before .before .pre .1))
+same-found-requires : tie.Need-same-found-requires Inv-loop μ-loop
+same-found-requires c κs = (c .before .before .before .pre .0, ((omega (arith, c .before .before .before .pre .1 .0), c .before .before .before .pre .1 .0), c .before .before .before .pre .1 .1))
 
 returns : tie.Need-returns Inv-loop μ-loop
-returns c = new-fails (c .before .before .before .before .before .args .s .now) _ _ (c .before .before .before .loop .j) (c .before .before .loop-test .taken) (c .before .same-name .ensures) (c .if1 .taken)
+returns c = new-fails (c .before .before .before .before .before .args .s .now) _ _ (c .before .before .before .loop .j) (c .before .before .loop-test .taken) (c .before .same-found .ensures) (c .if1 .taken)
 
 add-j : tie.Need-add-j Inv-loop μ-loop
 add-j c = search needs
@@ -33,7 +33,7 @@ loop-less : tie.Need-loop-less Inv-loop μ-loop
 loop-less c = search needs
 
 loop-again : tie.Need-loop-again Inv-loop μ-loop
-loop-again c = (new-more (c .before .before .before .before .before .args .s .now) _ _ _ (c .before .before .before .loop .inv .0) (c .before .same-name .ensures) (c .if1 .left), omega arith)
+loop-again c = (new-more (c .before .before .before .before .before .args .s .now) _ _ _ (c .before .before .before .loop .inv .0) (c .before .same-found .ensures) (c .if1 .left), omega arith)
 
 returns-2 : tie.Need-returns-2 Inv-loop μ-loop
 returns-2 c = new-all (c .before .before .before .args .s .now) _ _ _ (c .before .loop .inv .0) (omega (arith, c .loop-test .left))
@@ -45,7 +45,7 @@ name-new-spec =
     Inv-loop
     μ-loop
     loop-holds
-    same-name-requires
+    same-found-requires
     returns
     add-j
     loop-less

@@ -13,19 +13,22 @@ use Rattle.source.proofs.Laws.{every-none, every-more}
 use Rattle.source.proofs.Names.{differ-fails, differ-all}
 
 abbrev Inv-loop : tie.InvT-loop
-Inv-loop s text n k₀ k = (every k (nameNew s text) ≡ true) × (k ≤ n)
+Inv-loop s text n prints k₀ k = (every k (nameNew s text) ≡ true) × (k ≤ n)
 
 abbrev μ-loop : tie.MeasureT-loop
-μ-loop s text n k₀ k = n - k
+μ-loop s text n prints k₀ k = n - k
+
+fingerprints-requires : tie.Need-fingerprints-requires Inv-loop μ-loop
+fingerprints-requires c κs = c .before .pre
 
 loop-holds : tie.Need-loop-holds Inv-loop μ-loop
 loop-holds c = (every-none _, omega arith)
 
 name-new-requires : tie.Need-name-new-requires Inv-loop μ-loop
-name-new-requires c κs = (c .before .before .before .pre, c .loop-test .taken)
+name-new-requires c κs = (c .before .before .before .before .before .pre .0, (c .before .loop-test .taken, (c .before .before .before .before .before .pre .1, c .before .before .before .fingerprints .ensures .1)))
 
 returns : tie.Need-returns Inv-loop μ-loop
-returns c = differ-fails (c .before .before .before .before .before .args .s .now) _ _ (c .before .before .before .loop .k) (c .before .before .loop-test .taken) (c .before .name-new .ensures) (not-true _ (c .if1 .taken))
+returns c = differ-fails (c .before .before .before .before .before .before .before .args .s .now) _ _ (c .before .before .before .before .loop .k) (c .before .before .before .loop-test .taken) (c .before .name-new .ensures) (not-true _ (c .if1 .taken))
 
 add-k : tie.Need-add-k Inv-loop μ-loop
 add-k c = search needs
@@ -34,10 +37,10 @@ loop-less : tie.Need-loop-less Inv-loop μ-loop
 loop-less c = search needs
 
 loop-again : tie.Need-loop-again Inv-loop μ-loop
-loop-again c = (every-more _ _ (c .before .before .before .loop .inv .0) (sym (c .before .name-new .ensures) ∙ not-false _ (c .if1 .left)), omega arith)
+loop-again c = (every-more _ _ (c .before .before .before .before .loop .inv .0) (sym (c .before .name-new .ensures) ∙ not-false _ (c .if1 .left)), omega arith)
 
 returns-2 : tie.Need-returns-2 Inv-loop μ-loop
-returns-2 c = differ-all (c .before .before .before .args .s .now) _ _ _ (c .before .loop .inv .0) (omega (arith, c .loop-test .left))
+returns-2 c = differ-all (c .before .before .before .before .args .s .now) _ _ _ (c .before .loop .inv .0) (omega (arith, c .loop-test .left))
 
 pub names-differ-spec : {M : Type 1} → statement M
 names-differ-spec =
@@ -45,6 +48,7 @@ names-differ-spec =
     (tie.spec
     Inv-loop
     μ-loop
+    fingerprints-requires
     loop-holds
     name-new-requires
     returns

@@ -1,0 +1,335 @@
+#!/usr/bin/env python3
+"""Writes crates/evaluation_replay/stdin: source records with the answers of the Rust, for the program evaluation_replay.
+
+    python3 tools/evaluation_cases.py ORACLE TWIN > crates/evaluation_replay/stdin
+
+ORACLE and TWIN are built by oracle/build.sh. The format stands at the top of tools/source_records.py: a source record, the runs (a store length
+in bytes, and the answer to expect: 0 or the refusal's number), and the flat record that every accepted run has to give. Nearly every record has two
+runs: with a store that is just full, and with one that is a node short (30).
+
+What to expect is the Rust's flat record or error, by the oracle and the twin alike; the twin's first refusal where the port is meant to differ
+(docs/DIFFERENCES.md); and the model's answer where the Rust's memory or time explodes. The model's answer is compared wherever the Rust has one. Nothing
+is random here but what is made from fixed seeds. Counts go to standard error.
+"""
+import collections
+import functools
+import glob
+import os
+import struct
+import sys
+
+from source_records import (
+    LAST_STORE, answer_of, directed, generated, group, model, model_answer, module_record, run, stores, twin_lines,
+)
+from assemble import A, ADD, C, CO, D, DIV, DIVZ, EQ, EXP, F, I, IDIV, L, MOD, MUL, N, PR, PV, SUB, U, V, lst
+
+HERE = os.path.dirname(os.path.abspath(__file__))
+X, Y = V("x"), V("y")
+PAIR = ("pprod", PV("p"), PV("q"))
+LIST = ("pcons", PV("p"), PV("q"))
+INCREASE = F(["z"], I(ADD, V("z"), C(1)))
+
+
+def const(n):
+    return ("pconst", n)
+
+
+def match(value, *arms):
+    return ("match", value, list(arms))
+
+
+def sequence(*items):
+    return ("seq", list(items))
+
+
+def define(*values):
+    """A module of definitions of one name."""
+    return [], [D("a", v) for v in values], []
+
+
+def state(*expressions):
+    """A module of expressions."""
+    return [], [], list(expressions)
+
+
+def negated(n, e):
+    for _ in range(n):
+        e = ("neg", e)
+    return e
+
+
+def no_function():
+    """10."""
+    yield from (define(A(x, C(1))) for x in (X, C(1), U, N, PR(INCREASE, INCREASE), CO(INCREASE, N), I(ADD, X, Y), ("neg", X), I(EQ, X, Y)))
+    yield define(A(A(V("fresh"), INCREASE), C(1)))
+    yield define(A(INCREASE, C(1), C(2)))
+    yield state(sequence(A(X, C(1)), C(1)))
+
+
+def no_exponent():
+    """11."""
+    yield from (define(I(EXP, base, e)) for base in (X, C(2), ("neg", X)) for e in (Y, ("neg", Y), I(ADD, Y, C(1))))
+    yield define(I(EXP, X, A(V("fresh"), C(2))))
+
+
+def no_static_match():
+    """12."""
+    for value in (X, ("neg", X), U, N, PR(X, Y), INCREASE, V("iter")):
+        yield define(match(value, (const(5), C(1)), (PV("z"), C(2))))
+    for value, p in ((N, LIST), (CO(X, N), ("pnil",)), (X, ("punit",)), (X, ("pnil",)), (PR(X, Y), LIST), (CO(X, N), PAIR), (C(3), PAIR), (INCREASE, PAIR)):
+        yield define(match(value, (p, C(1))))
+    yield define(L(const(5), ("neg", X), X))
+    yield define(match(I(ADD, X, C(1)), (const(5), C(1))))
+    yield state(sequence(match(X, (const(5), C(1))), C(1)))
+
+
+def no_arm():
+    """13."""
+    yield define(match(C(3), (const(1), C(1)), (const(2), C(2))))
+    yield define(match(C(1 << 30), (const(1 << 30), C(1))))
+    yield define(match(PR(C(1), X), (("pprod", const(2), PAIR), C(1)), (("pprod", const(3), PV("q")), C(2))))
+    yield state(sequence(match(C(3), (const(1), C(1))), C(1)))
+
+
+def no_count():
+    """14."""
+    yield from (define(A(V("iter"), c, INCREASE, X)) for c in (X, C(128), C(-129), C(1 << 30), U, INCREASE, I(ADD, X, C(1)), ("neg", X)))
+    yield state(sequence(A(V("iter"), X), C(1)))
+
+
+def no_list():
+    """15."""
+    yield from (define(A(V("fold"), v, INCREASE, X)) for v in (X, C(1), U, CO(C(1), X), PR(C(1), N), INCREASE))
+    yield state(sequence(A(V("fold"), X), C(1)))
+
+
+def no_fit():
+    """16."""
+    for p in (const(5), PAIR, LIST, ("pnil",)):
+        yield define(L(p, U, X))
+    yield from (define(L(p, X, X)) for p in (PAIR, LIST, ("punit",), ("pnil",)))
+    yield from (define(L(p, INCREASE, X)) for p in (const(1), PAIR, ("punit",)))
+    yield define(match(I(ADD, X, C(1)), (PAIR, V("p"))))
+    for a, b in ((U, C(1)), (U, N), (PR(X, Y), C(1)), (V("fresh"), V("fresh")), (INCREASE, X), (CO(X, N), N), (PR(X, Y), CO(X, Y)), (PR(X, U), PR(X, X))):
+        yield state(I(EQ, a, b))
+    yield [], [(PAIR, X)], []
+
+
+def no_value():
+    """17."""
+    for op in (DIV, IDIV, MOD):
+        yield from (define(I(op, C(n), C(z))) for n in (1, 0, -7) for z in (0, 2147483647, -2147483647))
+    yield from (define(I(EXP, C(z), C(n))) for z in (0, 2147483647) for n in (-1, -2, 2147483646))
+    yield define(I(ADD, U, I(DIV, C(1), C(0))))
+
+
+def no_number():
+    """18."""
+    odd = (U, N, PR(X, Y), CO(C(1), N), INCREASE, V("fresh"), V("iter"), V("fold"), I(EQ, X, Y))
+    for v in odd:
+        yield from (define(I(op, v, C(1))) for op in (ADD, MUL, EXP))
+        yield from (define(I(op, X, v)) for op in (SUB, DIVZ, EXP))
+        yield define(("neg", v))
+    yield define(I(EXP, U, X))
+    yield define(I(DIV, U, C(0)))
+    yield define(I(EXP, V("fresh"), C(0)))
+    yield state(sequence(I(ADD, U, C(1)), C(1)))
+
+
+def too_deep():
+    """19."""
+    yield define(negated(256, X))
+    yield state(negated(256, X))
+    yield state(I(EQ, negated(255, X), Y))
+    yield [], [D("w", F(["q"], A(V("q"), V("q")))), D("a", A(V("w"), V("w")))], []
+
+
+REFUSED = {10: no_function, 11: no_exponent, 12: no_static_match, 13: no_arm, 14: no_count, 15: no_list, 16: no_fit, 17: no_value, 18: no_number, 19: too_deep}
+
+
+def accepted():
+    """What stands next to the refusals."""
+    yield [], [], []
+    yield from (define(I(op, X, C(n))) for op in (DIV, DIVZ, MUL, ADD, SUB, IDIV, MOD) for n in (0, 1, 2, 2147483647, -2147483646))
+    yield from (define(I(op, C(n), X)) for op in (DIV, DIVZ, MUL, ADD, SUB, IDIV, MOD) for n in (0, 1))
+    yield define(I(DIVZ, C(5), C(0)), I(EXP, C(0), C(0)), I(IDIV, C(-7), C(2)), I(MOD, C(-7), C(2)), I(DIV, C(1), C(2)))
+    yield define(L(const(5), X, X), L(const(5), C(3), X), L(const(1 << 30), C(1 << 30), X))
+    yield define(match(C(1 << 30), (const(-1073741823), C(1))), match(X, (PAIR, V("p"))), match(Y, (LIST, V("p"))))
+    yield define(negated(255, X))
+    yield state(negated(255, X), I(ADD, X, Y))
+    yield state(I(EQ, negated(254, X), Y), I(EQ, PR(X, N), PR(Y, N)), I(EQ, U, U))
+    yield from (define(A(V("iter"), C(n), INCREASE, X)) for n in (127, -128, -1, 0, 1, -2147483520))
+    yield ["fresh", "x", "x", "a"], [D("fresh", C(3)), D("a", X)], [I(EQ, V("fresh"), X)]
+    yield define(*(A(V("fresh"), v) for v in (X, PR(X, U), lst(X, C(2)), INCREASE, V("fold"), ("neg", X))))
+
+
+def powers():
+    """Exponents around the table of 64 counts, and far above it."""
+    for n in [*range(0, 10), 15, 16, 17, 31, 32, 33, 62, 63, 64, 65, 66, 127, 128, 129, 1023, (1 << 30) - 1, -1, -2, -3, -64, -65, 2147483645, 2147483646, 2147483647, -2147483648]:
+        yield define(I(EXP, X, C(n)), I(EXP, ("neg", X), C(n)))
+
+
+# Lists at their limits, and one over. Definitions of one node, equations of two, prover ids without definitions.
+
+COPIES = F(["c"], functools.reduce(lambda body, _: L("c", V("c"), body), range(30), V("c")))  # a parameter and 30 lets
+EQUATIONS = F(["c"], sequence(*[I(EQ, V("c"), X)] * 32))
+UNITS = lst(*[U] * 31)  # fresh of it takes 63 prover ids
+
+
+def definitions(n):
+    """n definitions: 32 in a call, then one by one."""
+    return [], [D("f", COPIES)] + [D("a", A(V("f"), X))] * (n // 32) + [D("a", X)] * (n % 32), []
+
+
+def prover_ids(n, *more):
+    return [], [D("t", UNITS)] + [D("a", A(V("fresh"), V("t")))] * (n // 63) + [D("a", A(V("fresh"), U))] * (n % 63) + list(more), []
+
+
+def list_limits():
+    for last in ([], [D("a", X)]):
+        pubs, defs, exprs = definitions(4096)
+        yield pubs, defs + last, exprs
+    for power, before in ((65, 4089), (65, 4090), ((1 << 30) - 1, 4039), (-65, 4090)):  # 65 leaves 7 definitions, 2^30 - 1 leaves 58
+        pubs, defs, exprs = definitions(before)
+        yield pubs, defs + [D("a", I(EXP, X, C(power)))], exprs
+    for last in ([], [I(EQ, X, X)], [L(const(1), X, U)]):
+        yield [], [D("f", EQUATIONS)], [A(V("f"), C(1))] * 128 + last
+    for last in ([], [D("b", A(V("fresh"), X))], [D("b", match(A(V("fresh"), X), (PAIR, C(1))))]):
+        yield prover_ids(4096, *last)
+    for n in (4093, 4094):
+        yield prover_ids(n, D("b", match(A(V("fresh"), X), (PAIR, C(1)))))
+    for last in ([], [D("b", X)], [D("b", ("neg", X))]):
+        yield [], [D("a", negated(255, X))] + [D("b", V("a"))] * 63 + last, []
+    yield [], [D("a", negated(255, X))] + [D("b", V("a"))] * 63, [I(EQ, X, C(1))]
+
+
+def id_limits():
+    """A function of 500 parameters takes 500 ids and 503 nodes in each application; 300 more ids are drawn in numbering, and make nothing."""
+    wide, more = D("f", F(["p%d" % i for i in range(500)], X)), D("g", F(["p%d" % i for i in range(300)], X))
+    for defs, n in (([wide, more], 129), ([wide, more], 130), ([wide], 130), ([wide], 131)):
+        yield [], defs, [A(V("f"), X)] * n
+
+
+def damaged(records):
+    """Each record with one word changed or its end cut."""
+    for k, r in enumerate(records):
+        w = (7 * k + 3) % (len(r) // 4)
+        yield r[: 4 * w] + struct.pack("<I", (0, 1, 4294967295, 2048, 600)[k % 5]) + r[4 * w + 4 :]
+        yield r[: len(r) - 1 - k % 3]
+
+
+# Directed modules that are left to compare_source.py: their flat records are long, or others are like them.
+LEFT_OUT = {"grow 60 x 30", "right nest", "right nest 2", "left nest", "lets captured 2", "provers ok", "defs 16", "power ok", "negs 178"}
+LEFT_OUT |= {"ids 32 in infix %d" % n for n in (5, 6, 7, 8, 9)} | {"ids 32 in split 4", "ids 32 in split 5", "ids 32 in expand 9"}
+
+
+class Writer:
+    """Writes groups, and counts where the expectations come from."""
+
+    def __init__(self, oracle, twin, out):
+        self.oracle, self.twin, self.out = oracle, twin, out
+        self.groups, self.bytes = 0, 0
+        self.by, self.runs, self.tested = collections.Counter(), collections.Counter(), collections.Counter()
+
+    def known(self, records):
+        """The Rust's answer to each record, None where it has none."""
+        known = [answer_of(line) for line in twin_lines(self.twin, records)]
+        asked = [k for k, a in enumerate(known) if a is not None and a.by.startswith("the Rust")]
+        lines = run([self.oracle, "batch", "src"], "".join(records[k].hex() + "\n" for k in asked)).splitlines()
+        for k, line in zip(asked, lines):
+            a = known[k]
+            if (" flat=%s " % a.record.hex() if a.record else " num=%d " % a.number) not in line:
+                raise SystemExit("the twin and the oracle differ on " + records[k].hex())
+        return known
+
+    def answers(self, records):
+        """The answer to expect for each record. The model's has to be the same wherever the Rust has one."""
+        out = []
+        for record, answer in zip(records, self.known(records)):
+            second = model_answer(record)
+            if answer is not None and not answer.same(second):
+                raise SystemExit("the Rust: %s, the model: %s, on %s" % (answer, second, record.hex()))
+            out.append(answer or second)
+        return out
+
+    def put(self, record, answer, lengths=None):
+        lengths = stores(answer, self.groups) if lengths is None else lengths
+        if self.groups % 25 == 0:
+            lengths = lengths + [LAST_STORE]
+        data = group(record, answer, lengths)
+        self.out.write(data)
+        self.groups += 1
+        self.bytes += len(data)
+        self.by[answer.by] += 1
+        self.runs.update(answer.with_store(n) for n in lengths)
+        if answer.number == 0 and answer.made:
+            self.tested.update(features(record))
+
+    def put_all(self, records, wanted=None):
+        for record, answer in zip(records, self.answers(records)):
+            if wanted is not None and answer.number != wanted:
+                raise SystemExit("refused %d, not %d: %s" % (answer.number, wanted, record.hex()))
+            self.put(record, answer)
+
+    def put_small(self, seed, count, kind, size, wanted, needed=""):
+        """Of `count` generated records the first `wanted` accepted ones that take at most `size` bytes, and a third as many refused ones that take half of it."""
+        records = [r for r in generated(self.oracle, seed, count, kind) if len(r) <= size and (not needed or needed in features(r))]
+        left = [wanted, wanted // 3]
+        for record, answer in zip(records, self.answers(records)):
+            refused = answer.number != 0
+            if left[refused] and len(record) + len(answer.record or b"") <= (size // 2 if refused else size):
+                left[refused] -= 1
+                self.put(record, answer)
+
+
+def features(record):
+    """Whether the record has functions, pairs or lists, and folds: where the counts of made nodes are hardest."""
+    names, publics, definitions, expressions, nodes = struct.unpack_from("<5I", record)
+    at = 20 + 8 * names + 4 * publics + 8 * definitions + 4 * expressions
+    kinds = {struct.unpack_from("<I", record, at + 16 * k)[0] for k in range(nodes)}
+    found = [name for name, k in (("functions", {9}), ("pairs or lists", {2, 3, 19, 20})) if kinds & k]
+    if b"fold" in record[at + 16 * nodes :]:
+        found.append("fold")
+    return found + [" and ".join(found)] if len(found) > 1 else found
+
+
+def hand_made(oracle):
+    files = sorted(glob.glob(os.path.join(HERE, "..", "oracle", "cases", "*.sx")))
+    return [bytes.fromhex(run([oracle, "asm", f], "")) for f in files]
+
+
+ALL = "functions and pairs or lists and fold"
+
+# seed, seeds, kind, bytes at most, records, what they need to have
+GENERATED = (
+    (1, 5000, "mixed", 1300, 850), (5001, 4500, "rich", 1300, 850), (9001, 4000, "plain", 1200, 350), (20001, 600, "mixed", 5000, 30),
+    (40001, 5000, "rich", 2000, 260, ALL), (12001, 600, "big", 6000, 50), (13001, 600, "deep", 11000, 25),
+    (1, 300, "typed", 1500, 60), (1, 600, "untyped", 700, 60), (1, 300, "closures", 2500, 60), (1, 300, "lambda", 900, 40), (1, 300, "mix", 3500, 40),
+    (1, 200, "lost", 1600, 30), (1, 120, "combi", 6000, 12), (1, 200, "obs", 4000, 30), (1, 300, "rec", 2500, 80), (1, 60, "lost+", 3000, 30),
+    (1, 60, "rec+", 7000, 10), (1, 40, "mix+", 12000, 4), (1, 20, "obs+", 12000, 4),
+)
+
+
+def modules(ms):
+    return [module_record(m) for m in ms]
+
+
+def write(oracle, twin):
+    w = Writer(oracle, twin, sys.stdout.buffer)
+    w.put_all(hand_made(oracle))
+    for number, made in REFUSED.items():
+        w.put_all(modules(made()), number)
+    w.put_all(modules((*accepted(), *powers())), 0)
+    w.put_all(modules((*list_limits(), *id_limits())))
+    w.put_all([r for r in modules(m for name, m in directed.CASES if name not in LEFT_OUT) if r is not None])
+    for chosen in GENERATED:
+        before = w.groups
+        w.put_small(*chosen)
+        print("%d records: %s" % (w.groups - before, chosen), file=sys.stderr)
+    w.put_all([*damaged([r for r in generated(oracle, 30001, 150, "mixed") if len(r) < 900])])
+    print("%d groups, %d bytes" % (w.groups, w.bytes), file=sys.stderr)
+    for title, counter in (("expected by", w.by), ("runs by number", w.runs), ("accepted records with 30 tested", w.tested)):
+        print("%s: " % title + ", ".join("%s: %d" % (k, counter[k]) for k in sorted(counter, key=str)), file=sys.stderr)
+
+
+model.deep(write, *sys.argv[1:])
