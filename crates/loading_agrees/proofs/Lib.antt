@@ -6,3 +6,4 @@ pub mod Counted
 pub mod Patterns
 pub mod Expressions
 pub mod Module
+pub mod Fits

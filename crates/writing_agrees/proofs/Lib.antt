@@ -5,3 +5,4 @@ pub mod Sides
 pub mod Runs
 pub mod Ids
 pub mod Flat
+pub mod Constants
