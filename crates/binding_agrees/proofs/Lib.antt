@@ -14,3 +14,4 @@ pub mod News
 pub mod Split
 pub mod Splits
 pub mod Arms
+pub mod Alike
