@@ -6,4 +6,3 @@ pub mod Counted
 pub mod Patterns
 pub mod Expressions
 pub mod Module
-pub mod Fits
