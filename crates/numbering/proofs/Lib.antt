@@ -2,15 +2,15 @@ pub mod Lists
 pub mod Names
 pub mod Facts
 pub mod Cases
-mod Laws
-mod Sums
-mod Weights
+pub mod Laws
+pub mod Sums
+pub mod Weights
 mod Held
 mod Scopes
-mod Grown
-mod Children
+pub mod Grown
+pub mod Children
 mod Binding
 mod Ways
 mod Listed
 mod First
-mod Entire
+pub mod Entire

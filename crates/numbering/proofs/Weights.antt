@@ -133,7 +133,7 @@ module _ (b : List ℕ) (at : ℕ) where
       chain-settled h (suc n) x c (f .0) ∙ sym (chain-settled h n x c (omega (arith, f .0))) ∙ chain-below h n x c (fits-less h n x g e) (omega arith))
       (alike x n)
 
-  child-below : (names j : ℕ) (ch : Child) (c : ℕ) → childFits b at names j ch ≡ true → j ≤ c → childUses b at j ch c ≡ 0
+  pub child-below : (names j : ℕ) (ch : Child) (c : ℕ) → childFits b at names j ch ≡ true → j ≤ c → childUses b at j ch c ≡ 0
   unfolding childFits childUses
   child-below names j Child.Nothing c e q = refl
   child-below names j (Child.Name v) c e q = refl

@@ -1,4 +1,5 @@
 pub mod Kept
 pub mod Written
 pub mod Marked
+pub mod Codes
 pub mod Moved

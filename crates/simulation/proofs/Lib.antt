@@ -4,3 +4,7 @@ pub mod Steps
 pub mod Numbers
 pub mod Lists
 pub mod Provers
+pub mod Nodes
+pub mod Cells
+pub mod Pairs
+pub mod Sums

@@ -1,0 +1,5 @@
+pub mod Values
+pub mod Constants
+pub mod Operations
+pub mod Numbers
+pub mod Powers

@@ -1,0 +1,1 @@
+// Arithmetic in the evaluator's memory is that of evaluation on trees.

@@ -1,0 +1,1 @@
+// The memory that evaluation begins with.

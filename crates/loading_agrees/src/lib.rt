@@ -1,0 +1,1 @@
+// The fixed nodes stand for the trees of the numbered record.
