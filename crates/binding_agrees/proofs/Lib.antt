@@ -15,3 +15,4 @@ pub mod Split
 pub mod Splits
 pub mod Arms
 pub mod Alike
+pub mod Binding
