@@ -1,0 +1,1 @@
+// Evaluation over the memory gives what evaluation on trees gives.
