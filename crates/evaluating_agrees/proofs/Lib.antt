@@ -1,2 +1,5 @@
 pub mod Going
 pub mod Simple
+pub mod Binding
+pub mod Definitions
+pub mod Loops
