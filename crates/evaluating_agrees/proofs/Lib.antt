@@ -1,7 +1,13 @@
 pub mod Going
 pub mod Simple
+pub mod Pairs
 pub mod Infix
-pub mod Matches
+pub mod Sequences
 pub mod Binding
+pub mod Parameters
+pub mod Application
+pub mod Lets
+pub mod Matches
+pub mod Closures
 pub mod Definitions
 pub mod Loops
