@@ -1,2 +1,3 @@
 pub mod Going
+pub mod Sequences
 pub mod Simple
