@@ -1,3 +1,4 @@
 pub mod Going
+pub mod Lets
 pub mod Sequences
 pub mod Simple
