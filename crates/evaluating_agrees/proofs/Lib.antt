@@ -1,3 +1,4 @@
 pub mod Going
 pub mod Simple
 pub mod Pairs
+pub mod Closures
