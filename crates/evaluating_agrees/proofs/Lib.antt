@@ -1,6 +1,4 @@
 pub mod Going
-pub mod Lets
-pub mod Sequences
 pub mod Simple
 pub mod Pairs
 pub mod Infix
