@@ -9,5 +9,6 @@ pub mod Application
 pub mod Lets
 pub mod Matches
 pub mod Closures
+pub mod Cycle
 pub mod Definitions
 pub mod Loops
