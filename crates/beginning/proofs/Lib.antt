@@ -1,1 +1,3 @@
 pub mod Bound
+pub mod Sized
+pub mod Accepted

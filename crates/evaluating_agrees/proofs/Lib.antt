@@ -1,4 +1,14 @@
 pub mod Going
 pub mod Simple
 pub mod Pairs
+pub mod Infix
+pub mod Sequences
+pub mod Binding
+pub mod Parameters
+pub mod Application
+pub mod Lets
+pub mod Matches
 pub mod Closures
+pub mod Cycle
+pub mod Definitions
+pub mod Loops

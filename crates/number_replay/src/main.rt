@@ -9,8 +9,8 @@ ghost use lib.ListN.{length};
 
 const REFUSED: u32 = 4294901760;
 
-// What stands in the arrays before a case.
-const UNWRITTEN: u32 = 424242;
+// What stands in the arrays where there is no id.
+const UNWRITTEN: u32 = 0;
 
 // What a case came to. Broken: it does not fit here, or the input ends within it, so that no next case can be found.
 enum Seen {
@@ -19,18 +19,6 @@ enum Seen {
     Differs,
     Broken,
     End,
-}
-
-fn no_ids() -> [u32; 2048]
-    ensures { λ r. ⌜ length r ≡ 2048 ⌝ }
-{
-    [UNWRITTEN; 2048]
-}
-
-fn no_publics() -> [u32; 64]
-    ensures { λ r. ⌜ length r ≡ 64 ⌝ }
-{
-    [UNWRITTEN; 64]
 }
 
 // Entry i of an array whose first n entries are the words from word `from` on.
@@ -91,9 +79,11 @@ fn verdict(answer: u32, as_expected: bool) -> Seen {
 fn judge(image: &[u8], s: &[u8], answer: u32, n: usize, p: usize) -> Seen
     requires { ⌜ 4 * (n + p) ≤ length (now s) ⌝ }
 {
-    let mut ids = no_ids();
-    let mut publics = no_publics();
-    let got = answer_number(numbering::number_module_variables(image, &mut ids, &mut publics));
+    let r = numbering::number_module_variables(image);
+    let ids = r.ids;
+    let publics = r.publics;
+    let numbered = r.answer;
+    let got = answer_number(numbered);
     let same = ids_are(&ids, s, n) & publics_are(&publics, s, n, p);
     verdict(answer, (got == answer as u64) & same)
 }

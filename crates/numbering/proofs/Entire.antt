@@ -21,7 +21,7 @@ use Rattle.source.specs.Record.{Read, checked, moduleOf, usedOnce, definitionAt
 use Rattle.source.specs.Readable.{Readable}
 use Rattle.numbering.specs.Numbering.{Ids, Names, Numbered, _>>=_, return, found, named, freshText, iterText, foldText, registered, numberModuleVariables, namesOf, numbered}
 use Rattle.numbering.specs.Numbers.{NumberedIn, numberedModule, numberedDefinition, numberedExpression}
-use Rattle.numbering.specs.Walks.{weight, each, coded, Holds, names as both, noRow, noEntries, Sizes, Room, Walkable, Ready, ReadyDefinitions, ReadyExpressions, sumFrom, definitionsWeight, expressionsWeight, Published, Registered, DefinitionsWalk, ExpressionsWalk}
+use Rattle.numbering.specs.Walks.{weight, each, coded, Holds, names as both, noRow, noEntries, noPublics, Sizes, Room, Walkable, Ready, ReadyDefinitions, ReadyExpressions, sumFrom, definitionsWeight, expressionsWeight, Published, Registered, DefinitionsWalk, ExpressionsWalk}
 use Rattle.numbering.proofs.Laws.{every-at, and-left, and-right}
 use Rattle.numbering.proofs.Sums.{total-same, total-sum, total-zero, total-add, total-extend, one-at-most, same-no, used-by}
 use Rattle.numbering.proofs.Weights.{roots-weigh}
@@ -46,6 +46,10 @@ no-row-long e = ap length e ∙ length-replicate {A = ℕ} 512 0
 pub no-entries-long : {row : List ℕ} → row ≡ noEntries → length row ≡ 2048
 unfolding noEntries
 no-entries-long e = ap length e ∙ length-replicate {A = ℕ} 2048 0
+
+pub no-publics-long : {row : List ℕ} → row ≡ noPublics → length row ≡ 64
+unfolding noPublics
+no-publics-long e = ap length e ∙ length-replicate {A = ℕ} 64 0
 
 append-none : (l : Ids) → l ++ [] ≡ l
 append-none [] = refl
@@ -201,3 +205,7 @@ pub refused-is : (r : Read) {n : ℕ} → Checked.Refused n ≡ checked r → r 
 unfolding checked
 refused-is (Read.module-of m) e = let z : _≡_ {A = ℕ} 0 1 = cc in absurd (omega arith)
 refused-is (Read.refused m) {n} e = let z : n ≡ m = cc in ap Read.refused (sym z)
+
+-- the same from equal arrays at the start
+pub numbered-from : {b ids public ids₀ public₀ : List ℕ} {next : ℕ} (ids′ public′ : List ℕ) → ids ≡ ids₀ → public ≡ public₀ → NumberedIn b ids public next ids′ public′ → NumberedIn b ids₀ public₀ next ids′ public′
+numbered-from ids′ public′ e f n = rw (← e, ← f) n

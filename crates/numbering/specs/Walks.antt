@@ -263,3 +263,6 @@ noRow = replicate 512 0
 
 unfoldable pub noEntries : List ℕ
 noEntries = replicate 2048 0
+
+unfoldable pub noPublics : List ℕ
+noPublics = replicate 64 0

@@ -25,12 +25,19 @@ ghost use Rattle.source.specs.Readable.{Readable};
 ghost use Rattle.numbering.specs.Numbering.{registered};
 ghost use Rattle.numbering.specs.Numbers.{NumberedIn};
 ghost use Rattle.numbering.specs.Outcome.{Outcome};
-ghost use Rattle.numbering.specs.Walks.{Holds, noRow, noEntries};
+ghost use Rattle.numbering.specs.Walks.{Holds, noRow, noEntries, noPublics};
 
 // The next free id, or the record's refusal.
 pub enum Numbered {
     Next(u32),
     Refused(u32),
+}
+
+// The answer with its arrays: the id of every node that has a name at its index, that of every public at its position, 0 elsewhere.
+pub struct Numbering {
+    pub answer: Numbered,
+    pub ids: [u32; 2048],
+    pub publics: [u32; 64],
 }
 
 fn no_row() -> [u32; 512]
@@ -43,6 +50,12 @@ fn no_entries() -> [u32; 2048]
     ensures { λ r. ⌜ r ≡ noEntries ⌝ }
 {
     [0u32; 2048]
+}
+
+fn no_publics() -> [u32; 64]
+    ensures { λ r. ⌜ r ≡ noPublics ⌝ }
+{
+    [0u32; 64]
 }
 
 // fresh, iter and fold, as transform.rs registers them.
@@ -119,13 +132,25 @@ pub fn number_checked(s: &[u8], ids: &mut [u32; 2048], publics: &mut [u32; 64]) 
     number_lists(s, l, &mut globals, ids, publics)
 }
 
-// Any bytes: refused as the record is, with the arrays as they were, or numbered.
-pub fn number_module_variables(s: &[u8], ids: &mut [u32; 2048], publics: &mut [u32; 64]) -> Numbered
-    requires { ⌜ (length (now ids) ≡ 2048) × (length (now publics) ≡ 64) ⌝ }
-    ensures { λ r. ⌜ Outcome (now (s .entry)) (now (ids .entry)) (now (publics .entry)) r (now (ids .exit)) (now (publics .exit)) ⌝ }
+// Any bytes: refused as the record is, with arrays of zeros, or numbered.
+pub fn number_module_variables(s: &[u8]) -> Numbering
+    ensures { λ r. ⌜ Outcome (now (s .entry)) noEntries noPublics (r .answer) (r .ids) (r .publics) ⌝ }
 {
+    let mut ids = no_entries();
+    let mut publics = no_publics();
     match check_source(s) {
-        Checked::Accepted => Numbered::Next(number_checked(s, ids, publics)),
-        Checked::Refused(n) => Numbered::Refused(n),
+        Checked::Accepted => {
+            let next = number_checked(s, &mut ids, &mut publics);
+            Numbering {
+                answer: Numbered::Next(next),
+                ids: ids,
+                publics: publics,
+            }
+        }
+        Checked::Refused(n) => Numbering {
+            answer: Numbered::Refused(n),
+            ids: ids,
+            publics: publics,
+        },
     }
 }

@@ -13,9 +13,6 @@ const BASE: u32 = 4294967295;
 
 const REFUSED: u32 = 4294901760;
 
-// What stands in the arrays before a case.
-const UNWRITTEN: u32 = 424242;
-
 // What a case came to: its place in the counts, 0 for an accepted one, else the number of its refusal. Broken: it does not fit here,
 // or the input ends within it, so that no next case can be found.
 enum Seen {
@@ -26,22 +23,10 @@ enum Seen {
     End,
 }
 
-fn no_ids() -> [u32; 2048]
-    ensures { λ r. ⌜ length r ≡ 2048 ⌝ }
-{
-    [UNWRITTEN; 2048]
-}
-
-fn no_publics() -> [u32; 64]
-    ensures { λ r. ⌜ length r ≡ 64 ⌝ }
-{
-    [UNWRITTEN; 64]
-}
-
-fn ids_untouched(ids: &[u32; 2048]) -> bool {
+fn no_ids(ids: &[u32; 2048]) -> bool {
     let mut i = 0usize;
     while i < 2048 {
-        if ids[i] != UNWRITTEN {
+        if ids[i] != 0 {
             return false;
         }
         i += 1;
@@ -49,10 +34,10 @@ fn ids_untouched(ids: &[u32; 2048]) -> bool {
     true
 }
 
-fn publics_untouched(publics: &[u32; 64]) -> bool {
+fn no_publics(publics: &[u32; 64]) -> bool {
     let mut i = 0usize;
     while i < 64 {
-        if publics[i] != UNWRITTEN {
+        if publics[i] != 0 {
             return false;
         }
         i += 1;
@@ -69,10 +54,10 @@ fn judge_accepted(next: u32, answer: u32) -> Seen {
     }
 }
 
-// A refused one has its number, and leaves both arrays alone.
-fn judge_refused(number: u32, answer: u32, untouched: bool) -> Seen {
+// A refused one has its number, and no id in either array.
+fn judge_refused(number: u32, answer: u32, none: bool) -> Seen {
     let same = REFUSED as u64 + number as u64 == answer as u64;
-    if same & untouched {
+    if same & none {
         Seen::As(number)
     } else {
         Seen::Differs
@@ -80,15 +65,16 @@ fn judge_refused(number: u32, answer: u32, untouched: bool) -> Seen {
 }
 
 fn judge(image: &[u8], answer: u32) -> Seen {
-    let mut ids = no_ids();
-    let mut publics = no_publics();
-    let got = numbering::number_module_variables(image, &mut ids, &mut publics);
+    let r = numbering::number_module_variables(image);
+    let ids = r.ids;
+    let publics = r.publics;
+    let got = r.answer;
     match got {
         Numbered::Next(next) => judge_accepted(next, answer),
         Numbered::Refused(number) => judge_refused(
             number,
             answer,
-            ids_untouched(&ids) & publics_untouched(&publics),
+            no_ids(&ids) & no_publics(&publics),
         ),
     }
 }

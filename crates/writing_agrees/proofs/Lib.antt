@@ -6,3 +6,4 @@ pub mod Runs
 pub mod Ids
 pub mod Flat
 pub mod Constants
+pub mod Evaluated

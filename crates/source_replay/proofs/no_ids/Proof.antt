@@ -1,6 +1,6 @@
--- `source_replay::ids_untouched` meets its contract. Assumes nothing.
-use Rattle.source_replay.proofs.ids_untouched.Statement.{statement}
-use Rattle.source_replay.proofs.ids_untouched.Tie as tie
+-- `source_replay::no_ids` meets its contract. Assumes nothing.
+use Rattle.source_replay.proofs.no_ids.Statement.{statement}
+use Rattle.source_replay.proofs.no_ids.Tie as tie
 use borrow.Author.Needs.{needs}
 use Prim.Native.Nat.{_-_, _≤_}
 
@@ -34,8 +34,8 @@ loop-again c = search needs
 returns-2 : tie.Need-returns-2 Inv-loop μ-loop
 returns-2 c = search needs
 
-pub ids-untouched-spec : {M : Type 1} → statement M
-ids-untouched-spec =
+pub no-ids-spec : {M : Type 1} → statement M
+no-ids-spec =
     tie.close
     (tie.spec
     Inv-loop

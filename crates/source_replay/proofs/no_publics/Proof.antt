@@ -1,6 +1,6 @@
--- `source_replay::publics_untouched` meets its contract. Assumes nothing.
-use Rattle.source_replay.proofs.publics_untouched.Statement.{statement}
-use Rattle.source_replay.proofs.publics_untouched.Tie as tie
+-- `source_replay::no_publics` meets its contract. Assumes nothing.
+use Rattle.source_replay.proofs.no_publics.Statement.{statement}
+use Rattle.source_replay.proofs.no_publics.Tie as tie
 use borrow.Author.Needs.{needs}
 use Prim.Native.Nat.{_-_, _≤_}
 
@@ -34,8 +34,8 @@ loop-again c = search needs
 returns-2 : tie.Need-returns-2 Inv-loop μ-loop
 returns-2 c = search needs
 
-pub publics-untouched-spec : {M : Type 1} → statement M
-publics-untouched-spec =
+pub no-publics-spec : {M : Type 1} → statement M
+no-publics-spec =
     tie.close
     (tie.spec
     Inv-loop
