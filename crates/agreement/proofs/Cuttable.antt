@@ -1,6 +1,6 @@
 -- 22 does not arise: a flat module that evaluation makes is cut, or refused because an id passes 65,535. Assumes nothing.
 use mathlib.Core.Path.{_≡_, refl, ap, _∙_}
-use mathlib.Core.Bool.{Bool, true, false, _&&_}
+use mathlib.Core.Bool.{Bool, true}
 use mathlib.Core.List.{List, [], _∷_}
 use Prim.Native.Nat.{ℕ}
 use Rattle.field.specs.declared.InfixOp.{InfixOp}
