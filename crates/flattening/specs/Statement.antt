@@ -1,0 +1,36 @@
+-- Demand 3, about the bytes: a plain source record and the constraint record that `flatten` writes for it say the same. Proved in proofs/Agreement.antt.
+use mathlib.Core.Path.{_≡_}
+use mathlib.Core.Bool.{true}
+use mathlib.Core.List.{List}
+use Prim.Native.Nat.{ℕ}
+use lib.IntN.{ℤ}
+use lib.ListN.{length, take}
+use Rattle.field.specs.Prime.{P}
+use Rattle.field.specs.Element.{elem}
+use Rattle.source.specs.Trees.{Module}
+use Rattle.source.specs.Record.{Read, sourceOf}
+use Rattle.constraint.specs.Record.{constraintBytes}
+use Rattle.constraint.specs.Reading.{constraintOf}
+use Rattle.cut.specs.declared.Answer.the-variants.{Written}
+use Rattle.cut.specs.Cut.{answerFor, outputFor}
+use Rattle.plain.specs.Plain.{isPlain}
+use Rattle.plain.specs.Meaning.{NoDivisorZero}
+use Rattle.agreement.specs.Statement.{Agrees}
+use Rattle.flattening.specs.Flatten.{flattened}
+
+-- For every source record b that is accepted (with a store of `len` bytes and the output `out`, n bytes are written) and whose module m is plain, and whatever
+-- elements ρ its inputs have that make no divisor in it zero: the equalities read back from the bytes that were written agree with m. `Agrees` of
+-- agreement/specs/Statement.antt: m's equations hold just if these equalities have a solution with the inputs ρ, and any two solutions agree on every variable
+-- in them. And the bytes are the record of what is read back from them
+abbrev pub FlattenAgrees : Type 0
+FlattenAgrees =
+    (b out : List ℕ) (len n : ℕ) (m : Module) →
+    answerFor (length out) (flattened b len) ≡ Written n →
+    sourceOf b ≡ Read.module-of m →
+    isPlain m ≡ true →
+    let written = take n (outputFor out (flattened b len)) in
+    (constraintBytes (constraintOf written) ≡ written)
+    × ((ρ : ℕ → ℤ) →
+    ((x : ℕ) → elem P (ρ x) ≡ ρ x) →
+    NoDivisorZero m ρ →
+    Agrees m (constraintOf written) ρ)
