@@ -1,2 +1,4 @@
 pub mod Answers
 pub mod Agreement
+pub mod Long
+pub mod Cases

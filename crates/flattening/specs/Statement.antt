@@ -2,7 +2,7 @@
 use mathlib.Core.Path.{_≡_}
 use mathlib.Core.Bool.{true}
 use mathlib.Core.List.{List}
-use Prim.Native.Nat.{ℕ}
+use Prim.Native.Nat.{ℕ, _≤_, _<_}
 use lib.IntN.{ℤ}
 use lib.ListN.{length, take}
 use Rattle.field.specs.Prime.{P}
@@ -34,3 +34,11 @@ FlattenAgrees =
     ((x : ℕ) → elem P (ρ x) ≡ ρ x) →
     NoDivisorZero m ρ →
     Agrees m (constraintOf written) ρ)
+
+-- What the programs rely on. No record is longer than 76,052 bytes: a front that is longer has the answer of the whole
+abbrev pub LongAsFront : Type 0
+LongAsFront = (b : List ℕ) (len n : ℕ) → 76052 < n → flattened (take n b) len ≡ flattened b len
+
+-- and no more than 65,535 nodes of 16 bytes are made
+abbrev pub LargeAsMost : Type 0
+LargeAsMost = (b : List ℕ) (len : ℕ) → 1048560 ≤ len → flattened b len ≡ flattened b 1048560
