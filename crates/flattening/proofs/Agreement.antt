@@ -36,21 +36,13 @@ use Rattle.agreement.specs.Statement.{Agrees}
 use Rattle.agreement.proofs.Agreement.{agreement}
 use Rattle.flattening.specs.Flatten.{flattenedRead, flattened}
 use Rattle.flattening.specs.Statement.{FlattenAgrees}
-
-false-true : false ≡ true → ⊥
-false-true e = let o : _≡_ {A = ℕ} 0 1 = cc in omega arith
-
-flat-path : (f g : FlatModule) → flat f ≡ flat g → f ≡ g
-flat-path f g e = cc
+use Rattle.flattening.proofs.Answers.{flat-path, refused-cut}
 
 written-path : (k n : ℕ) → Written k ≡ Written n → k ≡ n
 written-path k n e = cc
 
 refused-written : (k n : ℕ) → Refused k ≡ Written n → ⊥
 refused-written k n e = let o : _≡_ {A = ℕ} 0 1 = cc in omega arith
-
-refused-cut : (n : ℕ) (c : ConstraintModule) → refused n ≡ cut c → ⊥
-refused-cut n c e = let o : _≡_ {A = ℕ} 0 1 = cc in omega arith
 
 -- ---- constants fit 32 bits, so that the bytes can be read back
 

@@ -11,7 +11,8 @@ use Rattle.source.proofs.Accepted.{accepted-readable, accepted-module}
 use Rattle.flat.specs.Trees.{FlatModule, moduleNodes}
 use Rattle.flat.specs.Record.{moduleOf}
 use Rattle.flat.specs.Readable.{Readable}
-use Rattle.passes.specs.Passes.{Outcome, refused, cutOf}
+use Rattle.constraint.specs.Trees.{ConstraintModule}
+use Rattle.passes.specs.Passes.{Outcome, cut, refused, cutOf}
 use Rattle.numbering.specs.Numbering.{numbered}
 use Rattle.evaluation.specs.Evaluation.{Evaluated, flat, refusal, evaluated}
 use Rattle.evaluation.proofs.Made.{evaluated-is-made}
@@ -24,8 +25,11 @@ use Rattle.flattening.specs.Flatten.{flattenedRead, flattened}
 flat-refusal : (f : FlatModule) (n : ℕ) → flat f ≡ refusal n → ⊥
 flat-refusal f n e = let z : _≡_ {A = ℕ} 0 1 = cc in omega arith
 
-flat-path : (f g : FlatModule) → flat f ≡ flat g → f ≡ g
+pub flat-path : (f g : FlatModule) → flat f ≡ flat g → f ≡ g
 flat-path f g e = cc
+
+pub refused-cut : (n : ℕ) (c : ConstraintModule) → refused n ≡ cut c → ⊥
+refused-cut n c e = let z : _≡_ {A = ℕ} 0 1 = cc in omega arith
 
 -- ---- what is evaluated
 

@@ -1,4 +1,5 @@
 pub mod Answers
 pub mod Agreement
 pub mod Long
+pub mod Longest
 pub mod Cases

@@ -9,8 +9,10 @@ use Rattle.field.specs.Prime.{P}
 use Rattle.field.specs.Element.{elem}
 use Rattle.source.specs.Trees.{Module}
 use Rattle.source.specs.Record.{Read, sourceOf}
+use Rattle.constraint.specs.Trees.{ConstraintModule}
 use Rattle.constraint.specs.Record.{constraintBytes}
 use Rattle.constraint.specs.Reading.{constraintOf}
+use Rattle.passes.specs.Passes.{cut}
 use Rattle.cut.specs.declared.Answer.the-variants.{Written}
 use Rattle.cut.specs.Cut.{answerFor, outputFor}
 use Rattle.plain.specs.Plain.{isPlain}
@@ -42,3 +44,7 @@ LongAsFront = (b : List ℕ) (len n : ℕ) → 76052 < n → flattened (take n b
 -- and no more than 65,535 nodes of 16 bytes are made
 abbrev pub LargeAsMost : Type 0
 LargeAsMost = (b : List ℕ) (len : ℕ) → 1048560 ≤ len → flattened b len ≡ flattened b 1048560
+
+-- and no constraint record is longer than 1,016,088 bytes: an output of so many is never too short
+abbrev pub LongestRecord : Type 0
+LongestRecord = (b : List ℕ) (len : ℕ) (c : ConstraintModule) → flattened b len ≡ cut c → length (constraintBytes c) ≤ 1016088
