@@ -1,16 +1,21 @@
 // The constraint record of a source record: the record on standard input, its constraint record on standard output; at a
 // refusal nothing there, and "refused" with the number on standard error. Arguments: how many bytes to lend as the store,
-// and how many as the output. Where one is missing or larger than can matter, the largest that can.
+// and how many as the output. One that is missing, or more than can matter, counts as the most that can.
 use cut::Answer;
+use flattening::buffers::output_buffer;
+use flattening::buffers::record_buffer;
+use flattening::buffers::store_buffer;
 use libc::STDERR_FILENO;
 use libc::STDIN_FILENO;
 use libc::STDOUT_FILENO;
+ghost use Prim.Native.Nat.{_≤_};
 
-// 16 bytes for each of 65,535 nodes.
 const STORE: usize = 1048560;
 
-// No constraint record is longer.
 const OUTPUT: usize = 1016088;
+
+// More than either.
+const MANY: usize = 100000000;
 
 // The bytes that an argument says to lend.
 enum Lent {
@@ -18,8 +23,14 @@ enum Lent {
     NoNumber,
 }
 
-// A number in decimal, at most `most`.
-fn number(text: &[u8], most: usize) -> Lent {
+fn at_most(n: usize, most: usize) -> usize
+    ensures { λ r. ⌜ r ≤ most ⌝ }
+{
+    if most < n { most } else { n }
+}
+
+// A number in decimal, or MANY where it is larger.
+fn number(text: &[u8]) -> Lent {
     let mut value = 0usize;
     let mut k = 0usize;
     while k < text.len() {
@@ -30,10 +41,7 @@ fn number(text: &[u8], most: usize) -> Lent {
         if b'9' < digit {
             return Lent::NoNumber;
         }
-        value = value * 10 + (digit - b'0') as usize;
-        if most < value {
-            value = most;
-        }
+        value = at_most(value * 10 + (digit - b'0') as usize, MANY);
         k += 1;
     }
     if k == 0 {
@@ -42,49 +50,65 @@ fn number(text: &[u8], most: usize) -> Lent {
     Lent::Bytes(value)
 }
 
-fn lent(argument: usize, most: usize) -> Lent {
+fn bytes_of(argument: usize) -> Lent {
     if os::arg_count() <= argument {
-        return Lent::Bytes(most);
+        return Lent::Bytes(MANY);
     }
     let mut text = [0u8; 40];
     let n = os::arg(argument, &mut text);
-    number(&text[..n], most)
+    number(&text[..n])
 }
 
-fn report(answer: Answer, out: &[u8]) {
-    match answer {
-        Answer::Written(n) => {
-            if n <= out.len() {
-                if !io::write_all(STDOUT_FILENO, &out[..n]) {
-                    os::fail(b"standard output");
-                }
-            }
-        }
-        Answer::Refused(number) => {
-            let mut line = [0u8; 80];
-            let n = listing::refused_line(number, &mut line);
-            io::write_all(STDERR_FILENO, &line[..n]);
-        }
+fn print_record(bytes: &[u8]) {
+    if !io::write_all(STDOUT_FILENO, bytes) {
+        os::fail(b"standard output");
     }
 }
 
-fn run(held: usize, room: usize) {
-    // One byte more than the longest record: a longer input has the answer of its first 76,053 bytes.
-    let mut record = [0u8; 76053];
+fn print_refused(number: u32) {
+    let mut line = [0u8; 80];
+    let n = listing::refused_line(number, &mut line);
+    io::write_all(STDERR_FILENO, &line[..n]);
+}
+
+fn print_answer(answer: Answer, out: &[u8]) {
+    match answer {
+        Answer::Written(n) => {
+            if n <= out.len() {
+                print_record(&out[..n]);
+            }
+        }
+        Answer::Refused(number) => print_refused(number),
+    }
+}
+
+// The record that is read, with so many bytes of store and output.
+fn flatten_input(store: &mut [u8], out: &mut [u8]) {
+    let mut record = record_buffer();
     let n = io::read_full(STDIN_FILENO, &mut record);
-    let mut store = [0u8; 1048560];
-    let mut out = [0u8; 1016088];
-    let answer = flattening::flatten(&record[..n], &mut store[..held], &mut out[..room]);
-    report(answer, &out);
+    let answer = flattening::flatten(&record[..n], store, out);
+    print_answer(answer, out);
+}
+
+fn run(held: usize, room: usize) {
+    let mut store = store_buffer();
+    let mut out = output_buffer();
+    let bytes = at_most(held, STORE);
+    let most = at_most(room, OUTPUT);
+    flatten_input(&mut store[..bytes], &mut out[..most]);
+}
+
+fn print_usage() {
+    io::write_all(STDERR_FILENO, b"usage: flatten [STORE [OUTPUT]] < RECORD\n");
 }
 
 fn main() {
-    let Lent::Bytes(held) = lent(1, STORE) else {
-        io::write_all(STDERR_FILENO, b"usage: flatten [STORE [OUTPUT]]\n");
+    let Lent::Bytes(held) = bytes_of(1) else {
+        print_usage();
         return;
     };
-    let Lent::Bytes(room) = lent(2, OUTPUT) else {
-        io::write_all(STDERR_FILENO, b"usage: flatten [STORE [OUTPUT]]\n");
+    let Lent::Bytes(room) = bytes_of(2) else {
+        print_usage();
         return;
     };
     run(held, room);

@@ -1,6 +1,10 @@
 // The equalities of a source record: the record on standard input, the text of its equalities, or its refusal, on standard
 // output, as program `equalities` writes them.
 use cut::Answer;
+use flattening::buffers::output_buffer;
+use flattening::buffers::record_buffer;
+use flattening::buffers::store_buffer;
+use libc::STDIN_FILENO;
 
 fn print_answer(answer: Answer, out: &[u8]) {
     match answer {
@@ -14,12 +18,10 @@ fn print_answer(answer: Answer, out: &[u8]) {
 }
 
 fn main() {
-    // One byte more than the longest record: a longer input has the answer of its first 76,053 bytes.
-    let mut record = [0u8; 76053];
-    let n = io::read_full(0, &mut record);
-    // 16 bytes for each of 65,535 nodes, and no constraint record is longer: the largest that can matter.
-    let mut store = [0u8; 1048560];
-    let mut out = [0u8; 1016088];
+    let mut record = record_buffer();
+    let n = io::read_full(STDIN_FILENO, &mut record);
+    let mut store = store_buffer();
+    let mut out = output_buffer();
     let answer = flattening::flatten(&record[..n], &mut store, &mut out);
     print_answer(answer, &out);
 }

@@ -1,4 +1,6 @@
 // From a source record to its constraint record: numbering, evaluation and the four passes.
+pub mod buffers;
+
 use cut::Answer;
 use cut::passes;
 use evaluator::evaluate_source;
