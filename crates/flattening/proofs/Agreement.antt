@@ -1,8 +1,8 @@
 -- Demand 3, about the bytes. Assumes nothing.
 use mathlib.Core.Path.{_≡_, refl, sym, ap, subst, _∙_}
 use mathlib.Core.Bool.{Bool, true, false}
-use mathlib.Core.List.{List, [], _∷_, _++_, reverse, reverseAux}
-use Prim.Native.Nat.{ℕ, _≤_}
+use mathlib.Core.List.{List, [], _∷_, reverseAux}
+use Prim.Native.Nat.{ℕ}
 use native.Mathlib.Omega.{arith}
 use lib.ListN.{length, take, drop}
 use lib.Seq.{take-at}
@@ -10,19 +10,18 @@ use lib.Dec.{leb}
 use Rattle.source.specs.Trees.{Module}
 use Rattle.source.specs.Record.{Read, sourceOf}
 use Rattle.source.proofs.Accepted.{accepted-module}
-use Rattle.flat.specs.Trees.{Flat, Definition, Equation, FlatModule}
+use Rattle.flat.specs.Trees.{Flat, FlatModule}
 use Rattle.flat.specs.Record.{pick}
 use Rattle.flat.specs.Rules.{All}
 use Rattle.constraint.specs.Trees.{ConstraintModule}
 use Rattle.constraint.specs.Record.{constraintBytes}
 use Rattle.constraint.specs.Reading.{constraintOf, SignedTree, Signed}
 use Rattle.constraint.proofs.ReadBack.{read-back}
-use Rattle.passes.specs.Passes.{Outcome, cut, refused, cutOf, passes}
+use Rattle.passes.specs.Passes.{Outcome, cut, refused}
 use Rattle.passes.specs.Statements.{SignedModule}
 use Rattle.passes.proofs.Lists.{all-map}
 use Rattle.passes.proofs.Agreement.{accepted}
 use Rattle.passes.proofs.SignedConstants.{passes-keep-signed}
-use Rattle.cut.specs.declared.Answer.{Answer}
 use Rattle.cut.specs.declared.Answer.the-variants.{Written, Refused}
 use Rattle.cut.specs.Cut.{answerFor, outputFor}
 use Rattle.numbering.specs.Numbering.{numbered}
@@ -32,7 +31,6 @@ use Rattle.evaluation.proofs.Narrow.{NarrowTree}
 use Rattle.evaluation.proofs.NarrowModule.{NarrowModule, evaluated-narrow, read-narrow}
 use Rattle.evaluator.specs.Source.{capacityOf}
 use Rattle.agreement.specs.Flattened.{passed, flattenedOf}
-use Rattle.agreement.specs.Statement.{Agrees}
 use Rattle.agreement.proofs.Agreement.{agreement}
 use Rattle.flattening.specs.Flatten.{flattenedRead, flattened}
 use Rattle.flattening.specs.Statement.{FlattenAgrees}

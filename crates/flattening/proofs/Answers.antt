@@ -4,7 +4,7 @@ use Prim.Native.Nat.{ℕ, _≤_}
 use mathlib.Core.Path.{_≡_, refl, sym, ap, subst, _∙_}
 use mathlib.Core.List.{List}
 use native.Mathlib.Omega.{arith}
-use lib.ListN.{length, take}
+use lib.ListN.{take}
 use Rattle.source.specs.Trees.{Module}
 use Rattle.source.specs.Record.{Read, sourceOf}
 use Rattle.source.proofs.Accepted.{accepted-readable, accepted-module}
@@ -12,7 +12,7 @@ use Rattle.flat.specs.Trees.{FlatModule, moduleNodes}
 use Rattle.flat.specs.Record.{moduleOf}
 use Rattle.flat.specs.Readable.{Readable}
 use Rattle.constraint.specs.Trees.{ConstraintModule}
-use Rattle.passes.specs.Passes.{Outcome, cut, refused, cutOf}
+use Rattle.passes.specs.Passes.{cut, refused, cutOf}
 use Rattle.numbering.specs.Numbering.{numbered}
 use Rattle.evaluation.specs.Evaluation.{Evaluated, flat, refusal, evaluated}
 use Rattle.evaluation.proofs.Made.{evaluated-is-made}

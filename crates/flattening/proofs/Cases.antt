@@ -6,7 +6,7 @@ use lib.IntN.{pos, negsuc}
 use Rattle.words.specs.Words.{wordAt, bytesOf}
 use Rattle.field.specs.declared.Answer.{Answer}
 use Rattle.field.specs.declared.Answer.the-variants.{Value}
-use Rattle.field.specs.declared.InfixOp.the-variants.{Divide, DivideZ, Multiply, Add, Equal, Exponentiate, IntDivide, Modulo}
+use Rattle.field.specs.declared.InfixOp.the-variants.{Divide, DivideZ, Multiply, Add, Exponentiate, IntDivide, Modulo}
 use Rattle.field.specs.Prime.{P}
 use Rattle.field.specs.Element.{elem}
 use Rattle.field.specs.Operations.{infixOf}
@@ -21,7 +21,7 @@ use Rattle.source.specs.Record.{expressionOf, patternOf, linkOf, grown, tree, d
 use Rattle.source.specs.Record
 use Rattle.flat.specs.Meaning.{update}
 use Rattle.constraint.specs.declared.Term.{Term}
-use Rattle.constraint.specs.Trees.{Side, Equality}
+use Rattle.constraint.specs.Trees.{Side, Equality, ConstraintModule}
 use Rattle.passes.specs.Passes
 use Rattle.passes.specs.Passes.{Outcome, cut, cutOf}
 use Rattle.passes.specs.Cases.{caseF, caseF-cut}
@@ -76,19 +76,21 @@ product =
     ++ (122 ∷ 121 ∷ 120 ∷ 117 ∷ [])
 
 -- z is v9, x v10
+abbrev pub product-list : ConstraintModule
+product-list = record {
+  next = 18;
+  publics = 9 ∷ [];
+  provers = [];
+  equalities =
+      Term.Variable 13 becomes Side.infixed Add (Term.Variable 10) (Term.Constant (pos 1))
+      ∷ Term.Variable 14 becomes Side.infixed Multiply (Term.Variable 13) (Term.Variable 10)
+      ∷ Term.Variable 14 becomes Side.copy (Term.Variable 9)
+      ∷ [];
+  kept = [];
+}
+
 abbrev pub product-cut : Outcome
-product-cut =
-    cut (record {
-      next = 18;
-      publics = 9 ∷ [];
-      provers = [];
-      equalities =
-          Term.Variable 13 becomes Side.infixed Add (Term.Variable 10) (Term.Constant (pos 1))
-          ∷ Term.Variable 14 becomes Side.infixed Multiply (Term.Variable 13) (Term.Variable 10)
-          ∷ Term.Variable 14 becomes Side.copy (Term.Variable 9)
-          ∷ [];
-      kept = [];
-    })
+product-cut = cut product-list
 
 -- document 01's, in its order; `negsuc n` is -(n + 1). Behind them the example of the programs, from its bytes
 abbrev pub cases : List Case

@@ -3,3 +3,4 @@ pub mod Agreement
 pub mod Long
 pub mod Longest
 pub mod Cases
+pub mod Example

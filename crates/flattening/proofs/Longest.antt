@@ -1,10 +1,10 @@
 -- No constraint record of a source record is longer than 1,016,088 bytes: 64 publics, 65,536 prover ids, 16,384 equalities, 4,096 kept definitions, 16,384 nodes.
 -- Assumes nothing.
-use Prim.Native.Nat.{ℕ, zero, suc, _+_, _*_, _≤_}
-use mathlib.Core.Path.{_≡_, refl, sym, ap, subst, _∙_}
+use Prim.Native.Nat.{ℕ, zero, suc, _+_, _≤_}
+use mathlib.Core.Path.{_≡_, refl, sym, ap, subst}
 use mathlib.Core.Bool.{Bool, true, false, not, _||_}
-use mathlib.Core.List.{List, [], _∷_, _++_}
-use mathlib.Core.Option.{none, some}
+use mathlib.Core.List.{List, [], _∷_}
+use mathlib.Core.Option.{none}
 use native.Mathlib.Omega.{arith}
 use lib.ListN.{length, length-append}
 use Rattle.words.specs.Words.{wordAt}
@@ -14,19 +14,18 @@ use Rattle.source.specs.Layout.{publics, publicsAt}
 use Rattle.source.specs.Readable.{Readable}
 use Rattle.source.specs.Record.{Read, sourceOf, moduleOf}
 use Rattle.source.proofs.Accepted.{accepted-readable, accepted-module}
-use Rattle.flat.specs.Trees.{Flat, Definition, Equation, FlatModule, treeNodes, definitionsNodes, equationsNodes, moduleNodes}
+use Rattle.flat.specs.Trees.{Definition, FlatModule, treeNodes, definitionsNodes, moduleNodes}
 use Rattle.constraint.specs.declared.Term.{Term}
 use Rattle.constraint.specs.Trees.{ConstraintModule}
 use Rattle.constraint.specs.Record.{constraintBytes}
 use Rattle.constraint.proofs.Lengths.{length-bytes}
-use Rattle.passes.specs.Passes.{keepIf, idsFrom, member, those, isNever, isWitness, usage, classifyDefs, Substitutions, copyPropagateExpr, copyPropagateDef, afterDef, copyPropagateDefs, afterDefs, copyPropagate, eliminateDeadEqualities, Cuts, cutsOf, joined, flattenDefTo3ac, flattenDefs, flattenLists, flattenModuleTo3ac, passes, cut, refused, cutOf}
+use Rattle.passes.specs.Passes.{keepIf, idsFrom, member, those, isNever, isWitness, usage, classifyDefs, Substitutions, copyPropagateDef, afterDef, copyPropagateDefs, afterDefs, copyPropagate, eliminateDeadEqualities, Cuts, cutsOf, joined, flattenDefTo3ac, flattenDefs, flattenLists, flattenModuleTo3ac, passes, cut, refused}
 use Rattle.passes.proofs.Agreement.{accepted}
 use Rattle.cutting.specs.declared.Target.the-variants.{Given}
 use Rattle.cutting.specs.Cutting.{targetOf, treeCut, equationsCut}
-use Rattle.cutting.proofs.Joining.{Few}
 use Rattle.cutting.proofs.Trees.{copied-nodes, cut-few}
 use Rattle.cutting.proofs.Equations.{few-equations}
-use Rattle.numbering.specs.Numbering.{Names, _>>=_, return, numberVariable, numberPublics, numberDefinitions, numberExpressions, numberModuleVariables, registered, numbered}
+use Rattle.numbering.specs.Numbering.{Names, _>>=_, return, numberPublics, numberModuleVariables, numbered}
 use Rattle.evaluation.specs.State as State
 use Rattle.evaluation.specs.Evaluation.{Evaluated, flat, refusal, evaluateModule, begin, finished, evaluatedBy, evaluated}
 use Rattle.evaluation.specs.Statements.{Made}

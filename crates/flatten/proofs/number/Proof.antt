@@ -1,7 +1,6 @@
 -- `flatten::number` meets its contract. Assumes nothing.
 use borrow.Author.Needs.{needs}
 use Prim.Native.Nat.{_-_, _≤_}
-use native.Mathlib.Omega.{arith}
 use lib.ListN.{length}
 use Rattle.flatten.proofs.number.Statement.{statement}
 use Rattle.flatten.proofs.number.Tie as tie
