@@ -33,7 +33,7 @@ use Rattle.evaluator.specs.Source.{capacityOf}
 use Rattle.agreement.specs.Flattened.{passed, flattenedOf}
 use Rattle.agreement.proofs.Agreement.{agreement}
 use Rattle.flattening.specs.Flatten.{flattenedRead, flattened}
-use Rattle.flattening.specs.Statement.{FlattenAgrees}
+use Rattle.flattening.specs.Statement.{FlattenAgrees, WrittenReadBack}
 use Rattle.flattening.proofs.Answers.{flat-path, refused-cut}
 
 written-path : (k n : ℕ) → Written k ≡ Written n → k ≡ n
@@ -101,7 +101,7 @@ accepts (cut c) out n e = go (leb (length (constraintBytes c)) (length out)) ref
     go false l q = absurd (refused-written 33 n q)
 
 -- READ BACK, WHAT IS WRITTEN IS WHAT THE PASSES LEFT, for every record that is accepted, plain or not
-pub written-read-back : (b out : List ℕ) (len n : ℕ) → answerFor (length out) (flattened b len) ≡ Written n → (flattened b len ≡ cut (constraintOf (take n (outputFor out (flattened b len))))) × (constraintBytes (constraintOf (take n (outputFor out (flattened b len)))) ≡ take n (outputFor out (flattened b len)))
+pub written-read-back : WrittenReadBack
 written-read-back b out len n e =
     let w = accepts (flattened b len) out n e in
     let back : constraintOf (take n (outputFor out (flattened b len))) ≡ w .list = ap constraintOf (w .bytes) ∙ read-back (w .list) (flattened-signed b len (w .list) (w .is-cut)) in

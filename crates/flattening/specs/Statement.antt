@@ -1,4 +1,5 @@
--- Demand 3, about the bytes: a plain source record and the constraint record that `flatten` writes for it say the same. Proved in proofs/Agreement.antt.
+-- Demand 3, about the bytes: a plain source record and the constraint record that `flatten` writes for it say the same. Then what can be read back of any record,
+-- and what the programs rely on. Proved in proofs/ (Agreement, Long, Longest).
 use mathlib.Core.Path.{_≡_}
 use mathlib.Core.Bool.{true}
 use mathlib.Core.List.{List}
@@ -36,6 +37,15 @@ FlattenAgrees =
     ((x : ℕ) → elem P (ρ x) ≡ ρ x) →
     NoDivisorZero m ρ →
     Agrees m (constraintOf written) ρ)
+
+-- For every source record that is accepted, plain or not: what is read back from the bytes that were written is what the passes left, and these are its bytes
+abbrev pub WrittenReadBack : Type 0
+WrittenReadBack =
+    (b out : List ℕ) (len n : ℕ) →
+    answerFor (length out) (flattened b len) ≡ Written n →
+    let written = take n (outputFor out (flattened b len)) in
+    (flattened b len ≡ cut (constraintOf written))
+    × (constraintBytes (constraintOf written) ≡ written)
 
 -- What the programs rely on. No record is longer than 76,052 bytes: a front that is longer has the answer of the whole
 abbrev pub LongAsFront : Type 0
