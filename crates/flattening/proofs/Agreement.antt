@@ -1,7 +1,7 @@
 -- Demand 3, about the bytes. Assumes nothing.
 use mathlib.Core.Path.{_≡_, refl, sym, ap, subst, _∙_}
 use mathlib.Core.Bool.{Bool, true, false}
-use mathlib.Core.List.{List, [], _∷_, reverseAux}
+use mathlib.Core.List.{List}
 use Prim.Native.Nat.{ℕ}
 use native.Mathlib.Omega.{arith}
 use lib.ListN.{length, take, drop}
@@ -12,7 +12,6 @@ use Rattle.source.specs.Record.{Read, sourceOf}
 use Rattle.source.proofs.Accepted.{accepted-module}
 use Rattle.flat.specs.Trees.{Flat, FlatModule}
 use Rattle.flat.specs.Record.{pick}
-use Rattle.flat.specs.Rules.{All}
 use Rattle.constraint.specs.Trees.{ConstraintModule}
 use Rattle.constraint.specs.Record.{constraintBytes}
 use Rattle.constraint.specs.Reading.{constraintOf, SignedTree, Signed}
@@ -25,16 +24,15 @@ use Rattle.passes.proofs.SignedConstants.{passes-keep-signed}
 use Rattle.cut.specs.declared.Answer.the-variants.{Written, Refused}
 use Rattle.cut.specs.Cut.{answerFor, outputFor}
 use Rattle.numbering.specs.Numbering.{numbered}
-use Rattle.evaluation.specs.State as State
-use Rattle.evaluation.specs.Evaluation.{Evaluated, flat, refusal, evaluateModule, begin, finished, evaluatedBy, evaluated}
+use Rattle.evaluation.specs.Evaluation.{Evaluated, flat, refusal, evaluated}
 use Rattle.evaluation.proofs.Narrow.{NarrowTree}
-use Rattle.evaluation.proofs.NarrowModule.{NarrowModule, evaluated-narrow, read-narrow}
+use Rattle.evaluation.proofs.NarrowModule.{NarrowModule, made-narrow, read-narrow}
 use Rattle.evaluator.specs.Source.{capacityOf}
 use Rattle.agreement.specs.Flattened.{passed, flattenedOf}
 use Rattle.agreement.proofs.Agreement.{agreement}
 use Rattle.flattening.specs.Flatten.{flattenedRead, flattened}
 use Rattle.flattening.specs.Statement.{FlattenAgrees, WrittenReadBack}
-use Rattle.flattening.proofs.Answers.{flat-path, refused-cut}
+use Rattle.flattening.proofs.Answers.{refused-cut}
 
 written-path : (k n : ℕ) → Written k ≡ Written n → k ≡ n
 written-path k n e = cc
@@ -45,27 +43,17 @@ refused-written k n e = let o : _≡_ {A = ℕ} 0 1 = cc in omega arith
 -- ---- constants fit 32 bits, so that the bytes can be read back
 
 tree-signed : (t : Flat) → NarrowTree t → SignedTree t
-tree-signed (Flat.infixed o a b) h = (tree-signed a (h .0), tree-signed b (h .1))
+tree-signed (Flat.infixed o a b) h = (tree-signed a (h .1), tree-signed b (h .2))
 tree-signed (Flat.negate a) h = tree-signed a h
 tree-signed (Flat.constant c) h = h
 tree-signed (Flat.variable v) h = tt
 
-all-reverse : {A : Type 0} (Q : A → Type 0) (xs ys : List A) → All Q xs → All Q ys → All Q (reverseAux xs ys)
-all-reverse Q [] ys h k = k
-all-reverse Q (x ∷ xs) ys h k = all-reverse Q xs (x ∷ ys) (h .1) (h .0, k)
-
 evaluated-signed : (m : Module) → NarrowModule m → (capacity : ℕ) (f : FlatModule) → evaluated capacity (numbered m) ≡ flat f → SignedModule f
-unfolding evaluated evaluatedBy finished
-evaluated-signed m narrow capacity f e = go (evaluateModule 256 (numbered m) (begin capacity (numbered m))) refl e
-  where
-    go : (o : State.Outcome State.Done) → evaluateModule 256 (numbered m) (begin capacity (numbered m)) ≡ o → finished (numbered m) o ≡ flat f → SignedModule f
-    go (State.refused n) r q = absurd (let z : _≡_ {A = ℕ} 0 1 = cc in omega arith)
-    go (State.gives x s) r q =
-        let w = evaluated-narrow 256 capacity m x s narrow r in
-        subst SignedModule (flat-path _ f q) (
-          all-reverse (λ d. SignedTree (d .right)) (s .definitions) [] (all-map (λ d h. tree-signed (d .right) h) (s .definitions) (w .definitions)) tt,
-          all-reverse (λ q. SignedTree (q .left) × SignedTree (q .right)) (s .equations) [] (all-map (λ q h. (tree-signed (q .left) (h .0), tree-signed (q .right) (h .1))) (s .equations) (w .equations)) tt,
-        )
+evaluated-signed m narrow capacity f e =
+    let w = made-narrow m narrow capacity f e in (
+      all-map (λ d h. tree-signed (d .right) h) (f .definitions) (w .definitions),
+      all-map (λ q h. (tree-signed (q .left) (h .0), tree-signed (q .right) (h .1))) (f .equations) (w .equations),
+    )
 
 pub flattened-signed : (b : List ℕ) (len : ℕ) (c : ConstraintModule) → flattened b len ≡ cut c → Signed c
 unfolding flattened flattenedRead flattenedOf passed
