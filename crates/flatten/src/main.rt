@@ -1,0 +1,115 @@
+// The constraint record of a source record: the record on standard input, its constraint record on standard output; at a
+// refusal nothing there, and "refused" with the number on standard error. Arguments: how many bytes to lend as the store,
+// and how many as the output. One that is missing, or more than can matter, counts as the most that can.
+use cut::Answer;
+use flattening::buffers::output_buffer;
+use flattening::buffers::record_buffer;
+use flattening::buffers::store_buffer;
+use libc::STDERR_FILENO;
+use libc::STDIN_FILENO;
+use libc::STDOUT_FILENO;
+ghost use Prim.Native.Nat.{_≤_};
+
+const STORE: usize = 1048560;
+
+const OUTPUT: usize = 1016088;
+
+// More than either.
+const MANY: usize = 100000000;
+
+// The bytes that an argument says to lend.
+enum Lent {
+    Bytes(usize),
+    NoNumber,
+}
+
+fn at_most(n: usize, most: usize) -> usize
+    ensures { λ r. ⌜ r ≤ most ⌝ }
+{
+    if most < n { most } else { n }
+}
+
+// A number in decimal, or MANY where it is larger.
+fn number(text: &[u8]) -> Lent {
+    let mut value = 0usize;
+    let mut k = 0usize;
+    while k < text.len() {
+        let digit = text[k];
+        if digit < b'0' {
+            return Lent::NoNumber;
+        }
+        if b'9' < digit {
+            return Lent::NoNumber;
+        }
+        value = at_most(value * 10 + (digit - b'0') as usize, MANY);
+        k += 1;
+    }
+    if k == 0 {
+        return Lent::NoNumber;
+    }
+    Lent::Bytes(value)
+}
+
+fn bytes_of(argument: usize) -> Lent {
+    if os::arg_count() <= argument {
+        return Lent::Bytes(MANY);
+    }
+    let mut text = [0u8; 40];
+    let n = os::arg(argument, &mut text);
+    number(&text[..n])
+}
+
+fn print_record(bytes: &[u8]) {
+    if !io::write_all(STDOUT_FILENO, bytes) {
+        os::fail(b"standard output");
+    }
+}
+
+fn print_refused(number: u32) {
+    let mut line = [0u8; 80];
+    let n = listing::refused_line(number, &mut line);
+    io::write_all(STDERR_FILENO, &line[..n]);
+}
+
+fn print_answer(answer: Answer, out: &[u8]) {
+    match answer {
+        Answer::Written(n) => {
+            if n <= out.len() {
+                print_record(&out[..n]);
+            }
+        }
+        Answer::Refused(number) => print_refused(number),
+    }
+}
+
+// The record that is read, with so many bytes of store and output.
+fn flatten_input(store: &mut [u8], out: &mut [u8]) {
+    let mut record = record_buffer();
+    let n = io::read_full(STDIN_FILENO, &mut record);
+    let answer = flattening::flatten(&record[..n], store, out);
+    print_answer(answer, out);
+}
+
+fn run(held: usize, room: usize) {
+    let mut store = store_buffer();
+    let mut out = output_buffer();
+    let bytes = at_most(held, STORE);
+    let most = at_most(room, OUTPUT);
+    flatten_input(&mut store[..bytes], &mut out[..most]);
+}
+
+fn print_usage() {
+    io::write_all(STDERR_FILENO, b"usage: flatten [STORE [OUTPUT]] < RECORD\n");
+}
+
+fn main() {
+    let Lent::Bytes(held) = bytes_of(1) else {
+        print_usage();
+        return;
+    };
+    let Lent::Bytes(room) = bytes_of(2) else {
+        print_usage();
+        return;
+    };
+    run(held, room);
+}

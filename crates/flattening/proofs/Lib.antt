@@ -1,0 +1,6 @@
+pub mod Answers
+pub mod Agreement
+pub mod Long
+pub mod Longest
+pub mod Cases
+pub mod Example
