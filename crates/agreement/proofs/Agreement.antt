@@ -1,22 +1,20 @@
 -- Demand 3: numbering, evaluation and the passes keep what a plain module says.
 use mathlib.Core.Path.{_≡_, refl, sym, ap, _∙_}
-use mathlib.Core.Bool.{Bool, true, false, _&&_}
+use mathlib.Core.Bool.{Bool, true, false}
 use mathlib.Core.List.{List, [], _∷_}
 use mathlib.Core.Option.{Option, none, some}
 use Prim.Native.Nat.{ℕ}
 use native.Mathlib.Omega.{arith}
 use lib.IntN.{ℤ, pos}
-use Rattle.field.specs.declared.InfixOp.the-variants.{Divide, DivideZ, Multiply, Add, Subtract, Equal, Exponentiate, IntDivide, Modulo}
 use Rattle.field.specs.Prime.{P}
 use Rattle.field.specs.Element.{elem}
 use Rattle.field.proofs.Units.{zero-element}
 use Rattle.source.specs.Trees.{Module}
-use Rattle.flat.specs.Trees.{Flat, Definition, Equation, FlatModule, defines}
-use Rattle.flat.specs.Rules.{All}
+use Rattle.flat.specs.Trees.{FlatModule, defines}
 use Rattle.flat.specs.Meaning.{Assignment, Elements, workedOut}
 use Rattle.constraint.specs.Trees.{ConstraintModule}
 use Rattle.constraint.specs.Meaning as Constraints
-use Rattle.passes.specs.Passes.{member, classifyDefs, cuttable, cuttableExpr, cuttableDefs, cuttableEquations, counted, cut, unless, fitting, cutOf, passes}
+use Rattle.passes.specs.Passes.{member, classifyDefs, counted, cut, cutOf}
 use Rattle.passes.specs.Meaning.{Inputs, Given}
 use Rattle.passes.specs.Meaning
 use Rattle.passes.specs.Statements.{KeepsMeaning}
@@ -34,7 +32,7 @@ use Rattle.numbering.proofs.Facts.{module-step}
 use Rattle.evaluation.specs.Evaluation.{Evaluated, flat, refusal, evaluated}
 use Rattle.plain.specs.Plain.{isPlain}
 use Rattle.plain.specs.Meaning.{NoDivisorZero}
-use Rattle.plain.specs.Statements.{IsInput, Gives, Known, Cuttable, PlainFlat, SaysTheSame}
+use Rattle.plain.specs.Statements.{IsInput, Gives, Known, PlainFlat, SaysTheSame}
 use Rattle.plain.proofs.Agreement.{plain-modules-agree}
 use Rattle.agreement.specs.Flattened.{passed, flattenedOf}
 use Rattle.agreement.specs.Statement.{Solves, Agrees, Agreement}
@@ -148,41 +146,3 @@ agreement m plain capacity c e ρ elements no-zero = go (evaluated capacity (num
     go : (r : Evaluated) → evaluated capacity (numbered m) ≡ r → passed r ≡ cut c → Agrees m c ρ
     go (flat f) h k = agrees-at m plain capacity f h c k ρ elements no-zero
     go (refusal n) h k = absurd (let z : _≡_ {A = ℕ} 0 1 = cc in omega arith)
-
--- 22 does not arise: an accepted plain module is cut, or refused because an id passes 65,535
-and-true : (a b : Bool) → a ≡ true → b ≡ true → (a && b) ≡ true
-and-true true b p q = q
-and-true false b p q = p
-
-cuttable-expr : (e : Flat) → Cuttable e → cuttableExpr e ≡ true
-unfolding cuttableExpr cuttable
-cuttable-expr (Flat.infixed Divide a b) h = and-true _ _ (cuttable-expr a (h .0)) (cuttable-expr b (h .1))
-cuttable-expr (Flat.infixed DivideZ a b) h = and-true _ _ (cuttable-expr a (h .0)) (cuttable-expr b (h .1))
-cuttable-expr (Flat.infixed Multiply a b) h = and-true _ _ (cuttable-expr a (h .0)) (cuttable-expr b (h .1))
-cuttable-expr (Flat.infixed Add a b) h = and-true _ _ (cuttable-expr a (h .0)) (cuttable-expr b (h .1))
-cuttable-expr (Flat.infixed Subtract a b) h = and-true _ _ (cuttable-expr a (h .0)) (cuttable-expr b (h .1))
-cuttable-expr (Flat.infixed Equal a b) h = absurd h
-cuttable-expr (Flat.infixed Exponentiate a b) h = absurd h
-cuttable-expr (Flat.infixed IntDivide a b) h = and-true _ _ (cuttable-expr a (h .0)) (cuttable-expr b (h .1))
-cuttable-expr (Flat.infixed Modulo a b) h = and-true _ _ (cuttable-expr a (h .0)) (cuttable-expr b (h .1))
-cuttable-expr (Flat.negate a) h = cuttable-expr a h
-cuttable-expr (Flat.constant c) h = refl
-cuttable-expr (Flat.variable v) h = refl
-
-cuttable-definitions : (ds : List Definition) → All (λ d. Cuttable (d .right)) ds → cuttableDefs ds ≡ true
-unfolding cuttableDefs
-cuttable-definitions [] h = refl
-cuttable-definitions (d ∷ ds) h = and-true _ _ (cuttable-expr (d .right) (h .0)) (cuttable-definitions ds (h .1))
-
-cuttable-equations : (es : List Equation) → All (λ e. Cuttable (e .left) × Cuttable (e .right)) es → cuttableEquations es ≡ true
-unfolding cuttableEquations
-cuttable-equations [] h = refl
-cuttable-equations (e ∷ es) h = and-true _ _ (cuttable-expr (e .left) (h .0 .0)) (and-true _ _ (cuttable-expr (e .right) (h .0 .1)) (cuttable-equations es (h .1)))
-
-pub plain-not-22 : (m : Module) → isPlain m ≡ true → (capacity : ℕ) (f : FlatModule) → evaluated capacity (numbered m) ≡ flat f → flattenedOf capacity m ≡ fitting (passes f)
-unfolding flattenedOf passed cutOf unless counted classifyDefs
-plain-not-22 m plain capacity f e =
-    let w = plain-modules-agree m plain capacity f e .0 in
-    ap passed e
-    ∙ ap (λ (b : Bool). unless b 22 (fitting (passes f)))
-    (and-true _ _ (cuttable-definitions (counted f) (all-those _ _ _ (all-those _ _ (f .definitions) (w .definitions-cuttable)))) (cuttable-equations (f .equations) (w .equations-cuttable)))

@@ -1,3 +1,4 @@
 pub mod Bound
 pub mod Sized
+pub mod Bare
 pub mod Accepted

@@ -32,7 +32,7 @@ use Rattle.plain.proofs.Powers.{value-path}
 use Rattle.plain.proofs.Values.{false-true, Canonical, element-path, table}
 use Rattle.plain.proofs.Modules.{ScopedDefinitions, ScopedEquations, flatSides, InTurnValued, evaluated-kept}
 use Rattle.plain.proofs.Order.{Input, not-true}
-use Rattle.plain.proofs.OrderModules.{SpansDefinitions, SpansEquations, InOrder, order-kept, input-undefined, ordered, known, cuttables, ids-below, defined-ids, every-map}
+use Rattle.plain.proofs.OrderModules.{SpansDefinitions, SpansEquations, InOrder, order-kept, input-undefined, ordered, known, ids-below, defined-ids, every-map}
 use Rattle.plain.proofs.OrderModules
 use Rattle.plain.proofs.Numbered.{both-true, Named, plain-definitions, plain-equations, PlainDefinitions, PlainEquations, Any, rises-split, pointwise-split, free-definitions, free-equations, numbered-definitions, numbered-equations, definitions-scoped, equations-scoped, definitions-spans, equations-spans, Means, Agreed, definitions-mean, equations-mean}
 use Rattle.plain.proofs.Working.{worked-elements, worked-keeps, definitions-hold, no-zero-in-turn, sides-hold}
@@ -187,8 +187,6 @@ module _ (m : Module) (plain : isPlain m ≡ true) where
       definitions-known = OrderModules.all-map _ _ (λ d h. every-map _ _ (λ v k n. free-input v (k n)) (d .right) h) (f .definitions) known-definitions;
       equations-known = OrderModules.all-map _ _ (λ q h. (every-map _ _ (λ v k n. free-input v (k n)) (q .left) (h .0), every-map _ _ (λ v k n. free-input v (k n)) (q .right) (h .1))) (f .equations) (in-order .equations);
       inputs-undefined = λ i h. (in-order .inputs-below i (input-free i h), not-true (defines (f .definitions) i) (input-undefined (Input bound N beyond) i [] (f .definitions) (in-order .definitions) (input-free i h)));
-      definitions-cuttable = cuttables (Input bound N beyond) [] (f .definitions) (in-order .definitions);
-      equations-cuttable = in-order .equations-cuttable;
     }
 
     module _ (ρ : ℕ → ℤ) (elements : (x : ℕ) → elem P (ρ x) ≡ ρ x) (no-zero : NoDivisorZero m ρ) (υ : Assignment) (υ-elements : Elements υ) (gives : Gives m ρ υ) where

@@ -42,7 +42,6 @@ use Rattle.evaluation.proofs.Environments.{insert-same, insert-other}
 use Rattle.evaluation.proofs.Exchange.{restored, restored-step, Exchanged, exchange-back, one-bound}
 use Rattle.evaluation.proofs.Helpers.{infix-case}
 use Rattle.plain.specs.Plain.{isArithmetic}
-use Rattle.plain.specs.Statements.{Cuttable}
 use Rattle.plain.proofs.Powers.{P-above}
 use Rattle.plain.proofs.Values.{false-true, some-path, none-some}
 use Rattle.plain.proofs.Terms.{Term, ofConstant, ofVariable, ofNegate, Scoped, sConstant, sBound, sFree, sNegate, sBinary, sLet, term-up, term-scoped, infix-scoped}
@@ -98,75 +97,51 @@ From I ds v = defines ds v ≡ false → I v
 -- definitions, the newest first
 abbrev pub Ordered : (ℕ → Type 0) → List Definition → Type 0
 Ordered I [] = Unit {0}
-Ordered I (d ∷ ds) = (defines ds (d .id) ≡ false) × (I (d .id) → ⊥) × Every (From I ds) (d .right) × Cuttable (d .right) × Ordered I ds
+Ordered I (d ∷ ds) = (defines ds (d .id) ≡ false) × (I (d .id) → ⊥) × Every (From I ds) (d .right) × Ordered I ds
 
 -- definitions in order, behind those of `seen`
 abbrev pub OnceInOrder : (ℕ → Type 0) → List Definition → List Definition → Type 0
 OnceInOrder I seen [] = Unit {0}
-OnceInOrder I seen (d ∷ ds) = (defines seen (d .id) ≡ false) × (I (d .id) → ⊥) × Every (From I seen) (d .right) × Cuttable (d .right) × OnceInOrder I (d ∷ seen) ds
+OnceInOrder I seen (d ∷ ds) = (defines seen (d .id) ≡ false) × (I (d .id) → ⊥) × Every (From I seen) (d .right) × OnceInOrder I (d ∷ seen) ds
 
 order-aux : (I : ℕ → Type 0) (ds es : List Definition) → Ordered I ds → OnceInOrder I ds es → OnceInOrder I [] (reverseAux ds es)
 order-aux I [] es o w = w
-order-aux I (d ∷ ds) es o w = order-aux I ds (d ∷ es) (o .4) (o .0, o .1, o .2, o .3, w)
+order-aux I (d ∷ ds) es o w = order-aux I ds (d ∷ es) (o .3) (o .0, o .1, o .2, w)
 
 pub order : (I : ℕ → Type 0) (ds : List Definition) → Ordered I ds → OnceInOrder I [] (reverse ds)
 order I ds o = order-aux I ds [] o tt
 
--- a number whose flat expression has such ids and can be cut
-isCuttable : InfixOp → Bool
-isCuttable Divide = true
-isCuttable DivideZ = true
-isCuttable Multiply = true
-isCuttable Add = true
-isCuttable Subtract = true
-isCuttable Equal = false
-isCuttable Exponentiate = false
-isCuttable IntDivide = true
-isCuttable Modulo = true
-
-cuttable-infixed : (o : InfixOp) (a b : Flat) → isCuttable o ≡ true → Cuttable a → Cuttable b → Cuttable (Flat.infixed o a b)
-unfolding isCuttable
-cuttable-infixed Divide a b h p q = (p, q)
-cuttable-infixed DivideZ a b h p q = (p, q)
-cuttable-infixed Multiply a b h p q = (p, q)
-cuttable-infixed Add a b h p q = (p, q)
-cuttable-infixed Subtract a b h p q = (p, q)
-cuttable-infixed Equal a b h p q = absurd (false-true h)
-cuttable-infixed Exponentiate a b h p q = absurd (false-true h)
-cuttable-infixed IntDivide a b h p q = (p, q)
-cuttable-infixed Modulo a b h p q = (p, q)
-
+-- a number whose flat expression has such ids
 pub record Uses (Q : ℕ → Type 0) (e : Expr) : Type 0 where
   pub ids : (f : Flat) → flatOf e ≡ some f → Every Q f
-  pub cuts : (f : Flat) → flatOf e ≡ some f → Cuttable f
 
 pub uses-constant : {Q : ℕ → Type 0} {n : ℤ} → Uses Q (constant n)
 unfolding flatOf
-uses-constant {Q} = record { ids = λ f h. subst (Every Q) (some-path _ f h) tt; cuts = λ f h. subst Cuttable (some-path _ f h) tt }
+uses-constant {Q} = record { ids = λ f h. subst (Every Q) (some-path _ f h) tt }
 
 pub uses-variable : {Q : ℕ → Type 0} {x : ℕ} → Q x → Uses Q (variable x)
 unfolding flatOf
-uses-variable {Q} q = record { ids = λ f h. subst (Every Q) (some-path _ f h) q; cuts = λ f h. subst Cuttable (some-path _ f h) tt }
+uses-variable {Q} q = record { ids = λ f h. subst (Every Q) (some-path _ f h) q }
 
 pub uses-negate : {Q : ℕ → Type 0} {a : Expr} → Uses Q a → Uses Q (negate a)
 unfolding flatOf opposed
-uses-negate {Q} {a} u = record { ids = λ f h. go f (flatOf a) refl h .0; cuts = λ f h. go f (flatOf a) refl h .1 }
+uses-negate {Q} {a} u = record { ids = λ f h. go f (flatOf a) refl h }
   where
-    go : (f : Flat) (o : Option Flat) → flatOf a ≡ o → opposed o ≡ some f → Every Q f × Cuttable f
+    go : (f : Flat) (o : Option Flat) → flatOf a ≡ o → opposed o ≡ some f → Every Q f
     go f none q h = absurd (none-some f h)
-    go f (some g) q h = subst (λ (f : Flat). Every Q f × Cuttable f) (some-path _ f h) (u .ids g q, u .cuts g q)
+    go f (some g) q h = subst (Every Q) (some-path _ f h) (u .ids g q)
 
-uses-binary : {Q : ℕ → Type 0} {a b : Expr} (o : InfixOp) → isCuttable o ≡ true → Uses Q a → Uses Q b → Uses Q (binary o a b)
+uses-binary : {Q : ℕ → Type 0} {a b : Expr} (o : InfixOp) → Uses Q a → Uses Q b → Uses Q (binary o a b)
 unfolding flatOf joined
-uses-binary {Q} {a} {b} o c u v = record { ids = λ f h. go f (flatOf a) (flatOf b) refl refl h .0; cuts = λ f h. go f (flatOf a) (flatOf b) refl refl h .1 }
+uses-binary {Q} {a} {b} o u v = record { ids = λ f h. go f (flatOf a) (flatOf b) refl refl h }
   where
-    go : (f : Flat) (x y : Option Flat) → flatOf a ≡ x → flatOf b ≡ y → joined o x y ≡ some f → Every Q f × Cuttable f
+    go : (f : Flat) (x y : Option Flat) → flatOf a ≡ x → flatOf b ≡ y → joined o x y ≡ some f → Every Q f
     go f none y p q h = absurd (none-some f h)
     go f (some g) none p q h = absurd (none-some f h)
-    go f (some g) (some k) p q h = subst (λ (f : Flat). Every Q f × Cuttable f) (some-path _ f h) ((u .ids g p, v .ids k q), cuttable-infixed o g k c (u .cuts g p) (v .cuts k q))
+    go f (some g) (some k) p q h = subst (Every Q) (some-path _ f h) (u .ids g p, v .ids k q)
 
-infix-uses : {Q : ℕ → Type 0} {a b : Expr} (o : InfixOp) → isCuttable o ≡ true → Uses Q a → Uses Q b → Uses Q (infixOp o a b .0)
-infix-uses {Q} {a} {b} o c p q = infix-case (Uses Q) o a b p q uses-constant (uses-binary o c p q)
+infix-uses : {Q : ℕ → Type 0} {a b : Expr} (o : InfixOp) → Uses Q a → Uses Q b → Uses Q (infixOp o a b .0)
+infix-uses {Q} {a} {b} o p q = infix-case (Uses Q) o a b p q uses-constant (uses-binary o p q)
 
 -- expressions made of terms have no binders
 infix-spans : {n : ℕ} {a b : Expr} (o : InfixOp) → Spans n a n → Spans n b n → Spans n (infixOp o a b .0) n
@@ -256,14 +231,14 @@ module _ (B : ℕ → Bool) (N : ℕ) (beyond : (x : ℕ) → N ≤ x → B x �
   term-uses w (ofNegate a) = uses-negate (term-uses w a)
 
   -- a definition is pushed: of a binder from lo on, or of the id just drawn
-  pushed-tidy : (lo hi : ℕ) (s u : State) (i : ℕ) (f : Flat) → Tidy lo s → lo ≤ hi → u .provers ≡ s .provers → s .next ≤ u .next → u .definitions ≡ same i f ∷ s .definitions → i < u .next → (B i ≡ true → i < hi) → (defines (s .definitions) i ≡ true → ⊥) → (Input i → ⊥) → ((x : ℕ) → N ≤ x → x < u .next → (x ≡ i → ⊥) → x < s .next) → Every (From Input (s .definitions)) f → Cuttable f → Tidy hi u
-  pushed-tidy lo hi s u i f w h p n d l b new ni dr us cu = record {
+  pushed-tidy : (lo hi : ℕ) (s u : State) (i : ℕ) (f : Flat) → Tidy lo s → lo ≤ hi → u .provers ≡ s .provers → s .next ≤ u .next → u .definitions ≡ same i f ∷ s .definitions → i < u .next → (B i ≡ true → i < hi) → (defines (s .definitions) i ≡ true → ⊥) → (Input i → ⊥) → ((x : ℕ) → N ≤ x → x < u .next → (x ≡ i → ⊥) → x < s .next) → Every (From Input (s .definitions)) f → Tidy hi u
+  pushed-tidy lo hi s u i f w h p n d l b new ni dr us = record {
     provers = p ∙ w .provers;
     above = le-trans (w .above) n;
     limit = λ x q. defines-case x (same i f) (s .definitions) (ap (λ (ds : List Definition). defines ds x) (sym d) ∙ q) (λ z. omega arith) (λ z. le-trans (w .limit x z) n);
     low = λ x q c. defines-case x (same i f) (s .definitions) (ap (λ (ds : List Definition). defines ds x) (sym d) ∙ q) (λ z. omega (arith, z, b (ap B (sym z) ∙ c))) (λ z. le-trans (w .low x z c) h);
     drawn = λ x q m. ap (λ (ds : List Definition). defines ds x) d ∙ go x q m (eqb x i) refl;
-    ordered = subst (Ordered Input) (sym d) (not-true (defines (s .definitions) i) new, ni, us, cu, w .ordered);
+    ordered = subst (Ordered Input) (sym d) (not-true (defines (s .definitions) i) new, ni, us, w .ordered);
   }
     where
       go : (x : ℕ) → N ≤ x → x < u .next → (c : Bool) → eqb x i ≡ c → defines (same i f ∷ s .definitions) x ≡ true
@@ -272,7 +247,7 @@ module _ (B : ℕ → Bool) (N : ℕ) (beyond : (x : ℕ) → N ≤ x → B x �
 
   new-definition : (lo : ℕ) (e : Expr) (f : Flat) (s u : State) (v : Expr) (i : ℕ) → v ≡ variable i → i ≡ s .next → u .next ≡ suc (s .next) → u .bindings ≡ s .bindings → u .provers ≡ s .provers → u .definitions ≡ same i f ∷ s .definitions → u .equations ≡ s .equations → Tidy lo s → flatOf e ≡ some f → Uses (From Input (s .definitions)) e → Shape lo s u v
   new-definition lo e f s u v i w j n b p d q ti is us = record {
-    tidy = pushed-tidy lo lo s u i f ti (le-refl lo) p (omega arith) d (omega arith) (λ q. absurd (false-true (sym (beyond i (omega (arith, ti .above))) ∙ q))) (λ q. omega (arith, ti .limit i q)) (λ q. omega (arith, q .1, ti .above)) (λ x q m z. omega (arith, m, n, j, ne-next x i z)) (us .ids f is) (us .cuts f is);
+    tidy = pushed-tidy lo lo s u i f ti (le-refl lo) p (omega arith) d (omega arith) (λ q. absurd (false-true (sym (beyond i (omega (arith, ti .above))) ∙ q))) (λ q. omega (arith, ti .limit i q)) (λ q. omega (arith, q .1, ti .above)) (λ x q m z. omega (arith, m, n, j, ne-next x i z)) (us .ids f is);
     next = omega arith;
     bindings = record { at = λ x. ap (lookUp x) b };
     equations = q;
@@ -311,13 +286,13 @@ module _ (B : ℕ → Bool) (N : ℕ) (beyond : (x : ℕ) → N ≤ x → B x �
       let b = return-back (constant n) v w u second in
       renamed (b .value) (counted (same-by (make-same 1 s x w first) (b .state)) c (ofConstant (h n refl)))
 
-  operation-shape : (ev : Expr → Run Expr) (lo : ℕ) (o : InfixOp) {a b : Expr} (s u : State) (v : Expr) → isCuttable o ≡ true → Term B (s .next) a → Term B (s .next) b → evaluateOperation ev o a b s ≡ gives v u → Tidy lo s → Shape lo s u v
+  operation-shape : (ev : Expr → Run Expr) (lo : ℕ) (o : InfixOp) {a b : Expr} (s u : State) (v : Expr) → Term B (s .next) a → Term B (s .next) b → evaluateOperation ev o a b s ≡ gives v u → Tidy lo s → Shape lo s u v
   unfolding evaluateOperation onConstant
-  operation-shape ev lo o s u v cu (ofConstant {m = m} ca) (ofConstant {m = n} cb) e k = answered-shape ev lo (infixOf P o m n) s u v (infix-element P P-prime o m n) e k
-  operation-shape ev lo o s u v cu (ofConstant ca) (ofVariable fb lb) e k = defined-shape ev lo _ s u v e k (infix-uses o cu (term-uses k (ofConstant ca)) (term-uses k (ofVariable fb lb)))
-  operation-shape ev lo o s u v cu (ofConstant ca) (ofNegate tb) e k = defined-shape ev lo _ s u v e k (infix-uses o cu (term-uses k (ofConstant ca)) (term-uses k (ofNegate tb)))
-  operation-shape ev lo o s u v cu (ofVariable fa la) tb e k = defined-shape ev lo _ s u v e k (infix-uses o cu (term-uses k (ofVariable fa la)) (term-uses k tb))
-  operation-shape ev lo o s u v cu (ofNegate ta) tb e k = defined-shape ev lo _ s u v e k (infix-uses o cu (term-uses k (ofNegate ta)) (term-uses k tb))
+  operation-shape ev lo o s u v (ofConstant {m = m} ca) (ofConstant {m = n} cb) e k = answered-shape ev lo (infixOf P o m n) s u v (infix-element P P-prime o m n) e k
+  operation-shape ev lo o s u v (ofConstant ca) (ofVariable fb lb) e k = defined-shape ev lo _ s u v e k (infix-uses o (term-uses k (ofConstant ca)) (term-uses k (ofVariable fb lb)))
+  operation-shape ev lo o s u v (ofConstant ca) (ofNegate tb) e k = defined-shape ev lo _ s u v e k (infix-uses o (term-uses k (ofConstant ca)) (term-uses k (ofNegate tb)))
+  operation-shape ev lo o s u v (ofVariable fa la) tb e k = defined-shape ev lo _ s u v e k (infix-uses o (term-uses k (ofVariable fa la)) (term-uses k tb))
+  operation-shape ev lo o s u v (ofNegate ta) tb e k = defined-shape ev lo _ s u v e k (infix-uses o (term-uses k (ofNegate ta)) (term-uses k tb))
 
   -- what evaluates at one level less keeps the order
   abbrev pub KeepsOrder : (Expr → Run Expr) → Type 0
@@ -375,14 +350,14 @@ module _ (B : ℕ → Bool) (N : ℕ) (beyond : (x : ℕ) → N ≤ x → B x �
   power-infix ev ih lo ll s u v ta (ofNegate tb) e k f = absurd (refused-gives 11 v u e)
 
   infix-shape : (ev : Expr → Run Expr) → KeepsOrder ev → (lo : ℕ) → lo ≤ N → (o : InfixOp) {a b : Expr} (s u : State) (v : Expr) → isArithmetic o ≡ true → Term B (s .next) a → Term B (s .next) b → evaluateInfix ev o a b s ≡ gives v u → Tidy lo s → Free s → Shape lo s u v
-  unfolding evaluateInfix numbers isArithmetic isCuttable
-  infix-shape ev ih lo ll Divide s u v ar ta tb e k f = operation-shape ev lo Divide s u v refl ta tb (past _ 18 _ s v u e) k
-  infix-shape ev ih lo ll DivideZ s u v ar ta tb e k f = operation-shape ev lo DivideZ s u v refl ta tb (past _ 18 _ s v u e) k
-  infix-shape ev ih lo ll Multiply s u v ar ta tb e k f = operation-shape ev lo Multiply s u v refl ta tb (past _ 18 _ s v u e) k
-  infix-shape ev ih lo ll Add s u v ar ta tb e k f = operation-shape ev lo Add s u v refl ta tb (past _ 18 _ s v u e) k
-  infix-shape ev ih lo ll Subtract s u v ar ta tb e k f = operation-shape ev lo Subtract s u v refl ta tb (past _ 18 _ s v u e) k
-  infix-shape ev ih lo ll IntDivide s u v ar ta tb e k f = operation-shape ev lo IntDivide s u v refl ta tb (past _ 18 _ s v u e) k
-  infix-shape ev ih lo ll Modulo s u v ar ta tb e k f = operation-shape ev lo Modulo s u v refl ta tb (past _ 18 _ s v u e) k
+  unfolding evaluateInfix numbers isArithmetic
+  infix-shape ev ih lo ll Divide s u v ar ta tb e k f = operation-shape ev lo Divide s u v ta tb (past _ 18 _ s v u e) k
+  infix-shape ev ih lo ll DivideZ s u v ar ta tb e k f = operation-shape ev lo DivideZ s u v ta tb (past _ 18 _ s v u e) k
+  infix-shape ev ih lo ll Multiply s u v ar ta tb e k f = operation-shape ev lo Multiply s u v ta tb (past _ 18 _ s v u e) k
+  infix-shape ev ih lo ll Add s u v ar ta tb e k f = operation-shape ev lo Add s u v ta tb (past _ 18 _ s v u e) k
+  infix-shape ev ih lo ll Subtract s u v ar ta tb e k f = operation-shape ev lo Subtract s u v ta tb (past _ 18 _ s v u e) k
+  infix-shape ev ih lo ll IntDivide s u v ar ta tb e k f = operation-shape ev lo IntDivide s u v ta tb (past _ 18 _ s v u e) k
+  infix-shape ev ih lo ll Modulo s u v ar ta tb e k f = operation-shape ev lo Modulo s u v ta tb (past _ 18 _ s v u e) k
   infix-shape ev ih lo ll Equal s u v ar ta tb e k f = absurd (false-true ar)
   infix-shape ev ih lo ll Exponentiate s u v ar ta tb e k f = power-infix ev ih lo ll s u v ta tb (past _ 18 _ s v u e) k f
 
@@ -434,7 +409,7 @@ module _ (B : ℕ → Bool) (N : ℕ) (beyond : (x : ℕ) → N ≤ x → B x �
       subst (λ (u : State). BindsOrder s u x new) (b .state) (record {
         term-of = w;
         new-is = sym (b .value);
-        tidy = pushed-tidy mid (suc x) s1 s2 x (p .tree) (r .tidy) (omega arith) (p .provers) (omega (arith, p .next)) (p .definitions) (omega (arith, p .next, r .tidy .above)) (λ q. omega arith) (λ q. omega (arith, r .tidy .low x q bx)) (λ q. false-true (sym (q .0) ∙ bx)) (λ i q m z. omega (arith, p .next, m)) (term-uses (r .tidy) (r .term) .ids (p .tree) (p .is)) (term-uses (r .tidy) (r .term) .cuts (p .tree) (p .is));
+        tidy = pushed-tidy mid (suc x) s1 s2 x (p .tree) (r .tidy) (omega arith) (p .provers) (omega (arith, p .next)) (p .definitions) (omega (arith, p .next, r .tidy .above)) (λ q. omega arith) (λ q. omega (arith, r .tidy .low x q bx)) (λ q. false-true (sym (q .0) ∙ bx)) (λ i q m z. omega (arith, p .next, m)) (term-uses (r .tidy) (r .term) .ids (p .tree) (p .is));
         next = omega (arith, p .next, r .next);
         equations = p .equations ∙ r .equations;
         bindings = alike-trans (r .bindings) (record { at = λ i. ap (lookUp i) (p .bindings) });

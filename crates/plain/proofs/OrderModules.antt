@@ -23,7 +23,6 @@ use Rattle.evaluation.specs.State.{State, gives, _>>_, refuse, Done, get, setBi
 use Rattle.evaluation.specs.Evaluation.{evaluate, step, evaluateBinding, evaluateDef, evaluateDefs, evaluateExprs, evaluateModule, begin, flat, finished, evaluatedBy}
 use Rattle.evaluation.proofs.Runs.{refused-gives, bind-case, then-case, bind-known, return-back, got, set-back}
 use Rattle.evaluation.proofs.Environments.{insert-same, insert-other}
-use Rattle.plain.specs.Statements.{Cuttable}
 use Rattle.plain.proofs.Values.{false-true}
 use Rattle.plain.proofs.Terms.{Scoped, Term, ofConstant, ofVariable, ofNegate, term-up}
 use Rattle.plain.proofs.Modules.{ScopedDefinitions, noDefinition, definition, ScopedEquations, noEquation, equation, equal-back, gave, flat-path}
@@ -90,7 +89,6 @@ pub record InOrder (I : ℕ → Type 0) (f : FlatModule) : Type 0 where
   pub no-provers : f .provers ≡ []
   pub definitions : OnceInOrder I [] (f .definitions)
   pub equations : All (λ e. Every (From I (f .definitions)) (e .left) × Every (From I (f .definitions)) (e .right)) (f .equations)
-  pub equations-cuttable : All (λ e. Cuttable (e .left) × Cuttable (e .right)) (f .equations)
   pub inputs-below : (x : ℕ) → I x → x < f .next
   pub defined-below : (x : ℕ) → defines (f .definitions) x ≡ true → x < f .next
   pub publics-below : All (λ v. v < f .next) (f .publics)
@@ -101,7 +99,7 @@ module _ (B : ℕ → Bool) (N : ℕ) (beyond : (x : ℕ) → N ≤ x → B x �
   Drawn n v = (B v ≡ false) × (v < n)
 
   abbrev Sides : ℕ → Equation → Type 0
-  Sides n e = Every (Drawn n) (e .left) × Every (Drawn n) (e .right) × Cuttable (e .left) × Cuttable (e .right)
+  Sides n e = Every (Drawn n) (e .left) × Every (Drawn n) (e .right)
 
   term-drawn : {n : ℕ} {e : Expr} → Term B n e → Uses (Drawn n) e
   term-drawn (ofConstant c) = uses-constant
@@ -109,7 +107,7 @@ module _ (B : ℕ → Bool) (N : ℕ) (beyond : (x : ℕ) → N ≤ x → B x �
   term-drawn (ofNegate a) = uses-negate (term-drawn a)
 
   sides-up : (n m : ℕ) → n ≤ m → (es : List Equation) → All (Sides n) es → All (Sides m) es
-  sides-up n m l es h = all-map (Sides n) (Sides m) (λ e w. (every-map (Drawn n) (Drawn m) (λ v d. (d .0, le-trans (d .1) l)) (e .left) (w .0), every-map (Drawn n) (Drawn m) (λ v d. (d .0, le-trans (d .1) l)) (e .right) (w .1), w .2, w .3)) es h
+  sides-up n m l es h = all-map (Sides n) (Sides m) (λ e w. (every-map (Drawn n) (Drawn m) (λ v d. (d .0, le-trans (d .1) l)) (e .left) (w .0), every-map (Drawn n) (Drawn m) (λ v d. (d .0, le-trans (d .1) l)) (e .right) (w .1))) es h
 
   pub record Behind (lo : ℕ) (Γ : List ℕ) (s u : State) : Type 0 where
     pub tidy : Tidy B N beyond lo u
@@ -170,7 +168,7 @@ module _ (B : ℕ → Bool) (N : ℕ) (beyond : (x : ℕ) → N ≤ x → B x �
         free = free-alike B N beyond al f;
         scope = scope-alike B N beyond n al g;
         sides = pushed (u .next) (record { left = x .left-tree; right = x .right-tree }) (s .equations) (s2 .equations) (u .equations) (x .equations) (r′ .equations ∙ r .equations)
-            (ul .ids (x .left-tree) (x .left-is), ur .ids (x .right-tree) (x .right-is), ul .cuts (x .left-tree) (x .left-is), ur .cuts (x .right-tree) (x .right-is)) (sides-up (s .next) (u .next) n (s .equations) tm);
+            (ul .ids (x .left-tree) (x .left-is), ur .ids (x .right-tree) (x .right-is)) (sides-up (s .next) (u .next) n (s .equations) tm);
       }
 
   equations-shape : {k lo hi : ℕ} {Γ : List ℕ} {es : List Expr} (l : ℕ) (s u : State) (y : Done) → ScopedEquations B k Γ es → SpansEquations lo es hi → hi ≤ N → evaluateExprs l es s ≡ gives y u → k ≤ s .next → Tidy B N beyond lo s → Free B N beyond s → InScope B N beyond Γ s → All (Sides (s .next)) (s .equations) → Behind hi Γ s u
@@ -199,7 +197,6 @@ module _ (B : ℕ → Bool) (N : ℕ) (beyond : (x : ℕ) → N ≤ x → B x �
     equations = all-reverse _ (s .equations) []
         (all-map (Sides (s .next)) (λ e. Every (From (Input B N beyond) (reverse (s .definitions))) (e .left) × Every (From (Input B N beyond) (reverse (s .definitions))) (e .right))
         (λ e h. (every-map _ _ (drawn-from s w) (e .left) (h .0), every-map _ _ (drawn-from s w) (e .right) (h .1))) (s .equations) tm) tt;
-    equations-cuttable = all-reverse _ (s .equations) [] (all-map (Sides (s .next)) (λ e. Cuttable (e .left) × Cuttable (e .right)) (λ e h. (h .2, h .3)) (s .equations) tm) tt;
     inputs-below = λ x i. le-trans (i .1) (w .above);
     defined-below = λ x i. in-either x (s .definitions) [] i (w .limit x) (λ q. absurd (false-true q));
     publics-below = all-map (λ v. v < N) (λ v. v < s .next) (λ v l. le-trans l (w .above)) (m .publics) pb;
@@ -226,12 +223,12 @@ module _ (I : ℕ → Type 0) where
   not-later : (v : ℕ) (seen ds : List Definition) → OnceInOrder I seen ds → defines seen v ≡ true → defines ds v ≡ true → ⊥
   unfolding defines
   not-later v seen [] o h k = false-true k
-  not-later v seen (d ∷ ds) o h k = defines-case v d ds k (λ e. false-true (sym (o .0) ∙ ap (defines seen) (sym e) ∙ h)) (λ q. not-later v (d ∷ seen) ds (o .4) (defines-tail v d seen h) q)
+  not-later v seen (d ∷ ds) o h k = defines-case v d ds k (λ e. false-true (sym (o .0) ∙ ap (defines seen) (sym e) ∙ h)) (λ q. not-later v (d ∷ seen) ds (o .3) (defines-tail v d seen h) q)
 
   pub input-undefined : (v : ℕ) (seen ds : List Definition) → OnceInOrder I seen ds → I v → defines ds v ≡ true → ⊥
   unfolding defines
   input-undefined v seen [] o i k = false-true k
-  input-undefined v seen (d ∷ ds) o i k = defines-case v d ds k (λ e. o .1 (subst I e i)) (λ q. input-undefined v (d ∷ seen) ds (o .4) i q)
+  input-undefined v seen (d ∷ ds) o i k = defines-case v d ds k (λ e. o .1 (subst I e i)) (λ q. input-undefined v (d ∷ seen) ds (o .3) i q)
 
   unused : (v : ℕ) (seen ds : List Definition) → OnceInOrder I seen ds → From I seen v → defines ds v ≡ false
   unused v seen ds o f = not-true (defines ds v) (λ k. go k (defines seen v) refl)
@@ -243,9 +240,9 @@ module _ (I : ℕ → Type 0) where
   pub ordered : (seen ds : List Definition) → OnceInOrder I seen ds → Rules.Ordered ds
   ordered seen [] o = tt
   ordered seen (d ∷ ds) o = (
-    not-true (defines ds (d .id)) (λ k. not-later (d .id) (d ∷ seen) ds (o .4) (defines-head d seen) k),
+    not-true (defines ds (d .id)) (λ k. not-later (d .id) (d ∷ seen) ds (o .3) (defines-head d seen) k),
     every-map (From I seen) (λ v. defines (d ∷ ds) v ≡ false) (λ v f. unused v seen (d ∷ ds) o f) (d .right) (o .2),
-    ordered (d ∷ seen) ds (o .4),
+    ordered (d ∷ seen) ds (o .3),
   )
 
   -- each right side uses inputs and what the whole list defines
@@ -253,12 +250,8 @@ module _ (I : ℕ → Type 0) where
   known seen [] whole f g o = tt
   known seen (d ∷ ds) whole f g o = (
     every-map (From I seen) (λ v. whole v ≡ false → I v) (λ v q n. q (not-true (defines seen v) (λ h. false-true (sym n ∙ f v h)))) (d .right) (o .2),
-    known (d ∷ seen) ds whole (λ v h. defines-case v d seen h (λ e. g v (ap (defines (d ∷ ds)) e ∙ defines-head d ds)) (f v)) (λ v h. g v (defines-tail v d ds h)) (o .4),
+    known (d ∷ seen) ds whole (λ v h. defines-case v d seen h (λ e. g v (ap (defines (d ∷ ds)) e ∙ defines-head d ds)) (f v)) (λ v h. g v (defines-tail v d ds h)) (o .3),
   )
-
-  pub cuttables : (seen ds : List Definition) → OnceInOrder I seen ds → All (λ d. Cuttable (d .right)) ds
-  cuttables seen [] o = tt
-  cuttables seen (d ∷ ds) o = (o .3, cuttables (d ∷ seen) ds (o .4))
 
   -- ids below a limit
   pub ids-below : (n : ℕ) (whole : ℕ → Bool) → ((v : ℕ) → I v → v < n) → ((v : ℕ) → whole v ≡ true → v < n) → (v : ℕ) → (whole v ≡ false → I v) → v < n

@@ -5,11 +5,10 @@ use mathlib.Core.List.{[]}
 use mathlib.Core.Logic.{_↔_}
 use Prim.Native.Nat.{ℕ, _<_}
 use lib.IntN.{ℤ}
-use Rattle.field.specs.declared.InfixOp.the-variants.{Divide, DivideZ, Multiply, Add, Subtract, Equal, Exponentiate, IntDivide, Modulo}
 use Rattle.field.specs.Prime.{P}
 use Rattle.field.specs.Element.{elem}
 use Rattle.source.specs.Trees.{Module}
-use Rattle.flat.specs.Trees.{Flat, FlatModule, defines}
+use Rattle.flat.specs.Trees.{FlatModule, defines}
 use Rattle.flat.specs.Rules.{All, Every, WellFormed}
 use Rattle.flat.specs.Meaning.{Assignment, Elements, DefinitionHolds, EquationHolds, workedOut, NoZeroInTurn}
 use Rattle.numbering.specs.Numbering.{numbered}
@@ -31,21 +30,6 @@ Gives m ρ υ = Pointwise (λ x i. υ i ≡ ρ x) (inputs m) (inputIds (numbered
 abbrev pub Known : Module → FlatModule → ℕ → Type 0
 Known m f v = defines (f .definitions) v ≡ false → IsInput m v
 
--- without `^` and `=`, which the passes refuse (22)
-abbrev pub Cuttable : Flat → Type 0
-Cuttable (Flat.infixed Divide a b) = Cuttable a × Cuttable b
-Cuttable (Flat.infixed DivideZ a b) = Cuttable a × Cuttable b
-Cuttable (Flat.infixed Multiply a b) = Cuttable a × Cuttable b
-Cuttable (Flat.infixed Add a b) = Cuttable a × Cuttable b
-Cuttable (Flat.infixed Subtract a b) = Cuttable a × Cuttable b
-Cuttable (Flat.infixed Equal a b) = ⊥
-Cuttable (Flat.infixed Exponentiate a b) = ⊥
-Cuttable (Flat.infixed IntDivide a b) = Cuttable a × Cuttable b
-Cuttable (Flat.infixed Modulo a b) = Cuttable a × Cuttable b
-Cuttable (Flat.negate a) = Cuttable a
-Cuttable (Flat.constant c) = Unit {0}
-Cuttable (Flat.variable v) = Unit {0}
-
 -- what the flat module is, whatever the inputs' elements
 pub record PlainFlat (m : Module) (f : FlatModule) : Type 0 where
   pub well-formed : WellFormed f
@@ -54,9 +38,6 @@ pub record PlainFlat (m : Module) (f : FlatModule) : Type 0 where
   pub definitions-known : All (λ d. Every (Known m f) (d .right)) (f .definitions)
   pub equations-known : All (λ e. Every (Known m f) (e .left) × Every (Known m f) (e .right)) (f .equations)
   pub inputs-undefined : (i : ℕ) → IsInput m i → (i < f .next) × (defines (f .definitions) i ≡ false)
-  -- 22 does not arise
-  pub definitions-cuttable : All (λ d. Cuttable (d .right)) (f .definitions)
-  pub equations-cuttable : All (λ e. Cuttable (e .left) × Cuttable (e .right)) (f .equations)
 
 -- what it says where ρ are the inputs' elements by name, υ by id, and τ the values of all its variables: its definitions worked out in order from υ
 pub record SaysTheSame (m : Module) (ρ : ℕ → ℤ) (f : FlatModule) (υ τ : Assignment) : Type 0 where

@@ -1,0 +1,9 @@
+pub mod Church
+pub mod Iter
+pub mod Laid
+pub mod Fold
+pub mod Joined
+pub mod Widens
+pub mod Grown
+pub mod Fresh
+pub mod Executes

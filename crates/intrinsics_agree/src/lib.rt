@@ -1,0 +1,1 @@
+// Executing an intrinsic over the memory agrees with executing it on trees.
