@@ -106,6 +106,21 @@ def lets():
         yield "let list %d" % n, ([], [D("a%d" % k, I(ADD, V("a%d" % (k - 1)), C(1)) if k else V("y")) for k in range(n)], [])
 
 
+def steps():
+    """Pairs as deep as the made nodes allow: each definition adds 240 to the one before, handed over in a function so that no parameter is bound to it; then used 225 levels down."""
+    for side, f in {"left": lambda l: lambda e: PR(e, l), "right": lambda l: lambda e: PR(l, e), "list": lambda l: lambda e: CO(l, e)}.items():
+        for name, leaf in {"units": U, "functions": V("f")}.items():
+            for k in (8, 9, 10, 11):
+                call = A(V("g"), F([("punit",)], V("t")))
+                defs = [D("f", F(["z"], V("y"))), D("g", F(["h"], repeated(240, f(leaf), A(V("h"), U)))), D("t", leaf)] + [D("t", call)] * k
+                uses = {
+                    "bound": L("k", V("t"), U), "folded": A(V("fold"), CO(V("t"), N), F(["e", "a"], V("a")), U), "equal": I(EQ, V("t"), V("t")),
+                    "captured": L("k", PR(C(1), U), V("t")), "applied": A(V("t"), C(1)), "fresh": A(V("fresh"), V("t")),
+                }
+                for use, e in uses.items():
+                    yield "%d x 240 %s to the %s, %s" % (k, name, side, use), ([], defs, [repeated(225, lambda x: A(F(["q"], U), x), e)])
+
+
 def measured(program, record):
     """The answered number, and the least kilobytes of stack with which the program ends well; None where 64 MiB do not suffice."""
     answer = model_answer(record)
@@ -132,7 +147,7 @@ def measured(program, record):
 
 def main():
     program, seen = sys.argv[1], []
-    makers = (negations, sums, pairs, folds, levels, recursions, lets)
+    makers = (steps, negations, sums, pairs, folds, levels, recursions, lets)
     modules = [m for make in makers for m in make()] + [("directed: " + name, m) for name, m in directed.CASES]
     for name, module in modules:
         record = module_record(module)

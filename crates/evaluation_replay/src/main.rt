@@ -184,11 +184,11 @@ fn replay(
     image: &mut [u8],
     expected: &mut [u8],
     store: &mut [u8],
+    runs: &mut [u8],
     group: u64,
     counts: &mut [u64; 3],
 ) -> Group {
     let mut head = [0u8; 12];
-    let mut runs = io::buffer();
     let got = io::read_full(0, &mut head);
     if got == 0 {
         return Group::End;
@@ -202,10 +202,10 @@ fn replay(
     if image.len() < length {
         return Group::Broken;
     }
-    if runs.len() < size {
+    if expected.len() < room {
         return Group::Broken;
     }
-    if expected.len() < room {
+    if runs.len() < size {
         return Group::Broken;
     }
     replay_group(
@@ -246,12 +246,12 @@ fn report_all(counts: &[u64; 3]) {
 }
 
 // Every group of the input, with what is lent to them. Nothing says that the input ends, so the groups are counted down.
-fn replay_all(image: &mut [u8], expected: &mut [u8], store: &mut [u8]) {
+fn replay_all(image: &mut [u8], expected: &mut [u8], store: &mut [u8], runs: &mut [u8]) {
     let mut counts = [0u64; 3];
     let mut left = 1000000u64;
     while 0 < left {
         let group = 1000000 - left;
-        let seen = replay(image, expected, store, group, &mut counts);
+        let seen = replay(image, expected, store, runs, group, &mut counts);
         report_broken(seen, group, &mut counts);
         left = turns_after(seen, left);
     }
@@ -262,5 +262,6 @@ fn main() {
     let mut image = [0u8; 76052];
     let mut expected = [0u8; 344344];
     let mut store = [0u8; 1048592];
-    replay_all(&mut image, &mut expected, &mut store);
+    let mut runs = [0u8; 64];
+    replay_all(&mut image, &mut expected, &mut store, &mut runs);
 }
