@@ -41,6 +41,7 @@ const USAGE: &str = "usage: oracle COMMAND
                       takes flat records made by evaluation (no rules of lent ones);
                       --stop: the twin ends a record at its first refusal
   numbers [FILE]      hex source records -> the ids of the numbered module at their nodes
+  evaluate [FILE]     hex source records that the Rust accepts -> their flat records, without the passes: for times
   gen-src SEED COUNT [mixed|plain|rich|big|deep]   hex source records
   gen-flat SEED COUNT                         hex flat records
   asm [FILE]          text form -> hex source record (see src/text.rs)
@@ -165,6 +166,12 @@ fn numbers(b: &[u8]) -> String {
     }
 }
 
+/* Numbering and evaluation alone; of records that the Rust accepts. */
+fn evaluate(b: &[u8]) -> String {
+    let s = Source::parse(b, false).unwrap();
+    record::to_hex(&driver::evaluate_source(&s, false).flat().unwrap().to_bytes())
+}
+
 /* The records of COUNT seeds from SEED on; `make` checks that they are legal. */
 fn generate(args: &[String], out: &mut dyn Write, make: impl Fn(u64) -> Vec<u8>) {
     let seed: u64 = args[0].parse().unwrap();
@@ -234,6 +241,7 @@ fn command(cmd: &str, args: Vec<String>, out: &mut dyn Write) {
         "worker" => run::worker(&args[0], &args[1..]),
         "batch" => batch(args),
         "numbers" => each_record(&args, out, numbers),
+        "evaluate" => each_record(&args, out, evaluate),
         "gen-src" => {
             let kind = args.get(2).map_or("mixed", |s| s.as_str());
             generate(&args, out, |seed| made_source(seed, kind))
