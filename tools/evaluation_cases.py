@@ -256,7 +256,7 @@ class Writer:
         lengths = stores(answer, self.groups) if lengths is None else lengths
         if self.groups % 25 == 0:
             lengths = lengths + [LAST_STORE]
-        data = group(record, answer, lengths)
+        data = group(record, answer, [(n,) for n in lengths])
         self.out.write(data)
         self.groups += 1
         self.bytes += len(data)
