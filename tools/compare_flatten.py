@@ -47,7 +47,7 @@ def cause(answer):
     if answer.by == "the reader":
         return "no module: refused %d by the reader" % answer.number
     if answer.by == "the Rust's record":
-        return "accepted by both"
+        return "accepted by both" if len(answer.record) <= LAST_ROOM else "accepted by the Rust, too long a record for the program: 33"
     if answer.by == "the Rust's error":
         return "refused by both: %d, %s" % (answer.number, message(answer.message))
     if answer.by == "the model":
