@@ -226,6 +226,8 @@ LEFT_OUT |= {"ids 32 in infix %d" % n for n in (5, 6, 7, 8, 9)} | {"ids 32 in sp
 class Writer:
     """Writes groups, and counts where the expectations come from."""
 
+    wanted = "flat"
+
     def __init__(self, oracle, twin, out):
         self.oracle, self.twin, self.out = oracle, twin, out
         self.groups, self.bytes = 0, 0
@@ -233,12 +235,12 @@ class Writer:
 
     def known(self, records):
         """The Rust's answer to each record, None where it has none."""
-        known = [answer_of(line) for line in twin_lines(self.twin, records)]
-        asked = [k for k, a in enumerate(known) if a is not None and a.by.startswith("the Rust")]
+        known = [answer_of(line, self.wanted) for line in twin_lines(self.twin, records)]
+        asked = [k for k, a in enumerate(known) if a is not None and a.by in ("the Rust's record", "the Rust's error")]
         lines = run([self.oracle, "batch", "src"], "".join(records[k].hex() + "\n" for k in asked)).splitlines()
         for k, line in zip(asked, lines):
             a = known[k]
-            if (" flat=%s " % a.record.hex() if a.record else " num=%d " % a.number) not in line:
+            if (" %s=%s " % (self.wanted, a.record.hex()) if a.record else " num=%d " % a.number) not in line + " ":
                 raise SystemExit("the twin and the oracle differ on " + records[k].hex())
         return known
 
@@ -246,22 +248,24 @@ class Writer:
         """The answer to expect for each record. The model's has to be the same wherever the Rust has one."""
         out = []
         for record, answer in zip(records, self.known(records)):
-            second = model_answer(record)
+            second = model_answer(record, self.wanted)
             if answer is not None and not answer.same(second):
                 raise SystemExit("the Rust: %s, the model: %s, on %s" % (answer, second, record.hex()))
             out.append(answer or second)
         return out
 
-    def put(self, record, answer, lengths=None):
-        lengths = stores(answer, self.groups) if lengths is None else lengths
-        if self.groups % 25 == 0:
-            lengths = lengths + [LAST_STORE]
+    def lengths(self, answer):
+        """What the runs of the next group are lent."""
+        return [(n,) for n in stores(answer, self.groups) + [LAST_STORE] * (self.groups % 25 == 0)]
+
+    def put(self, record, answer):
+        lengths = self.lengths(answer)
         data = group(record, answer, lengths)
         self.out.write(data)
         self.groups += 1
         self.bytes += len(data)
         self.by[answer.by] += 1
-        self.runs.update(answer.with_store(n) for n in lengths)
+        self.runs.update(answer.lent(*run) for run in lengths)
         if answer.number == 0 and answer.made:
             self.tested.update(features(record))
 
@@ -314,6 +318,12 @@ def modules(ms):
     return [module_record(m) for m in ms]
 
 
+def write_counts(w):
+    print("%d groups, %d bytes" % (w.groups, w.bytes), file=sys.stderr)
+    for title, counter in (("expected by", w.by), ("runs by number", w.runs), ("accepted records with 30 tested", w.tested)):
+        print("%s: " % title + ", ".join("%s: %d" % (k, counter[k]) for k in sorted(counter, key=str)), file=sys.stderr)
+
+
 def write(oracle, twin):
     w = Writer(oracle, twin, sys.stdout.buffer)
     w.put_all(hand_made(oracle))
@@ -327,9 +337,8 @@ def write(oracle, twin):
         w.put_small(*chosen)
         print("%d records: %s" % (w.groups - before, chosen), file=sys.stderr)
     w.put_all([*damaged([r for r in generated(oracle, 30001, 150, "mixed") if len(r) < 900])])
-    print("%d groups, %d bytes" % (w.groups, w.bytes), file=sys.stderr)
-    for title, counter in (("expected by", w.by), ("runs by number", w.runs), ("accepted records with 30 tested", w.tested)):
-        print("%s: " % title + ", ".join("%s: %d" % (k, counter[k]) for k in sorted(counter, key=str)), file=sys.stderr)
+    write_counts(w)
 
 
-model.deep(write, *sys.argv[1:])
+if __name__ == "__main__":
+    model.deep(write, *sys.argv[1:])

@@ -124,7 +124,7 @@ def steps():
 def measured(program, record):
     """The answered number, and the least kilobytes of stack with which the program ends well; None where 64 MiB do not suffice."""
     answer = model_answer(record)
-    data = group(record, answer, [LAST_STORE])
+    data = group(record, answer, [(LAST_STORE,)])
 
     def ends(kb):
         limit = lambda: resource.setrlimit(resource.RLIMIT_STACK, (kb * 1024, kb * 1024))

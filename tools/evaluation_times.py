@@ -41,7 +41,7 @@ def processor_time(command, data):
 
 def both(what, oracle, program, records, known, times):
     """A line of the table: records, made nodes, microseconds a record of each, the ratio, and nanoseconds of the port for a made node. The Rust gets a tenth of the times."""
-    groups = [group(r, a, [16 * a.made]) for r, a in zip(records, known)]
+    groups = [group(r, a, [(16 * a.made,)]) for r, a in zip(records, known)]
     port, out = processor_time([program], b"".join(groups) * times)
     assert out.decode().startswith("%d accepted, 0 refused, 0 differ" % (times * len(groups))), out
     fewer = (times + 9) // 10
@@ -101,7 +101,7 @@ def form_times(oracle, program):
 def slowest(program, seen):
     """The port's slowest records: each run 8 times with the largest store, less what the smallest module takes."""
     def took(record, answer):
-        return processor_time([program], group(record, answer, [LAST_STORE] * 8))[0] / 8
+        return processor_time([program], group(record, answer, [(LAST_STORE,)] * 8))[0] / 8
 
     empty = module_record(([], [], []))
     base = took(empty, model_answer(empty))

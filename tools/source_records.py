@@ -1,7 +1,7 @@
-"""Source records, what the Rust and the model answer to them, and the cases that the program evaluation_replay reads.
+"""Source records, what the Rust and the model answer to them, and the cases that the programs evaluation_replay and flatten_replay read.
 
-Used by evaluation_cases.py, compare_source.py and oracle/twin_check.py. The twin (oracle/README.md) is the Rust with counters: it tells
-the flat record, or the refusal that the port meets first, and the nodes made by then. The model (oracle/model) answers where the Rust's
+Used by evaluation_cases.py, flatten_cases.py, compare_source.py, compare_flatten.py and oracle/twin_check.py. The twin (oracle/README.md) is the Rust with counters: it tells
+the flat and the constraint record, or the refusal that the port meets first, and the nodes made by then. The model (oracle/model) answers where the Rust's
 memory or time explodes, and gives a second opinion everywhere.
 
 The input of evaluation_replay is a list of groups, in little-endian words of 32 bits, bytes unpadded:
@@ -16,6 +16,10 @@ The input of evaluation_replay is a list of groups, in little-endian words of 32
 Each run gets a store of that length, filled beforehand with bytes that are not 0; afterwards it has to be 0, refused or not. The program prints a line
 `group G run R differs: N` for each run that differs, both counted from 0, where N is what it answered: the refusal's number, or 0 for
 accepted (another record, or a store that is not 0). Its last line is `A accepted, R refused, D differ`, and counts runs.
+
+The input of flatten_replay is the same but for these: the expected record is the constraint record (at most 480,000 bytes), and a run has three words: the
+length of the lent store, that of the lent output (at most 480,000), and the answer. The output is filled beforehand too; behind the record, and wholly at
+a refusal, it has to stay so.
 """
 import os
 import random
@@ -32,21 +36,26 @@ import model
 
 LAST_STORE = 1048592  # one node more than document 01's 65,535, and 16 bytes
 LAST_COUNT = 65535
-LAST_SOURCE, LAST_FLAT = 76052, 344344
+LAST_SOURCE, LAST_FLAT, LAST_ROOM = 76052, 344344, 480000
 ORACLE_KINDS = ("mixed", "plain", "rich", "big", "deep")
 MODEL_KINDS = ("typed", "untyped", "closures", "lambda", "mix", "lost", "combi", "obs", "rec", "mix+", "lost+", "combi+", "obs+", "rec+")
 COUNTS = re.compile(r" first=(\d+) made=(\d+) made-at-first=(\d+) ")
 
 
 class Answer:
-    """What to expect with a store that is never full: the refusal's number or 0, the nodes made by then, the record, and by whom."""
+    """What to expect with a store that is never full: the refusal's number or 0, the nodes made by then, the record, by whom, and the Rust's message."""
 
-    def __init__(self, number, made, record=None, by=""):
-        self.number, self.made, self.record, self.by = number, made, record, by
+    def __init__(self, number, made, record=None, by="", message=""):
+        self.number, self.made, self.record, self.by, self.message = number, made, record, by, message
 
     def with_store(self, store):
         """The number to expect with a store of so many bytes: 30 once the made nodes pass it."""
         return 30 if self.made > min(LAST_COUNT, store // 16) else self.number
+
+    def lent(self, store, room=None):
+        """The same with an output of so many bytes, where one is lent: 33 at the end where the record is longer."""
+        number = self.with_store(store)
+        return 33 if number == 0 and room is not None and room < len(self.record) else number
 
     def same(self, other):
         return (self.number, self.made, self.record) == (other.number, other.made, other.record)
@@ -76,7 +85,7 @@ def module_record(module):
 def accepted(record, made, by):
     """An accepted record; in a constraint record the last pass may have drawn too many ids."""
     if struct.unpack_from("<I", record)[0] > LAST_COUNT + 1:
-        return Answer(32, made, by=by)
+        return Answer(32, made, by="the Rust's ids above 65,535")
     return Answer(0, made, record, by)
 
 
@@ -91,7 +100,7 @@ def answer_of(line, wanted="flat"):
     if first:
         return Answer(first, made_at_first, by="the twin's first refusal")
     if line.startswith("panic stage=evaluate"):
-        return Answer(int(re.search(r" num=(\d+) ", line).group(1)), made, by="the Rust's error")
+        return Answer(int(re.search(r" num=(\d+) ", line).group(1)), made, by="the Rust's error", message=line.split(" msg=", 1)[1])
     return accepted(bytes.fromhex(re.search(r" %s=([0-9a-f]+) " % wanted, line).group(1)), made, "the Rust's record")
 
 
@@ -121,7 +130,13 @@ def answers(twin, records, timeout=5, jobs=2, wanted="flat"):
     lines = twin_lines(twin, records, timeout, jobs)
     if len(lines) != len(records):
         raise SystemExit("the twin answered %d of %d records" % (len(lines), len(records)))
-    return [answer_of(line, wanted) or model_answer(record, wanted) for line, record in zip(lines, records)]
+    return [answer_of(line, wanted) or in_its_place(line, model_answer(record, wanted)) for line, record in zip(lines, records)]
+
+
+def in_its_place(line, answer):
+    """The model's answer, with how the Rust ended."""
+    answer.message = line.split(" ", 1)[0]
+    return answer
 
 
 def stores(answer, k):
@@ -132,11 +147,12 @@ def stores(answer, k):
     return [just] if full == 0 else [just, short]
 
 
-def group(record, answer, lengths):
-    """A group of evaluation_replay."""
-    numbers = [answer.with_store(n) for n in lengths]
+def group(record, answer, runs):
+    """A group of evaluation_replay, whose runs are lengths of stores (store,), or of flatten_replay, with those of outputs (store, room)."""
+    numbers = [answer.lent(*run) for run in runs]
     expected = answer.record if 0 in numbers else b""
-    if len(record) > LAST_SOURCE or len(expected) > LAST_FLAT or len(lengths) > 8 or max(lengths) > LAST_STORE:
+    most = (LAST_STORE, LAST_ROOM) if len(runs[0]) == 2 else (LAST_STORE, LAST_FLAT)
+    if len(record) > LAST_SOURCE or len(expected) > most[1] or len(runs) > 8 or any(n > m for run in runs for n, m in zip(run, most)):
         raise SystemExit("too long for a group: " + record.hex())
-    runs = [w for run in zip(lengths, numbers) for w in run]
-    return struct.pack("<%dI" % (3 + len(runs)), len(record), len(lengths), len(expected), *runs) + record + expected
+    words = [w for run, number in zip(runs, numbers) for w in (*run, number)]
+    return struct.pack("<%dI" % (3 + len(words)), len(record), len(runs), len(expected), *words) + record + expected
