@@ -1,12 +1,14 @@
 #!/usr/bin/env python3
-"""Measures the stack that evaluation_replay takes on the deepest records: docs/PERFORMANCE.md has what came out.
+"""Measures the stack that a program takes on the deepest records: docs/PERFORMANCE.md has what came out.
 
-    python3 tools/evaluation_stack.py PROGRAM
+    python3 tools/evaluation_stack.py PROGRAM [WORD]
 
-Each record is run alone, with the largest store, and the program's stack is limited to fewer and fewer bytes (`ulimit -s`) until it no longer ends
-well; the records are the directed modules of oracle/model and the deep ones below. Printed are the kilobytes that suffice, the largest first.
+PROGRAM is evaluation_replay, flatten or flatten_equalities. Each record is run alone, with the largest store, and the program's stack is limited to fewer and
+fewer bytes (`ulimit -s`) until it no longer ends well; the records are the directed modules of oracle/model and the deep ones below, of these only such whose name
+has WORD in it, if one is given. Printed are the kilobytes that suffice, the largest first.
 """
 import functools
+import os
 import resource
 import subprocess
 import sys
@@ -124,12 +126,13 @@ def steps():
 def measured(program, record):
     """The answered number, and the least kilobytes of stack with which the program ends well; None where 64 MiB do not suffice."""
     answer = model_answer(record)
-    data = group(record, answer, [(LAST_STORE,)])
+    replays = os.path.basename(program) == "evaluation_replay"
+    data = group(record, answer, [(LAST_STORE,)]) if replays else record
 
     def ends(kb):
         limit = lambda: resource.setrlimit(resource.RLIMIT_STACK, (kb * 1024, kb * 1024))
         done = subprocess.run([program], input=data, capture_output=True, preexec_fn=limit)
-        if done.returncode == 0 and not done.stdout.endswith(b" 0 differ\n"):
+        if done.returncode == 0 and replays and not done.stdout.endswith(b" 0 differ\n"):
             raise SystemExit("differs: %s" % record.hex())
         return done.returncode == 0
 
@@ -146,10 +149,12 @@ def measured(program, record):
 
 
 def main():
-    program, seen = sys.argv[1], []
+    program, word, seen = sys.argv[1], (sys.argv[2:] or [""])[0], []
     makers = (steps, negations, sums, pairs, folds, levels, recursions, lets)
     modules = [m for make in makers for m in make()] + [("directed: " + name, m) for name, m in directed.CASES]
     for name, module in modules:
+        if word not in name:
+            continue
         record = module_record(module)
         if record is None:
             print("%s: too long a record" % name)

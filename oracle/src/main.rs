@@ -202,6 +202,13 @@ fn batch(mut args: Vec<String>) {
     run::batch(&mode, &flags, std::time::Duration::from_secs(timeout), jobs, &mut i);
 }
 
+/* A record read and numbered so many times: the next id. For times. */
+fn repeat(args: &[String]) -> u32 {
+    let record = &hex_lines(&args[..1])[0];
+    let times: u32 = args[1].parse().unwrap();
+    (0..times).fold(0, |_, _| driver::next_id(&Source::parse(record, false).unwrap()))
+}
+
 /* Result lines of batch src, or flat records: compares the Rust's classify_defs
  * on them with document 01's sentence on counted definitions. */
 fn check_flats(args: &[String], out: &mut dyn Write) {
@@ -242,6 +249,7 @@ fn command(cmd: &str, args: Vec<String>, out: &mut dyn Write) {
         "batch" => batch(args),
         "numbers" => each_record(&args, out, numbers),
         "evaluate" => each_record(&args, out, evaluate),
+        "repeat" => writeln!(out, "{}", repeat(&args)).unwrap(),
         "gen-src" => {
             let kind = args.get(2).map_or("mixed", |s| s.as_str());
             generate(&args, out, |seed| made_source(seed, kind))

@@ -416,6 +416,10 @@ impl Ids<'_> {
     }
 }
 
+pub fn next_id(s: &Source) -> u32 {
+    numbered(s, false).gen.0
+}
+
 /* `next N pubs I,I,.. ids I,-,..`: the ids at the nodes in record order, `-` at a node with no name. */
 pub fn numbers_line(s: &Source) -> String {
     let n = numbered(s, false);
