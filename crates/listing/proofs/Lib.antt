@@ -4,4 +4,5 @@ pub mod Parts
 pub mod Read
 pub mod Forms
 pub mod Wide
+pub mod Lines
 pub mod Listed

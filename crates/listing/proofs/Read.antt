@@ -16,11 +16,11 @@ use Rattle.constraint.specs.declared.Operation.{Operation}
 use Rattle.constraint.specs.declared.Equality.{Equality as Written}
 use Rattle.listing.specs.Reading.{operationOf, termOf, equalityAt}
 
-yes : {A : Type 0} (t : Bool) (a b : A) → t ≡ true → pick t a b ≡ a
+pub yes : {A : Type 0} (t : Bool) (a b : A) → t ≡ true → pick t a b ≡ a
 unfolding pick
 yes t a b e = rw e
 
-no : {A : Type 0} (t : Bool) (a b : A) → t ≡ false → pick t a b ≡ b
+pub no : {A : Type 0} (t : Bool) (a b : A) → t ≡ false → pick t a b ≡ b
 unfolding pick
 no t a b e = rw e
 
