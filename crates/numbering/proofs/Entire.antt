@@ -9,7 +9,6 @@ use lib.ListN.{length, getD, replicate, length-replicate}
 use borrow.Author.Tests.{eqb-true}
 use lib.Dec.{eqb}
 use Rattle.words.specs.Words.{wordAt}
-use Rattle.source.specs.declared.Checked.{Checked}
 use Rattle.source.specs.declared.Layout.{Layout}
 use Rattle.source.specs.Trees.{Pat, Expr}
 use Rattle.source.specs.Indices.{every, total, rows}
@@ -17,8 +16,10 @@ use Rattle.source.specs.Layout.{names, publics, definitions, expressions, nodes
 use Rattle.source.specs.Names.{namesFit, nameOf}
 use Rattle.source.specs.Nodes.{entryOf, patternFits, publicsFit, definitionsFit, expressionsFit}
 use Rattle.source.specs.Uses.{same, byNodes, byDefinitions, byExpressions}
-use Rattle.source.specs.Record.{Read, checked, moduleOf, usedOnce, definitionAt, expressionAt}
+use Rattle.source.specs.Record.{Read, moduleOf, usedOnce, definitionAt, expressionAt}
 use Rattle.source.specs.Readable.{Readable}
+use Rattle.checking.specs.declared.Checked.{Checked}
+use Rattle.checking.specs.Answer.{checked}
 use Rattle.numbering.specs.Numbering.{Ids, Names, Numbered, _>>=_, return, found, named, freshText, iterText, foldText, registered, numberModuleVariables, namesOf, numbered}
 use Rattle.numbering.specs.Numbers.{NumberedIn, numberedModule, numberedDefinition, numberedExpression}
 use Rattle.numbering.specs.Walks.{weight, each, coded, Holds, names as both, noRow, noEntries, noPublics, Sizes, Room, Walkable, Ready, ReadyDefinitions, ReadyExpressions, sumFrom, definitionsWeight, expressionsWeight, Published, Registered, DefinitionsWalk, ExpressionsWalk}

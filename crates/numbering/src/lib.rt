@@ -5,13 +5,13 @@ mod patterns;
 mod registering;
 mod rows;
 
+use checking::Checked;
+use checking::check_source;
 use listing::number_definitions;
 use listing::number_expressions;
 use registering::number_publics;
 use registering::register;
-use source::Checked;
 use source::Layout;
-use source::check_source;
 use source::layout_of;
 ghost use mathlib.Core.Path.{_≡_};
 ghost use mathlib.Core.Bool.{true};

@@ -7,12 +7,11 @@ use native.Mathlib.Omega.{arith}
 use lib.ListN.{length}
 use lib.Dec.{leb, ltb, eqb}
 use borrow.Author.Tests.{leb-true}
-use Rattle.source.specs.declared.Checked.{Checked}
 use Rattle.source.specs.Trees.{Module}
 use Rattle.source.specs.Layout.{counted, listed, names, publics, definitions, expressions, nodes, publicsAt, definitionsAt, expressionsAt, nodesAt, textAt}
 use Rattle.source.specs.Names.{namesFit, namesDiffer}
 use Rattle.source.specs.Nodes.{nodesFit, publicsFit, definitionsFit, expressionsFit}
-use Rattle.source.specs.Record.{Read, shaped, usedOnce, moduleOf, unless, sourceOf, checked}
+use Rattle.source.specs.Record.{Read, shaped, usedOnce, moduleOf, unless, sourceOf}
 use Rattle.source.specs.Readable.{Readable}
 use Rattle.source.proofs.Laws.{and-left, and-right}
 
@@ -100,15 +99,3 @@ accepted-readable b m q = readable b (passed b m q .0)
 
 pub accepted-module : (b : List ℕ) (m : Module) → sourceOf b ≡ Read.module-of m → m ≡ moduleOf b
 accepted-module b m q = passed b m q .1
-
--- what the code's answer tells its caller
-checked-at : (r : Read) → Checked.Accepted ≡ checked r → (m : Module) × (r ≡ Read.module-of m)
-unfolding checked
-checked-at (Read.module-of m) e = (m, refl)
-checked-at (Read.refused n) e = let z : _≡_ {A = ℕ} 0 1 = cc in absurd (omega arith)
-
-pub checked-accepted : (b : List ℕ) → Checked.Accepted ≡ checked (sourceOf b) → (sourceOf b ≡ Read.module-of (moduleOf b)) × Readable b
-checked-accepted b e =
-    let w = checked-at (sourceOf b) e in
-    let p = passed b (w .0) (w .1) in
-    (accepts-passed b (p .0), readable b (p .0))

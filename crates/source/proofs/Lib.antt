@@ -1,10 +1,9 @@
-mod Laws
-mod Names
-mod Prints
-mod Marks
-mod Links
-mod Lists
-mod Answers
+pub mod Laws
+pub mod Names
+mod Header
+pub mod Uses
+pub mod Links
+pub mod Publics
 pub mod Sorts
 pub mod Nodes
 pub mod Accepted

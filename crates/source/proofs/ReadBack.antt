@@ -20,7 +20,7 @@ use Rattle.source.specs.Uses.{same, byNodes, byDefinitions, byExpression
 use Rattle.source.specs.Record.{Read, tree, definitionAt, expressionAt, moduleOf, shaped, usedOnce, sourceOf}
 use Rattle.source.specs.Encoding.{rootOf, patCount, exprCount, patNodes, exprNodes, definitionsCount, definitionsNodes, definitionsWords, expressionsCount, expressionsNodes, expressionsWords, pairWords, joined, recordWords, recordOf, All, PatFits, ExprFits, TextFits, Different, Writable}
 use Rattle.source.proofs.Laws.{every-none, every-more, total-more}
-use Rattle.source.proofs.Lists.{publics-more, publics-none}
+use Rattle.source.proofs.Publics.{publics-more, publics-none}
 use Rattle.source.proofs.Names.{named-at, same-text}
 use Rattle.source.proofs.Accepted.{Passed, accepts-passed}
 use Rattle.source.proofs.Spans.{Holds, holds-left, holds-right, nodes-after, within-yes, Span, span-none, span-join}

@@ -17,7 +17,7 @@ use Rattle.source.specs.Nodes.{entryFor, entryOf, childrenOf, childrenFi
 use Rattle.source.specs.Uses.{same, childrenUse, byNodes}
 use Rattle.source.specs.Encoding.{node, rootOf, linkTo}
 use Rattle.source.proofs.Laws.{split, every-more, total-more}
-use Rattle.source.proofs.Marks.{same-yes, same-no}
+use Rattle.source.proofs.Uses.{same-yes, same-no}
 use Rattle.source.proofs.Nodes.{entry-is}
 
 -- ---- words from one on

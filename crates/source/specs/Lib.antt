@@ -2,10 +2,8 @@ pub mod Trees
 pub mod Indices
 pub mod Layout
 pub mod Names
-pub mod Fingerprints
 pub mod Nodes
 pub mod Uses
 pub mod Record
 pub mod Encoding
 pub mod Readable
-pub mod Marks

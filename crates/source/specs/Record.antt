@@ -8,7 +8,6 @@ use Rattle.words.specs.Words.{wordAt}
 use Rattle.source.specs.declared.Entry.{Entry}
 use Rattle.source.specs.declared.Form.{Form}
 use Rattle.source.specs.declared.Shape.{Shape}
-use Rattle.source.specs.declared.Checked.{Checked}
 use Rattle.source.specs.Trees.{Pat, Expr, Items, Arms, Env, Module}
 use Rattle.source.specs.Indices.{every, rows}
 use Rattle.source.specs.Layout.{names, publics, definitions, expressions, nodes, publicsAt, definitionsAt, expressionsAt, nodesAt, textAt, counted, listed}
@@ -137,8 +136,3 @@ sourceOf b =
     (unless (shaped b) 5
     (unless (usedOnce b) 6
     (Read.module-of (moduleOf b))))))))
-
--- the code's answer for it
-unfoldable pub checked : Read → Checked
-checked (Read.module-of m) = Checked.Accepted
-checked (Read.refused n) = Checked.Refused n

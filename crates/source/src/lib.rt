@@ -1,28 +1,14 @@
-// The source record: its layout, its names and nodes, and its check (refusals 1 to 6).
-mod asking;
+// The source record, read in place: its layout and its nodes.
 mod entries;
-mod fingerprints;
-mod naming;
-mod reading;
 
 use entries::entry;
 use field::InfixOp;
-use naming::names_differ;
-use naming::names_fit;
-use reading::read_trees;
 ghost use mathlib.Core.Path.{_≡_};
 ghost use Prim.Native.Nat.{_+_, _*_, _≤_, _<_};
 ghost use lib.ListN.{length};
 ghost use Rattle.words.specs.Words.{wordAt};
 ghost use Rattle.source.specs.Layout.{layoutOf};
 ghost use Rattle.source.specs.Nodes.{entryOf};
-ghost use Rattle.source.specs.Record.{sourceOf, checked};
-
-// What the check of a source record answers.
-pub enum Checked {
-    Accepted,
-    Refused(u32),
-}
 
 // The counts of the header, the word at which each list starts (the names' pairs start at word 5), and the byte at which the name text starts.
 pub struct Layout {
@@ -98,7 +84,7 @@ pub struct Children {
 }
 
 // A word, as a count or an index.
-fn count(s: &[u8], i: usize) -> usize
+pub fn count(s: &[u8], i: usize) -> usize
     requires { ⌜ 4 * i + 4 ≤ length (now s) ⌝ }
     ensures { λ r. ⌜ (r ≡ wordAt (now (s .entry)) i) × (r < 4294967296) ⌝ }
 {
@@ -144,34 +130,4 @@ pub fn node_at(s: &[u8], at: usize, k: usize) -> Entry
     let b = words::word_at(s, base + 2);
     let c = words::word_at(s, base + 3);
     entry(kind, a, b, c)
-}
-
-// A source record: accepted, or refused with the first of the numbers 1 to 6.
-pub fn check_source(s: &[u8]) -> Checked
-    ensures { λ r. ⌜ r ≡ checked (sourceOf (now (s .entry))) ⌝ }
-{
-    let size = s.len();
-    if size < 20 {
-        return Checked::Refused(1);
-    }
-    let l = layout_of(s);
-    let counted = (l.names <= 512)
-        & ((l.publics <= 64)
-            & ((l.definitions <= 512) & ((l.expressions <= 512) & (l.nodes <= 2048))));
-    if !counted {
-        return Checked::Refused(2);
-    }
-    let text = l.text_at;
-    let names = l.names;
-    let listed = (text <= size) & ((0 < names) | (size == text));
-    if !listed {
-        return Checked::Refused(1);
-    }
-    if !names_fit(s, text, names) {
-        return Checked::Refused(3);
-    }
-    if !names_differ(s, text, names) {
-        return Checked::Refused(4);
-    }
-    read_trees(s, l)
 }

@@ -2,7 +2,7 @@
 use borrow.Author.Needs.{needs}
 use Rattle.source.proofs.layout_of.Statement.{statement}
 use Rattle.source.proofs.layout_of.Tie as tie
-use Rattle.source.proofs.Answers.{laid-out}
+use Rattle.source.proofs.Header.{laid-out}
 
 count-requires : tie.Need-count-requires
 count-requires c κs = search needs

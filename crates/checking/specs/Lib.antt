@@ -1,0 +1,3 @@
+pub mod Answer
+pub mod Fingerprints
+pub mod Marks
