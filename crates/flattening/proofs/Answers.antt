@@ -61,7 +61,7 @@ module _ (e : Evaluated) (bytes : List ℕ) where
   answered-flat n a = go e a
     where
       go : (x : Evaluated) → Answers x (Answer.Flat n) bytes → (n ≤ 344344) × (Readable (take n bytes) × (x ≡ flat (moduleOf (take n bytes))))
-      go (flat m) h = (h .0, (h .1 .0, ap flat (sym (h .1 .1))))
+      go (flat m) h = (h .within, (h .readable, ap flat (sym (h .says))))
       go (refusal k) h = absurd h
 
   answered-refused : (n : ℕ) → Answers e (Answer.Refused n) bytes → e ≡ refusal n
@@ -70,7 +70,7 @@ module _ (e : Evaluated) (bytes : List ℕ) where
     where
       go : (x : Evaluated) → Answers x (Answer.Refused n) bytes → x ≡ refusal n
       go (flat m) h = absurd h
-      go (refusal k) h = ap refusal (sym h)
+      go (refusal k) h = ap refusal (sym (h .0))
 
 -- a record: its bytes are within the array, the passes can read it, and what they give is meant
 pub record Passable (b : List ℕ) (len n : ℕ) (bytes : List ℕ) : Type 0 where

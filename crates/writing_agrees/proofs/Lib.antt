@@ -1,5 +1,6 @@
 pub mod ReadBack
 pub mod Trees
+pub mod Bytes
 pub mod Lists
 pub mod Sides
 pub mod Runs
