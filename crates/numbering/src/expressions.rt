@@ -277,38 +277,17 @@ pub fn number_expr_variables(
                 next,
                 top,
             ),
-            Form::Negate(x) => number_expr_variables(
-                s,
-                at,
-                n,
-                x,
-                locals,
-                globals,
-                undo,
-                old,
-                ids,
-                next,
-                top,
-            ),
+            Form::Negate(x) => {
+                number_expr_variables(s, at, n, x, locals, globals, undo, old, ids, next, top)
+            }
             Form::Variable(v) => {
                 let drawn = number_variable(v, locals, globals, next);
                 ids[k] = drawn.id;
                 drawn.next
             }
-            Form::Function(l, y) => number_function(
-                s,
-                at,
-                n,
-                l,
-                y,
-                locals,
-                globals,
-                undo,
-                old,
-                ids,
-                next,
-                top,
-            ),
+            Form::Function(l, y) => {
+                number_function(s, at, n, l, y, locals, globals, undo, old, ids, next, top)
+            }
             Form::Let(p, x, y) => {
                 let one = number_expr_variables(
                     s,
@@ -341,19 +320,9 @@ pub fn number_expr_variables(
                 );
                 number_arms(s, at, n, l, locals, globals, undo, old, ids, one, top)
             }
-            Form::Sequence(l) => number_items(
-                s,
-                at,
-                n,
-                l,
-                locals,
-                globals,
-                undo,
-                old,
-                ids,
-                next,
-                top,
-            ),
+            Form::Sequence(l) => {
+                number_items(s, at, n, l, locals, globals, undo, old, ids, next, top)
+            }
             Form::Constant(_) => next,
             Form::Unit => next,
             Form::Nil => next,

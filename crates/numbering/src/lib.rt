@@ -122,7 +122,7 @@ fn number_lists(
 }
 
 // A record that is accepted: the id of every node that has a name goes to its index, that of every public to its position.
-pub fn number_checked(s: &[u8], ids: &mut [u32; 2048], publics: &mut [u32; 64]) -> u32
+fn number_checked(s: &[u8], ids: &mut [u32; 2048], publics: &mut [u32; 64]) -> u32
     requires { ⌜ Readable (now s) × ((length (now ids) ≡ 2048) × (length (now publics) ≡ 64)) ⌝ }
     ensures { λ r. ⌜ NumberedIn (now (s .entry)) (now (ids .entry)) (now (publics .entry)) r (now (ids .exit)) (now (publics .exit)) ⌝ }
 {
