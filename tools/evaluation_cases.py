@@ -8,8 +8,9 @@ in bytes, and the answer to expect: 0 or the refusal's number), and the flat rec
 runs: with a store that is just full, and with one that is a node short (30).
 
 What to expect is the Rust's flat record or error, by the oracle and the twin alike; the twin's first refusal where the port is meant to differ
-(docs/DIFFERENCES.md); and the model's answer where the Rust's memory or time explodes. The model's answer is compared wherever the Rust has one. Nothing
-is random here but what is made from fixed seeds. Counts go to standard error.
+(docs/DIFFERENCES.md); and the model's answer where the Rust's memory or time explodes. The model's answer is compared wherever the Rust has one. Hand-made modules
+stand here with the number that they have to give. Nothing is random but what is made from fixed seeds. Counts go to standard error, also of the accepted records by
+what the model met in their evaluation.
 """
 import collections
 import functools
@@ -169,7 +170,7 @@ def powers():
         yield define(I(EXP, X, C(n)), I(EXP, ("neg", X), C(n)))
 
 
-# Lists at their limits, and one over. Definitions of one node, equations of two, prover ids without definitions.
+# Lists at their limits, and one over, each with its number. Definitions of one node, equations of two, prover ids without definitions.
 
 COPIES = F(["c"], functools.reduce(lambda body, _: L("c", V("c"), body), range(30), V("c")))  # a parameter and 30 lets
 EQUATIONS = F(["c"], sequence(*[I(EQ, V("c"), X)] * 32))
@@ -186,28 +187,30 @@ def prover_ids(n, *more):
 
 
 def list_limits():
-    for last in ([], [D("a", X)]):
+    for number, last in ((0, []), (31, [D("a", X)])):
         pubs, defs, exprs = definitions(4096)
-        yield pubs, defs + last, exprs
-    for power, before in ((65, 4089), (65, 4090), ((1 << 30) - 1, 4039), (-65, 4090)):  # 65 leaves 7 definitions, 2^30 - 1 leaves 58
+        yield number, (pubs, defs + last, exprs)
+    # 65 leaves 7 definitions, 2^30 - 1 leaves 58, -65 leaves 8; the definition of the power comes after them
+    for number, power, before in (
+        (0, 65, 4088), (31, 65, 4089), (31, 65, 4090), (0, (1 << 30) - 1, 4037), (31, (1 << 30) - 1, 4038), (31, (1 << 30) - 1, 4039), (0, -65, 4087), (31, -65, 4088), (31, -65, 4090),
+    ):
         pubs, defs, exprs = definitions(before)
-        yield pubs, defs + [D("a", I(EXP, X, C(power)))], exprs
-    for last in ([], [I(EQ, X, X)], [L(const(1), X, U)]):
-        yield [], [D("f", EQUATIONS)], [A(V("f"), C(1))] * 128 + last
-    for last in ([], [D("b", A(V("fresh"), X))], [D("b", match(A(V("fresh"), X), (PAIR, C(1))))]):
-        yield prover_ids(4096, *last)
-    for n in (4093, 4094):
-        yield prover_ids(n, D("b", match(A(V("fresh"), X), (PAIR, C(1)))))
-    for last in ([], [D("b", X)], [D("b", ("neg", X))]):
-        yield [], [D("a", negated(255, X))] + [D("b", V("a"))] * 63 + last, []
-    yield [], [D("a", negated(255, X))] + [D("b", V("a"))] * 63, [I(EQ, X, C(1))]
+        yield number, (pubs, defs + [D("a", I(EXP, X, C(power)))], exprs)
+    for number, last in ((0, []), (31, [I(EQ, X, X)]), (31, [L(const(1), X, U)])):
+        yield number, ([], [D("f", EQUATIONS)], [A(V("f"), C(1))] * 128 + last)
+    # the match value is made twice: one id, two by the split, then one more
+    split = D("b", match(A(V("fresh"), X), (PAIR, C(1))))
+    for number, n, *last in ((0, 4096), (31, 4096, D("b", A(V("fresh"), X))), (31, 4096, split), (16, 4092, split), (31, 4093, split), (31, 4094, split)):
+        yield number, prover_ids(n, *last)
+    for number, last, equation in ((0, [], []), (31, [D("b", X)], []), (31, [D("b", ("neg", X))], []), (31, [], [I(EQ, X, C(1))])):
+        yield number, ([], [D("a", negated(255, X))] + [D("b", V("a"))] * 63 + last, equation)
 
 
 def id_limits():
     """A function of 500 parameters takes 500 ids and 503 nodes in each application; 300 more ids are drawn in numbering, and make nothing."""
     wide, more = D("f", F(["p%d" % i for i in range(500)], X)), D("g", F(["p%d" % i for i in range(300)], X))
-    for defs, n in (([wide, more], 129), ([wide, more], 130), ([wide], 130), ([wide], 131)):
-        yield [], defs, [A(V("f"), X)] * n
+    for number, defs, n in ((0, [wide, more], 129), (32, [wide, more], 130), (0, [wide], 130), (30, [wide], 131)):
+        yield number, ([], defs, [A(V("f"), X)] * n)
 
 
 def damaged(records):
@@ -252,6 +255,7 @@ class Writer:
             if answer is not None and not answer.same(second):
                 raise SystemExit("the Rust: %s, the model: %s, on %s" % (answer, second, record.hex()))
             out.append(answer or second)
+            out[-1].met = second.met
         return out
 
     def lengths(self, answer):
@@ -267,34 +271,42 @@ class Writer:
         self.by[answer.by] += 1
         self.runs.update(answer.lent(*run) for run in lengths)
         if answer.number == 0 and answer.made:
-            self.tested.update(features(record))
+            self.tested.update(met(answer))
 
     def put_all(self, records, wanted=None):
-        for record, answer in zip(records, self.answers(records)):
+        self.put_numbered([(wanted, r) for r in records])
+
+    def put_numbered(self, cases):
+        """Puts records, each with the number that it has to give, or None."""
+        for (wanted, record), answer in zip(cases, self.answers([r for _, r in cases])):
             if wanted is not None and answer.number != wanted:
                 raise SystemExit("refused %d, not %d: %s" % (answer.number, wanted, record.hex()))
             self.put(record, answer)
 
     def put_small(self, seed, count, kind, size, wanted, needed=""):
         """Of `count` generated records the first `wanted` accepted ones that take at most `size` bytes, and a third as many refused ones that take half of it."""
-        records = [r for r in generated(self.oracle, seed, count, kind) if len(r) <= size and (not needed or needed in features(r))]
+        records = [r for r in generated(self.oracle, seed, count, kind) if len(r) <= size and (not needed or b"fold" in r)]
         left = [wanted, wanted // 3]
         for record, answer in zip(records, self.answers(records)):
             refused = answer.number != 0
-            if left[refused] and len(record) + len(answer.record or b"") <= (size // 2 if refused else size):
+            if left[refused] and len(record) + len(answer.record or b"") <= (size // 2 if refused else size) and (not needed or needed in met(answer)):
                 left[refused] -= 1
                 self.put(record, answer)
 
 
-def features(record):
-    """Whether the record has functions, pairs or lists, and folds: where the counts of made nodes are hardest."""
-    names, publics, definitions, expressions, nodes = struct.unpack_from("<5I", record)
-    at = 20 + 8 * names + 4 * publics + 8 * definitions + 4 * expressions
-    kinds = {struct.unpack_from("<I", record, at + 16 * k)[0] for k in range(nodes)}
-    found = [name for name, k in (("functions", {9}), ("pairs or lists", {2, 3, 19, 20})) if kinds & k]
-    if b"fold" in record[at + 16 * nodes :]:
-        found.append("fold")
-    return found + [" and ".join(found)] if len(found) > 1 else found
+# What evaluation may meet, by the words of oracle/model/model.py.
+MET = {
+    "a fold over a list that is not empty": {"fold application"},
+    "an entry captured by a closure, but for the intrinsics' own": {"env capture"},
+    "a pair or list made": {"prod", "cons"},
+}
+ALL = "all three"
+ENOUGH = 520  # accepted records with all three, where the counts of made nodes are hardest
+
+
+def met(answer):
+    found = [what for what, why in MET.items() if answer.met & why]
+    return found + [ALL] * (len(found) == 3) + ["a function or intrinsic applied"] * ("refresh" in answer.met)
 
 
 def hand_made(oracle):
@@ -302,12 +314,10 @@ def hand_made(oracle):
     return [bytes.fromhex(run([oracle, "asm", f], "")) for f in files]
 
 
-ALL = "functions and pairs or lists and fold"
-
-# seed, seeds, kind, bytes at most, records, what they need to have
+# seed, seeds, kind, bytes at most, records, what they need to meet
 GENERATED = (
     (1, 5000, "mixed", 1300, 850), (5001, 4500, "rich", 1300, 850), (9001, 4000, "plain", 1200, 350), (20001, 600, "mixed", 5000, 30),
-    (40001, 5000, "rich", 2000, 260, ALL), (12001, 600, "big", 6000, 50), (13001, 600, "deep", 11000, 25),
+    (40001, 12000, "rich", 2500, 380, ALL), (70001, 600, "mix", 2500, 15, ALL), (12001, 600, "big", 6000, 50), (13001, 600, "deep", 11000, 25),
     (1, 300, "typed", 1500, 60), (1, 600, "untyped", 700, 60), (1, 300, "closures", 2500, 60), (1, 300, "lambda", 900, 40), (1, 300, "mix", 3500, 40),
     (1, 200, "lost", 1600, 30), (1, 120, "combi", 6000, 12), (1, 200, "obs", 4000, 30), (1, 300, "rec", 2500, 80), (1, 60, "lost+", 3000, 30),
     (1, 60, "rec+", 7000, 10), (1, 40, "mix+", 12000, 4), (1, 20, "obs+", 12000, 4),
@@ -316,6 +326,10 @@ GENERATED = (
 
 def modules(ms):
     return [module_record(m) for m in ms]
+
+
+def numbered(cases):
+    return [(number, module_record(m)) for number, m in cases]
 
 
 def write_counts(w):
@@ -330,14 +344,15 @@ def write(oracle, twin):
     for number, made in REFUSED.items():
         w.put_all(modules(made()), number)
     w.put_all(modules((*accepted(), *powers())), 0)
-    w.put_all(modules((*list_limits(), *id_limits())))
-    w.put_all([r for r in modules(m for name, m in directed.CASES if name not in LEFT_OUT) if r is not None])
+    w.put_numbered(numbered((*list_limits(), *id_limits(), *((directed.NUMBERS[name], m) for name, m in directed.CASES if name not in LEFT_OUT))))
     for chosen in GENERATED:
         before = w.groups
         w.put_small(*chosen)
         print("%d records: %s" % (w.groups - before, chosen), file=sys.stderr)
     w.put_all([*damaged([r for r in generated(oracle, 30001, 150, "mixed") if len(r) < 900])])
     write_counts(w)
+    if w.tested[ALL] < ENOUGH:
+        raise SystemExit("%d accepted records with all three, of %d" % (w.tested[ALL], ENOUGH))
 
 
 if __name__ == "__main__":

@@ -9,7 +9,7 @@ output that are just full, with a store that is a node short (30), and with an o
 """
 import sys
 
-from evaluation_cases import REFUSED, X, Y, Writer, accepted, damaged, hand_made, id_limits, list_limits, modules, negated, powers, write_counts
+from evaluation_cases import REFUSED, X, Y, Writer, accepted, damaged, hand_made, id_limits, list_limits, modules, negated, numbered, powers, write_counts
 from plain_agreement import judged, modules as plain_modules, record_of
 from source_records import LAST_STORE, MODEL_KINDS, directed, generated, model, stores
 from assemble import A, D, EQ, F, I, V, pack
@@ -44,12 +44,10 @@ def no_modules():
 
 def last_ids():
     """The last pass draws four ids: its last is 65,535; one more (32, before 33); all are over; and one is over in evaluation already."""
-    for n in LAST_IDS:
+    for number, n in ((0, 19), (32, 20), (32, 23), (32, 24)):
         wide, more = D("f", F(["p%d" % i for i in range(500)], X)), D("g", F(["p%d" % i for i in range(n)], X))
-        yield [], [wide, more], [A(V("f"), X)] * 130 + [I(EQ, negated(4, X), Y)]
+        yield number, ([], [wide, more], [A(V("f"), X)] * 130 + [I(EQ, negated(4, X), Y)])
 
-
-LAST_IDS = (19, 20, 23, 24)
 
 # seed, seeds, kind, bytes at most, records
 GENERATED = (
@@ -65,8 +63,7 @@ def write(oracle, twin):
     for number, made in REFUSED.items():
         w.put_all(modules(made()), number)
     w.put_all(modules((*accepted(), *powers())), 0)
-    w.put_all(modules((*list_limits(), *id_limits(), *last_ids())))
-    w.put_all([r for r in modules(m for _, m in directed.CASES[::4]) if r is not None])
+    w.put_numbered(numbered((*list_limits(), *id_limits(), *last_ids(), *((directed.NUMBERS[name], m) for name, m in directed.CASES[::4]))))
     for chosen in GENERATED:
         w.put_small(*chosen)
     w.put_all([*damaged([r for r in generated(oracle, 30101, 60, "mixed") if len(r) < 900])])

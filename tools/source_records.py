@@ -43,10 +43,12 @@ COUNTS = re.compile(r" first=(\d+) made=(\d+) made-at-first=(\d+) ")
 
 
 class Answer:
-    """What to expect with a store that is never full: the refusal's number or 0, the nodes made by then, the record, by whom, and the Rust's message."""
+    """What to expect with a store that is never full: the refusal's number or 0, the nodes made by then, the record, by whom, and the Rust's message.
 
-    def __init__(self, number, made, record=None, by="", message=""):
-        self.number, self.made, self.record, self.by, self.message = number, made, record, by, message
+    What was met in evaluation is known where the model answered too: why it made nodes, in the words of model.py."""
+
+    def __init__(self, number, made, record=None, by="", message="", met=frozenset()):
+        self.number, self.made, self.record, self.by, self.message, self.met = number, made, record, by, message, met
 
     def with_store(self, store):
         """The number to expect with a store of so many bytes: 30 once the made nodes pass it."""
@@ -116,8 +118,8 @@ def model_answer(record, wanted="flat"):
         flat = model.flat_of(state)
         written = model.write_flat(flat) if wanted == "flat" else model.write_constraint(model.passes(flat), 1 << 30)
     except model.Refuse as refusal:
-        return Answer(refusal.n, state.made, by="the model")
-    return Answer(0, state.made, written, "the model")
+        return Answer(refusal.n, state.made, by="the model", met=state.met)
+    return Answer(0, state.made, written, "the model", met=state.met)
 
 
 def twin_lines(twin, records, timeout=5, jobs=2):
@@ -134,8 +136,8 @@ def answers(twin, records, timeout=5, jobs=2, wanted="flat"):
 
 
 def in_its_place(line, answer):
-    """The model's answer, with how the Rust ended."""
-    answer.message = line.split(" ", 1)[0]
+    """The model's answer, with how and where the Rust ended: crash or timeout in read, evaluate or passes."""
+    answer.message = line.replace("stage=", "in ")
     return answer
 
 

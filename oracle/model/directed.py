@@ -1,14 +1,17 @@
 """Modules made to catch one mistake each: late snapshot of implicit_env, lowest hit in a rope, splits of lost closures, ...
 
-    CASES   a list of (name, module); a module is (publics, definitions, expressions) as assemble.py writes it
+    CASES    a list of (name, module); a module is (publics, definitions, expressions) as assemble.py writes it
+    NUMBERS  by name what evaluation answers: the refusal's number, or 0
 """
 from functools import reduce
 
 from assemble import *
 
 P2 = lambda a, b: ('pprod', PV(a), PV(b))
-CASES = []
-def case(name, mod): CASES.append((name, mod))
+CASES, NUMBERS = [], {}
+def case(name, mod, number=0):
+    CASES.append((name, mod))
+    NUMBERS[name] = number
 
 # -- splits and lost closures
 g = L('y', PR(V('i0'), V('i1')), F(['b'], PR(C(0), F(['z'], V('y')))))
@@ -36,7 +39,7 @@ gg = L('y', PR(V('i0'), V('i1')), F(['f'], PR(A(V('f'), C(1)), F(['z'], PR(V('y'
 case('two values 2', ([], [D('g', gg), (P2('a', 'h'), A(V('g'), F(['q'], V('q')))), D('vy', A(V('h'), C(1)))]
      + [(P2('yy', 'ff'), A(V('h'), C(2)))] + [D('e', ('match', V('yy'), [(P2('p', 'q'), C(1))])),
      (P2('a2', 'h2'), A(V('g'), V('h'))), D('a3', A(V('h2'), C(3))),
-     (P2('a4', 'h4'), A(V('g'), F(['w'], ('match', A(V('h'), V('w')), [(P2('m', 'n'), PR(V('m'), V('h')))]))))], []))
+     (P2('a4', 'h4'), A(V('g'), F(['w'], ('match', A(V('h'), V('w')), [(P2('m', 'n'), PR(V('m'), V('h')))]))))], []), 16)
 # the lowest hit: y is split, and then taken by implicit_env over a pair of which one closure has the old y and the other has none
 gy = L('y', PR(V('i0'), V('i1')), F(['b'], PR(V('b'), PR(V('y'), F(['z'], V('y'))))))
 P3 = lambda a, b, c: ('pprod', a, P2(b, c))
@@ -79,7 +82,7 @@ def through(n, m):
     defs = [D('mk', mk), D('id', F(['q'], V('q'))), D('l', l), D('k', A(V('iter'), C(m), V('id'), V('l')))]
     return [], defs, [A(V('fold'), V('k'), F(['e', 'acc'], ('seq', [I(EQ, A(V('e'), V('i0')), V('i1')), V('acc')])), U)]
 case('through 10 x 40', through(10, 40))
-case('through 60 x 10', through(60, 10))
+case('through 60 x 10', through(60, 10), 30)
 case('through 2 x 118', through(2, 118))
 # one closure captured thousands of times
 def grow(n, rounds):
@@ -124,7 +127,7 @@ def doubled(n):
 case('doubled 6', doubled(6)); case('doubled 9', doubled(9))
 # fresh on closures and pairs, split prover variables
 case('fresh', ([], [D('f', A(V('fresh'), PR(F(['z'], V('i0')), PR(I(ADD, V('i0'), C(1)), U)))), D('l', A(V('fresh'), lst(C(1), V('i0'), F(['q'], V('q')))))],
-     [I(EQ, V('i1'), C(1)), ('match', A(V('fresh'), V('i3')), [(P2('p', 'q'), I(EQ, V('p'), V('q')))])]))
+     [I(EQ, V('i1'), C(1)), ('match', A(V('fresh'), V('i3')), [(P2('p', 'q'), I(EQ, V('p'), V('q')))])]), 16)
 case('fresh over split', ([], [D('e', ('match', V('s0'), [(P2('p', 'q'), C(1))])), D('f', A(V('fresh'), PR(V('s0'), V('s1')))),
      D('h', ('match', V('s1'), [(P2('p', 'q'), V('q'))])), D('f2', A(V('fresh'), PR(V('s0'), V('s1'))))], []))
 case('fresh, value splits between', ([], [D('k', F(['v'], ('seq', [('match', V('s1'), [(P2('p', 'q'), U)]), A(V('fresh'), V('v'))]))), D('r', A(V('k'), PR(V('s1'), F(['z'], V('s1')))))], []))
@@ -144,26 +147,26 @@ def levels(n):
     e = V('i0')
     for _ in range(n - 1): e = ('neg', e)
     return [], [], [e]
-case('levels 256', levels(256)); case('levels 257', levels(257))
+case('levels 256', levels(256)); case('levels 257', levels(257), 19)
 def lists(n):
     e = N
     for j in range(n): e = CO(F(['z'], V('i0')), e)
     return [], [], [e]
-case('list 255', lists(255)); case('list 256', lists(256))
+case('list 255', lists(255)); case('list 256', lists(256), 19)
 def apps(n):
     e = V('i0')
     for _ in range(n): e = A(F(['x'], V('x')), e)
     return [], [], [e]
-for n in (84, 85, 86, 126, 127, 128, 253, 254, 255, 256): case('apps %d' % n, apps(n))
+for n in (84, 85, 86, 126, 127, 128, 253, 254, 255, 256): case('apps %d' % n, apps(n), 19 if n > 254 else 0)
 def bodies(n):
     defs = [D('f0', F(['x'], V('x')))]
     for j in range(n): defs.append(D('f%d' % (j + 1), F(['x'], A(V('f%d' % j), V('x')))))
     return [], defs, [A(V('f%d' % n), F(['q'], V('i0')))]
-for n in (126, 127, 128, 200): case('bodies %d' % n, bodies(n))
+for n in (126, 127, 128, 200): case('bodies %d' % n, bodies(n), 19 if n > 126 else 0)
 case('let chain 330', ([], [], [reduce(lambda b, j: L('a%d' % j, F(['z'], V('i0')), b), range(330), PR(V('a3'), V('a7')))]))
-for n in (-129, -128, -1, 0, 127, 128): case('iter %d' % n, ([], [], [A(V('iter'), C(n), F(['x'], V('x')), V('i0'))]))
+for n in (-129, -128, -1, 0, 127, 128): case('iter %d' % n, ([], [], [A(V('iter'), C(n), F(['x'], V('x')), V('i0'))]), 0 if -129 < n < 128 else 14)
 # application of a pair of functions: 30, 32 before 10
-case('apply pair', ([], [D('p', PR(F(['x', ('pas', PV('y'), 'w')], V('x')), F([P2('x', 'y')], V('x'))))], [A(V('p'), C(1))]))
+case('apply pair', ([], [D('p', PR(F(['x', ('pas', PV('y'), 'w')], V('x')), F([P2('x', 'y')], V('x'))))], [A(V('p'), C(1))]), 10)
 # module redefinitions capturing the same closures: every definition wraps the last
 def redefine(n):
     defs = [D('f', F(['z'], V('z')))]
@@ -176,7 +179,7 @@ def redef_pair(n):
         defs.append(D('f', L('k', V('f'), F(['z'], A(V('k'), V('z'))))))
         defs.append(D('l', CO(V('f'), V('l'))))
     return [], defs, [A(V('fold'), V('l'), F(['e', 'acc'], A(V('e'), V('acc'))), V('i0'))]
-case('redef list 30', redef_pair(30)); case('redef list 100', redef_pair(100))
+case('redef list 30', redef_pair(30)); case('redef list 100', redef_pair(100), 31)
 # deep left nesting by expression and by bind
 def leftnest(n, step):
     defs = [D('t0', F(['z'], V('i0')))]
@@ -185,7 +188,7 @@ def leftnest(n, step):
         for q in range(step): e = PR(e, C(q))
         defs.append(D('t%d' % (j + 1), e))
     return [], defs, [L('x', C(1), V('t%d' % n))]
-case('left nest', leftnest(4, 220)); case('left nest 2', leftnest(9, 100))
+case('left nest', leftnest(4, 220)); case('left nest 2', leftnest(9, 100), 31)
 def rightnest(n, step):
     defs = [D('t0', N)]
     for j in range(n):
@@ -207,7 +210,7 @@ def chain_module(n):
         defs.append(D('s', PR(V('q'), V('l'))))
         n -= k
     return [], defs, [I(EQ, A(V('q'), V('l')), V('out'))]
-for n in (5, 255, 256, 257): case('chain %d' % n, chain_module(n))
+for n in (5, 255, 256, 257): case('chain %d' % n, chain_module(n), 19 if n > 256 else 0)
 
 
 # -- near the limits
@@ -215,19 +218,19 @@ def many_ids(n, k, extra):
     p = PV('x')
     for j in range(n): p = ('pas', p, 'a')
     return [], [D('f', F(['q', p], V('i0')))] + [D('x', A(V('f'), C(1))) for _ in range(k)] + extra, []
-case('ids 32', many_ids(1500, 43, []))
-case('ids 30 before 32', many_ids(600, 110, []))
+case('ids 32', many_ids(1500, 43, []), 32)
+case('ids 32 before 30', many_ids(600, 110, []), 32)  # in the 108th application; 30 would come in the 109th
 case('ids ok', many_ids(1500, 42, []))
 g2 = F(['q', ('pas', ('pas', PV('r'), 'a'), 'b')], V('q'))
 T40 = [D('t', lst(*[C(1)] * 40))]
 for e in (9, 10, 11):
-    case('ids 32 in expand %d' % e, many_ids(1500, 42, T40 + [D('y', V('t')) for _ in range(e)]))
+    case('ids 32 in expand %d' % e, many_ids(1500, 42, T40 + [D('y', V('t')) for _ in range(e)]), 32 if e > 10 else 0)
 for e in (3, 5, 6, 7, 8, 9, 30):
-    case('ids 32 in infix %d' % e, many_ids(1500, 42, T40 + [D('y', V('t'))] * 10 + [D('y', I(ADD, V('i0'), V('i1')))] * e))
+    case('ids 32 in infix %d' % e, many_ids(1500, 42, T40 + [D('y', V('t'))] * 10 + [D('y', I(ADD, V('i0'), V('i1')))] * e), 32)
 for e in (1, 2, 3, 4, 5):
-    case('ids 32 in split %d' % e, many_ids(1500, 42, T40 + [D('y', V('t'))] * 10 + [D('y', ('match', V('s%d' % j), [(P2('u', 'v'), C(1))])) for j in range(e)]))
-case('ids 32 late', many_ids(1480, 42, [D('g', g2)] + [D('y', A(V('g'), C(1))) for _ in range(42)]))
-case('ids 32 in expand', many_ids(1480, 42, [D('t', lst(*[C(1)] * 40))] + [D('y', V('t')) for _ in range(12)]))
+    case('ids 32 in split %d' % e, many_ids(1500, 42, T40 + [D('y', V('t'))] * 10 + [D('y', ('match', V('s%d' % j), [(P2('u', 'v'), C(1))])) for j in range(e)]), 32 if e > 1 else 0)
+case('ids 32 late', many_ids(1516, 42, [D('g', g2)] + [D('y', A(V('g'), C(1))) for _ in range(42)]), 32)
+case('ids 32 in expand', many_ids(1480, 42, T40 + [D('y', V('t')) for _ in range(21)]), 32)
 def big_lets(n, m, ret):
     """m lets open at once, each of a list of n numbers"""
     l = N
@@ -242,16 +245,16 @@ def provers(n, m):
     l = N
     for j in range(n): l = CO(V('i%d' % j), l)
     return [], [D('t', l)] + [D('f', A(V('fresh'), V('t'))) for _ in range(m)], []
-case('provers 31', provers(200, 12)); case('provers ok', provers(150, 6))
+case('provers 31', provers(200, 12), 31); case('provers ok', provers(150, 6))
 def defs31(n):
     return [], [D('f', F(['x'], I(MUL, V('x'), V('x'))))] + [D('y', A(V('iter'), C(120), V('f'), V('i0'))) for _ in range(n)], []
-case('defs 31', defs31(40)); case('defs 16', defs31(16)); case('defs 17', defs31(17))
+case('defs 31', defs31(40), 31); case('defs 16', defs31(16)); case('defs 17', defs31(17), 31)
 def power31(n):
     return [], [D('y', I(EXP, V('i0'), C(2 ** 30 - 1))) for _ in range(n)], []
-case('power 31', power31(90)); case('power ok', power31(60))
+case('power 31', power31(90), 31); case('power ok', power31(60))
 def negs(n):
     return [], [D('x0', ('neg', V('i0')))] + [D('x%d' % (j + 1), ('neg', V('x%d' % j))) for j in range(n)], []
-case('negs 178', negs(178)); case('negs 181', negs(181))
+case('negs 178', negs(178)); case('negs 181', negs(181), 31)
 def env_big(n, k):
     """a closure with an environment of thousands, applied k times, inside frames"""
     l = N
@@ -268,7 +271,7 @@ def fold_nest(n, m):
     defs = [D('f', F(['z'], V('z'))), D('st', step)]
     for j in range(m): defs.append(D('f', A(V('iter'), C(n), V('st'), V('f'))))
     return [], defs, [A(V('f'), F(['e', 'acc'], V('acc')), C(3))]
-case('fold nest 100', fold_nest(100, 1)); case('fold nest 1200', fold_nest(120, 10)); case('fold nest 2400', fold_nest(120, 20))
+case('fold nest 100', fold_nest(100, 1)); case('fold nest 1200', fold_nest(120, 10)); case('fold nest 2400', fold_nest(120, 20), 30)
 def left_clo(n, step):
     defs = [D('t0', L('k', C(1), F(['z'], V('k'))))]
     for j in range(n):
@@ -290,9 +293,9 @@ def left_units(n, step, left):
     defs = [D('g', F(['x'], reduce(lambda e, _: PR(e, U) if left else PR(U, e), range(step), V('x')))), D('t', U)]
     for j in range(n): defs.append(D('t', A(V('g'), V('t'))))
     return [], defs, []
-case('left units', left_units(8, 240, True)); case('right units', left_units(8, 240, False))
-case('left units 11', left_units(11, 240, True)); case('right units 11', left_units(11, 240, False))
-case('left units 12', left_units(12, 240, True))
+case('left units', left_units(8, 240, True), 30); case('right units', left_units(8, 240, False), 30)
+case('left units 11', left_units(11, 240, True), 30); case('right units 11', left_units(11, 240, False), 30)
+case('left units 12', left_units(12, 240, True), 30)
 def left_pat(n):
     p, v = PV('a'), V('i0')
     for _ in range(n): p, v = ('pprod', p, PV('b')), PR(v, V('i1'))
@@ -311,11 +314,13 @@ def chain_as(n, pat):
     defs[2] = D('s', PR(q, V('free')))
     return pubs, defs, exprs
 for n in (3, 254, 255, 256):
-    case('chain as split %d' % n, chain_as(n, ('pas', P2('x', 'y'), 'w')))
-    case('chain split %d' % n, chain_as(n, P2('x', 'y')))
+    case('chain as split %d' % n, chain_as(n, ('pas', P2('x', 'y'), 'w')), 19 if n > 255 else 16)
+    case('chain split %d' % n, chain_as(n, P2('x', 'y')), 19 if n > 255 else 16)
 case('fold pairs applied', ([], [D('mk', mk), D('l', lst(el(1), el(2), el(3)))],
      [A(V('fold'), V('l'), F([('pprod', PV('a'), P2('b', 'c')), 'acc'], ('seq', [I(EQ, A(V('a'), V('i0')), C(1)), I(EQ, A(V('c'), V('i1')), V('b')), V('acc')])), U)]))
 case('fold lists applied', ([], [D('mk', mk), D('l', lst(lst(A(V('mk'), C(1)), A(V('mk'), V('i0'))), lst(V('mk'), A(V('mk'), C(4))), N))],
      [A(V('fold'), V('l'), F(['e', 'acc'], ('seq', [A(V('fold'), V('e'), F(['f', 'b'], A(V('f'), V('b'))), V('i2')), V('acc')])), U)]))
 case('fresh closures applied', ([], [D('mk', mk), D('q', PR(A(V('mk'), C(1)), PR(A(V('mk'), V('i0')), A(V('mk'), C(3))))),
      (('pprod', PV('a'), P2('b', 'c')), A(F(['v'], L('k', C(2), A(V('fresh'), V('v')))), V('q')))], [I(EQ, V('a'), V('i0'))]))
+# both limits are passed by one refresh, which counts its nodes first
+case('ids 30 before 32', many_ids(500, 130, []), 30)
