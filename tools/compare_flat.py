@@ -6,7 +6,7 @@
 ORACLE is the oracle, built from the unchanged Rust by oracle/build.sh (tools/flat_records.py says what it has to answer). Run it at the top of
 the repository, after `rt check flat_replay`. The records are those of the seeds from SEED on: random flat records, or with
 KIND (mixed, plain, rich, big, deep) those that evaluation makes of N random modules of that kind. Each goes in once as it is
-and once with a word changed; every third output is just long enough, and every third a byte short. A record that differs
+and once with a word changed, and these are counted apart; every third output is just long enough, and every third a byte short. A record that differs
 is printed.
 """
 import collections
@@ -56,16 +56,20 @@ def compare(oracle, records, counts):
 
 def main():
     oracle, seed, n = sys.argv[1], int(sys.argv[2]), int(sys.argv[3])
-    counts, different = collections.Counter(), []
+    as_it_is, damaged, different = collections.Counter(), collections.Counter(), []
     for start in range(seed, seed + n, BATCH):
         count = min(BATCH, seed + n - start)
         records = generated_modules(oracle, start, count, sys.argv[4]) if len(sys.argv) > 4 else generated(oracle, start, count)
         rng = random.Random(start)
-        different += compare(oracle, records + [changed(r, rng) for r in records], counts)
+        different += compare(oracle, records, as_it_is)
+        different += compare(oracle, [changed(r, rng) for r in records], damaged)
     for record in different:
         print("differs:", record.hex())
-    print(", ".join("%d %s" % (counts[k], k) for k in sorted(counts)) + ", %d differ" % len(different))
+    for title, counts in (("as they are", as_it_is), ("with a word changed", damaged)):
+        print("%d records %s: %s" % (sum(counts.values()), title, ", ".join("%d %s" % (counts[k], k) for k in sorted(counts))))
+    print("%d differ" % len(different))
     sys.exit(1 if different else 0)
 
 
-main()
+if __name__ == "__main__":
+    main()

@@ -42,12 +42,12 @@ def message(text):
     return re.sub(r"-?\d+ (\S+) -?\d+", r"a \1 b", text)[:70]
 
 
-def cause(answer):
-    """Why the port gives the answer, and whether it is a difference by docs/DIFFERENCES.md."""
+def cause(answer, most=LAST_ROOM):
+    """Why the port gives the answer, and whether it is a difference by docs/DIFFERENCES.md; most: the longest output that the program lends."""
     if answer.by == "the reader":
         return "no module: refused %d by the reader" % answer.number
     if answer.by == "the Rust's record":
-        return "accepted by both" if len(answer.record) <= LAST_ROOM else "accepted by the Rust, too long a record for the program: 33"
+        return "accepted by both" if len(answer.record) <= most else "accepted by the Rust, too long a record for the program: 33"
     if answer.by == "the Rust's error":
         return "refused by both: %d, %s" % (answer.number, message(answer.message))
     if answer.by == "the model":

@@ -161,8 +161,6 @@ def equalities_of(record):
     """The equalities of a constraint record: left term, operation, two terms; a term is (0, id) or (1, element)."""
     w = struct.unpack("<%di" % (len(record) // 4), record)
     at = 6 + w[1] + w[2]
-    if w[2] or w[4]:
-        raise SystemExit("prover ids in a plain module: " + record.hex())
     rows = [w[k : k + 7] for k in range(at, at + 7 * w[3], 7)]
     return [(r[0:2], r[2], r[3:5], r[5:7]) for r in rows]
 
@@ -200,11 +198,12 @@ def judged(module, answer):
     if answer.number:
         return "refused %d" % answer.number, answer.number != 11
     ids, holds = module.input_ids(), module.holds()
+    _, _, provers, _, kept = struct.unpack_from("<5I", answer.record)
     try:
         found = solved(equalities_of(answer.record), {ids[n]: module.inputs[n] for n in ids})
     except NoValue:
         found = None
-    return "hold" if holds else "do not hold", found is not holds
+    return "hold" if holds else "do not hold", found is not holds or provers + kept > 0
 
 
 def lengths(answer):

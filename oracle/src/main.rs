@@ -109,6 +109,10 @@ fn equalities(b: &[u8]) -> String {
     match Flat::parse(b).and_then(|f| f.check_lent().map(|_| f)) {
         Ok(f) => {
             let c = driver::run_flat(&f);
+            // The last pass drew an id above 65,535.
+            if c.next > 65536 {
+                return "refused 32\n".to_string();
+            }
             if c.to_bytes().len() > 65536 {
                 return "refused 33\n".to_string();
             }
