@@ -1,6 +1,6 @@
 """Flat records, the oracle's answers to them, and the cases that the program flat_replay reads.
 
-Used by flat_cases.py and compare_flat.py. The oracle is the unchanged Rust with a reader and a writer of document 01's
+Used by flat_cases.py, compare_flat.py and compare_programs.py. The oracle is the unchanged Rust with a reader and a writer of document 01's
 records around it: `oracle batch flat` answers a hexadecimal flat record a line by `ok cons=HEX`, the constraint record, or by
 `refused N`; `oracle gen-flat SEED COUNT` and `gen-src SEED COUNT KIND` print random records, `batch src` answers source records
 with their flat records, and `asm FILE` turns a module's text form into a source record.
@@ -12,6 +12,7 @@ import subprocess
 
 REFUSED = 4294901760
 LAST_NEXT = 65536
+LONGEST = 344344
 DIVIDE, DIVIDE_Z, MULTIPLY, ADD, SUBTRACT, EQUAL, POWER, INT_DIVIDE, MODULO = range(9)
 
 
@@ -157,9 +158,9 @@ def evaluated(oracle, sources):
 
 
 def generated_modules(oracle, seed, count, kind="mixed"):
-    """The flat records of random modules."""
+    """The flat records of random modules, without those that are longer than any legal one: the Rust has no limit."""
     text = subprocess.run([oracle, "gen-src", str(seed), str(count), kind], capture_output=True, text=True, check=True).stdout
-    return evaluated(oracle, text)
+    return [r for r in evaluated(oracle, text) if len(r) <= LONGEST]
 
 
 def hand_made_modules(oracle, files):

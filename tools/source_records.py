@@ -1,6 +1,6 @@
 """Source records, what the Rust and the model answer to them, and the cases that the programs evaluation_replay and flatten_replay read.
 
-Used by evaluation_cases.py, flatten_cases.py, compare_source.py, compare_flatten.py and oracle/twin_check.py. The twin (oracle/README.md) is the Rust with counters: it tells
+Used by evaluation_cases.py, flatten_cases.py, compare_source.py, compare_flatten.py, compare_programs.py and oracle/twin_check.py. The twin (oracle/README.md) is the Rust with counters: it tells
 the flat and the constraint record, or the refusal that the port meets first, and the nodes made by then. The model (oracle/model) answers where the Rust's
 memory or time explodes, and gives a second opinion everywhere.
 
