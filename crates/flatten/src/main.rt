@@ -1,6 +1,7 @@
 // The constraint record of a source record: the record on standard input, its constraint record on standard output; at a
 // refusal nothing there, and "refused" with the number on standard error. Arguments: how many bytes to lend as the store,
-// and how many as the output. One that is missing, or more than can matter, counts as the most that can.
+// and how many as the output, in at most 40 digits. One that is missing, or more than can matter, counts as the most that
+// can.
 use cut::Answer;
 use flattening::buffers::output_buffer;
 use flattening::buffers::record_buffer;
