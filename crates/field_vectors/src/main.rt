@@ -69,24 +69,25 @@ fn unequal(a: u64, b: u64) -> u64
     1
 }
 
-fn differing_vectors() -> u64 {
+// Rows of five numbers.
+fn differing_vectors(rows: &[i64]) -> u64 {
     let mut wrong: u64 = 0;
-    let mut i: usize = 0;
-    while i < ROWS {
-        let row = 5 * i;
-        let answer = worked(VECTORS[row], VECTORS[row + 1], VECTORS[row + 2]);
-        wrong += differs(answer, VECTORS[row + 3], VECTORS[row + 4]);
-        i += 1;
+    let mut row: usize = 0;
+    while row + 5 <= rows.len() {
+        let answer = worked(rows[row], rows[row + 1], rows[row + 2]);
+        wrong += differs(answer, rows[row + 3], rows[row + 4]);
+        row += 5;
     }
     wrong
 }
 
-fn differing_counts() -> u64 {
+// Rows of an exponent and its count.
+fn differing_counts(rows: &[u64]) -> u64 {
     let mut wrong: u64 = 0;
-    let mut i: usize = 0;
-    while i < COUNTS {
-        wrong += unequal(field::counts::power_count(POWERS[2 * i]), POWERS[2 * i + 1]);
-        i += 1;
+    let mut row: usize = 0;
+    while row + 2 <= rows.len() {
+        wrong += unequal(field::counts::power_count(rows[row]), rows[row + 1]);
+        row += 2;
     }
     wrong
 }
@@ -99,8 +100,8 @@ fn report(what: &[u8], n: u64, wrong: u64) {
 }
 
 fn main() {
-    let vectors = differing_vectors();
-    report(b" vectors, ", ROWS as u64, vectors);
-    let counts = differing_counts();
-    report(b" power counts, ", COUNTS as u64, counts);
+    let vectors = VECTORS;
+    report(b" vectors, ", ROWS as u64, differing_vectors(&vectors));
+    let powers = POWERS;
+    report(b" power counts, ", COUNTS as u64, differing_counts(&powers));
 }

@@ -1,41 +1,39 @@
--- `field_vectors::differing_counts` is safe and ends: the rows passed are at most those there are. Assumes nothing.
+-- `field_vectors::differing_counts` is safe and ends: what was passed is at most what there is. Assumes nothing.
 use Prim.Native.Nat.{_≤_, _-_}
+use lib.ListN.{length}
 use borrow.Author.Needs.{needs}
 use Rattle.field_vectors.proofs.differing_counts.Statement.{statement}
 use Rattle.field_vectors.proofs.differing_counts.Tie as tie
 
 abbrev Inv-loop : tie.InvT-loop
-Inv-loop wrong₀ i₀ wrong i = (i ≤ 301) × (wrong ≤ i)
+Inv-loop rows wrong₀ row₀ wrong row = (row ≤ length rows) × (wrong ≤ row)
 
 abbrev μ-loop : tie.MeasureT-loop
-μ-loop wrong₀ i₀ wrong i = 301 - i
+μ-loop rows wrong₀ row₀ wrong row = length rows - row
 
 loop-holds : tie.Need-loop-holds Inv-loop μ-loop
 loop-holds c = search needs
 
+add-loop : tie.Need-add-loop Inv-loop μ-loop
+add-loop c = search needs
+
 mul-power-count : tie.Need-mul-power-count Inv-loop μ-loop
 mul-power-count c = search needs
 
-mul-power-count-2 : tie.Need-mul-power-count-2 Inv-loop μ-loop
-mul-power-count-2 c = search needs
-
-array-read-power-count : tie.Need-array-read-power-count Inv-loop μ-loop
-array-read-power-count c = search needs
+shared-slice-read-power-count : tie.Need-shared-slice-read-power-count Inv-loop μ-loop
+shared-slice-read-power-count c = search needs
 
 power-count-requires : tie.Need-power-count-requires Inv-loop μ-loop
 power-count-requires c κs = search needs
 
-mul-unequal : tie.Need-mul-unequal Inv-loop μ-loop
-mul-unequal c = search needs
-
 add-unequal : tie.Need-add-unequal Inv-loop μ-loop
 add-unequal c = search needs
 
-mul-unequal-2 : tie.Need-mul-unequal-2 Inv-loop μ-loop
-mul-unequal-2 c = search needs
+mul-unequal : tie.Need-mul-unequal Inv-loop μ-loop
+mul-unequal c = search needs
 
-array-read-unequal : tie.Need-array-read-unequal Inv-loop μ-loop
-array-read-unequal c = search needs
+shared-slice-read-unequal : tie.Need-shared-slice-read-unequal Inv-loop μ-loop
+shared-slice-read-unequal c = search needs
 
 unequal-requires : tie.Need-unequal-requires Inv-loop μ-loop
 unequal-requires c κs = search needs
@@ -43,8 +41,8 @@ unequal-requires c κs = search needs
 add-wrong : tie.Need-add-wrong Inv-loop μ-loop
 add-wrong c = search needs
 
-add-i : tie.Need-add-i Inv-loop μ-loop
-add-i c = search needs
+add-row : tie.Need-add-row Inv-loop μ-loop
+add-row c = search needs
 
 loop-less : tie.Need-loop-less Inv-loop μ-loop
 loop-less c = search needs
@@ -62,17 +60,16 @@ differing-counts-spec =
     Inv-loop
     μ-loop
     loop-holds
+    add-loop
     mul-power-count
-    mul-power-count-2
-    array-read-power-count
+    shared-slice-read-power-count
     power-count-requires
-    mul-unequal
     add-unequal
-    mul-unequal-2
-    array-read-unequal
+    mul-unequal
+    shared-slice-read-unequal
     unequal-requires
     add-wrong
-    add-i
+    add-row
     loop-less
     loop-again
     returns)

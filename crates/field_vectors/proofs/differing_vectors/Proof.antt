@@ -1,26 +1,27 @@
--- `field_vectors::differing_vectors` is safe and ends: the rows passed are at most those there are. Assumes nothing.
+-- `field_vectors::differing_vectors` is safe and ends: what was passed is at most what there is. Assumes nothing.
 use Prim.Native.Nat.{_≤_, _-_}
+use lib.ListN.{length}
 use borrow.Author.Needs.{needs}
 use Rattle.field_vectors.proofs.differing_vectors.Statement.{statement}
 use Rattle.field_vectors.proofs.differing_vectors.Tie as tie
 
 abbrev Inv-loop : tie.InvT-loop
-Inv-loop wrong₀ i₀ wrong i = (i ≤ 682) × (wrong ≤ i)
+Inv-loop rows wrong₀ row₀ wrong row = (row ≤ length rows) × (wrong ≤ row)
 
 abbrev μ-loop : tie.MeasureT-loop
-μ-loop wrong₀ i₀ wrong i = 682 - i
+μ-loop rows wrong₀ row₀ wrong row = length rows - row
 
 loop-holds : tie.Need-loop-holds Inv-loop μ-loop
 loop-holds c = search needs
 
-mul-row : tie.Need-mul-row Inv-loop μ-loop
-mul-row c = search needs
+add-loop : tie.Need-add-loop Inv-loop μ-loop
+add-loop c = search needs
 
 mul-worked : tie.Need-mul-worked Inv-loop μ-loop
 mul-worked c = search needs
 
-array-copy-out-worked : tie.Need-array-copy-out-worked Inv-loop μ-loop
-array-copy-out-worked c = search needs
+shared-slice-copy-out-worked : tie.Need-shared-slice-copy-out-worked Inv-loop μ-loop
+shared-slice-copy-out-worked c = search needs
 
 add-worked : tie.Need-add-worked Inv-loop μ-loop
 add-worked c = search needs
@@ -28,8 +29,8 @@ add-worked c = search needs
 mul-worked-2 : tie.Need-mul-worked-2 Inv-loop μ-loop
 mul-worked-2 c = search needs
 
-array-copy-out-worked-2 : tie.Need-array-copy-out-worked-2 Inv-loop μ-loop
-array-copy-out-worked-2 c = search needs
+shared-slice-copy-out-worked-2 : tie.Need-shared-slice-copy-out-worked-2 Inv-loop μ-loop
+shared-slice-copy-out-worked-2 c = search needs
 
 add-worked-2 : tie.Need-add-worked-2 Inv-loop μ-loop
 add-worked-2 c = search needs
@@ -37,8 +38,8 @@ add-worked-2 c = search needs
 mul-worked-3 : tie.Need-mul-worked-3 Inv-loop μ-loop
 mul-worked-3 c = search needs
 
-array-copy-out-worked-3 : tie.Need-array-copy-out-worked-3 Inv-loop μ-loop
-array-copy-out-worked-3 c = search needs
+shared-slice-copy-out-worked-3 : tie.Need-shared-slice-copy-out-worked-3 Inv-loop μ-loop
+shared-slice-copy-out-worked-3 c = search needs
 
 worked-requires : tie.Need-worked-requires Inv-loop μ-loop
 worked-requires c κs = search needs
@@ -49,8 +50,8 @@ add-differs c = search needs
 mul-differs : tie.Need-mul-differs Inv-loop μ-loop
 mul-differs c = search needs
 
-array-copy-out-differs : tie.Need-array-copy-out-differs Inv-loop μ-loop
-array-copy-out-differs c = search needs
+shared-slice-copy-out-differs : tie.Need-shared-slice-copy-out-differs Inv-loop μ-loop
+shared-slice-copy-out-differs c = search needs
 
 add-differs-2 : tie.Need-add-differs-2 Inv-loop μ-loop
 add-differs-2 c = search needs
@@ -58,8 +59,8 @@ add-differs-2 c = search needs
 mul-differs-2 : tie.Need-mul-differs-2 Inv-loop μ-loop
 mul-differs-2 c = search needs
 
-array-copy-out-differs-2 : tie.Need-array-copy-out-differs-2 Inv-loop μ-loop
-array-copy-out-differs-2 c = search needs
+shared-slice-copy-out-differs-2 : tie.Need-shared-slice-copy-out-differs-2 Inv-loop μ-loop
+shared-slice-copy-out-differs-2 c = search needs
 
 differs-requires : tie.Need-differs-requires Inv-loop μ-loop
 differs-requires c κs = search needs
@@ -67,8 +68,8 @@ differs-requires c κs = search needs
 add-wrong : tie.Need-add-wrong Inv-loop μ-loop
 add-wrong c = search needs
 
-add-i : tie.Need-add-i Inv-loop μ-loop
-add-i c = search needs
+add-row : tie.Need-add-row Inv-loop μ-loop
+add-row c = search needs
 
 loop-less : tie.Need-loop-less Inv-loop μ-loop
 loop-less c = search needs
@@ -86,25 +87,25 @@ differing-vectors-spec =
     Inv-loop
     μ-loop
     loop-holds
-    mul-row
+    add-loop
     mul-worked
-    array-copy-out-worked
+    shared-slice-copy-out-worked
     add-worked
     mul-worked-2
-    array-copy-out-worked-2
+    shared-slice-copy-out-worked-2
     add-worked-2
     mul-worked-3
-    array-copy-out-worked-3
+    shared-slice-copy-out-worked-3
     worked-requires
     add-differs
     mul-differs
-    array-copy-out-differs
+    shared-slice-copy-out-differs
     add-differs-2
     mul-differs-2
-    array-copy-out-differs-2
+    shared-slice-copy-out-differs-2
     differs-requires
     add-wrong
-    add-i
+    add-row
     loop-less
     loop-again
     returns)
