@@ -4,6 +4,7 @@ use constraint::Term;
 use flat::Node;
 use words::signed;
 use words::unsigned;
+use words::wide;
 use words::word_at;
 ghost use mathlib.Core.Path.{_≡_};
 ghost use mathlib.Core.Bool.{false, not};
@@ -17,13 +18,6 @@ ghost use Rattle.passes.specs.Passes.{isNever, those, walk, copyPropagateExpr, 
 ghost use Rattle.classify.specs.Arrays.{usageAt, usageOf};
 ghost use Rattle.copies.specs.Substituted.{substOf, noSubstitutions, copiedOf, sameTerm, deadRoots};
 
-// An id as an index.
-fn index(id: u32) -> usize
-    ensures { λ r. ⌜ r ≡ id ⌝ }
-{
-    id as usize
-}
-
 // The term that stands for id v, by as many steps as are left.
 pub fn resolve(subs: &[u32; 131072], v: u32, steps: usize) -> Term
     ensures { λ r. ⌜ r ≡ walk steps (substOf (now (subs .entry))) (Variable v) ⌝ }
@@ -31,7 +25,7 @@ pub fn resolve(subs: &[u32; 131072], v: u32, steps: usize) -> Term
     let mut id = v;
     let mut left = steps;
     while 0 < left {
-        let i = index(id);
+        let i = wide(id);
         if 65536 <= i {
             return Term::Variable(id);
         }
@@ -160,7 +154,7 @@ pub fn used_definitions(s: &[u8], at: usize, n: usize, usage: &[u8; 65536]) -> u
     let mut count = 0usize;
     let mut k = 0usize;
     while k < n {
-        let id = index(word_at(s, at + 2 * k));
+        let id = wide(word_at(s, at + 2 * k));
         count += one_where_used(usage[id]);
         k += 1;
     }

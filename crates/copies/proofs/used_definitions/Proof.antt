@@ -2,7 +2,7 @@ use Rattle.copies.proofs.used_definitions.Statement.{statement}
 use Rattle.copies.proofs.used_definitions.Tie as tie
 use Rattle.copies.proofs.used_definitions.Reads as reads
 use Rattle.copies.proofs.used_definitions.Lts as lts
-use Rattle.copies.proofs.index.Reads as index-reads
+use Rattle.words.proofs.wide.Reads as wide-reads
 use Rattle.copies.proofs.one_where_used.Reads as one-where-used-reads
 use Rattle.words.proofs.word_at.Reads as word-at-reads
 use borrow.Author.Needs.{needs}
@@ -46,11 +46,11 @@ add-word-at c = search needs
 word-at-requires : tie.Need-word-at-requires Inv-loop μ-loop
 word-at-requires c κs = search needs
 
-index-requires : tie.Need-index-requires Inv-loop μ-loop
-index-requires c κs = search needs
+wide-requires : tie.Need-wide-requires Inv-loop μ-loop
+wide-requires c κs = search needs
 
 element-copy-out-one-where-used : tie.Need-element-copy-out-one-where-used Inv-loop μ-loop
-element-copy-out-one-where-used c = used-small _ (c .before .before .before .before .before .args .usage .now) (c .before .before .before .before .before .pre .0) (c .before .before .before .before .before .pre .1) (c .before .before .before .before .before .pre .2) (c .before .before .loop-test .taken) (c .before .word-at .ensures) (c .index .ensures)
+element-copy-out-one-where-used c = used-small _ (c .before .before .before .before .before .args .usage .now) (c .before .before .before .before .before .pre .0) (c .before .before .before .before .before .pre .1) (c .before .before .before .before .before .pre .2) (c .before .before .loop-test .taken) (c .before .word-at .ensures) (c .wide .ensures .0)
 
 one-where-used-requires : tie.Need-one-where-used-requires Inv-loop μ-loop
 one-where-used-requires c κs = search needs
@@ -65,7 +65,7 @@ loop-less : tie.Need-loop-less Inv-loop μ-loop
 loop-less c = search needs
 
 loop-again : tie.Need-loop-again Inv-loop μ-loop
-loop-again c = let z = one-most _ (c .one-where-used .ensures) in ((used-turn _ (c .before .before .before .before .before .before .before .args .usage .now) (c .before .before .before .before .before .before .before .pre .0) (c .before .before .before .before .before .before .before .pre .1) (c .before .before .before .before .before .before .before .pre .2) (c .before .before .before .before .loop-test .taken) (c .before .before .before .word-at .ensures) (c .before .before .index .ensures) (c .before .before .before .before .before .loop .count) (c .one-where-used .ensures) (c .before .before .before .before .before .loop .inv .0 .0), omega arith), omega arith)
+loop-again c = let z = one-most _ (c .one-where-used .ensures) in ((used-turn _ (c .before .before .before .before .before .before .before .args .usage .now) (c .before .before .before .before .before .before .before .pre .0) (c .before .before .before .before .before .before .before .pre .1) (c .before .before .before .before .before .before .before .pre .2) (c .before .before .before .before .loop-test .taken) (c .before .before .before .word-at .ensures) (c .before .before .wide .ensures .0) (c .before .before .before .before .before .loop .count) (c .one-where-used .ensures) (c .before .before .before .before .before .loop .inv .0 .0), omega arith), omega arith)
 
 returns : tie.Need-returns Inv-loop μ-loop
 returns c = used-end _ _ (c .before .before .before .args .n) (c .before .loop .k) _ (c .before .before .before .pre .2) (c .loop-test .left) (c .before .loop .inv .0 .0)
@@ -80,7 +80,7 @@ used-definitions-spec =
     mul-word-at
     add-word-at
     word-at-requires
-    index-requires
+    wide-requires
     element-copy-out-one-where-used
     one-where-used-requires
     add-count
