@@ -16,7 +16,7 @@ use Rattle.passes.specs.Passes.{cut, refused, cutOf}
 use Rattle.numbering.specs.Numbering.{numbered}
 use Rattle.evaluation.specs.Evaluation.{Evaluated, flat, refusal, evaluated}
 use Rattle.evaluation.proofs.Made.{evaluated-is-made}
-use Rattle.beginning.proofs.Sized.{next-small}
+use Rattle.simulation.proofs.Beginning.Sized.{next-small}
 use Rattle.evaluator.specs.declared.Answer.{Answer}
 use Rattle.evaluator.specs.Source.{capacityOf, evaluatedRead, evaluatedSource, Answers}
 use Rattle.agreement.specs.Flattened.{passed, flattenedOf}

@@ -14,7 +14,7 @@ use Rattle.source.specs.Layout.{names, publics, definitions, expressions, nodes
 use Rattle.source.specs.Names.{offsetOf, lengthOf, endOf, nameFits, namesFit}
 use Rattle.source.specs.Record.{Read, sourceOf, unless}
 use Rattle.passes.proofs.Lists.{both-true}
-use Rattle.representation.proofs.Written.{Way, on, off, way}
+use Rattle.simulation.proofs.Representation.Written.{Way, on, off, way}
 use Rattle.evaluator.specs.Source.{capacityOf}
 use Rattle.flattening.specs.Flatten.{flattenedRead, flattened}
 use Rattle.flattening.specs.Statement.{LongAsFront, LargeAsMost}

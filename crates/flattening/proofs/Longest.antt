@@ -30,7 +30,7 @@ use Rattle.evaluation.specs.State as State
 use Rattle.evaluation.specs.Evaluation.{Evaluated, flat, refusal, evaluateModule, begin, finished, evaluatedBy, evaluated}
 use Rattle.evaluation.specs.Statements.{Made}
 use Rattle.evaluation.proofs.Made.{evaluated-is-made}
-use Rattle.beginning.proofs.Sized.{next-small}
+use Rattle.simulation.proofs.Beginning.Sized.{next-small}
 use Rattle.evaluator.specs.Source.{capacityOf}
 use Rattle.agreement.specs.Flattened.{passed, flattenedOf}
 use Rattle.flattening.specs.Flatten.{flattenedRead, flattened}

@@ -1,1 +1,12 @@
+pub mod Words
+pub mod Holds
 pub mod Represents
+pub mod Integer
+pub mod Bindings
+pub mod Captures
+pub mod Expanded
+pub mod Parts
+pub mod Refreshed
+pub mod Expands
+pub mod Begin
+pub mod Record

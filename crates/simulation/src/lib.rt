@@ -1,1 +1,1 @@
-// The evaluator's memory represents the state of evaluation, and each of its steps represents a step.
+// What the evaluator's memory represents, and that each of its operations represents a step of evaluation on trees.

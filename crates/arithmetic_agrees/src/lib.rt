@@ -1,1 +1,0 @@
-// Arithmetic in the evaluator's memory is that of evaluation on trees.

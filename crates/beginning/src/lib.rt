@@ -1,1 +1,0 @@
-// The memory that evaluation begins with.

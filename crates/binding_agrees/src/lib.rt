@@ -1,1 +1,0 @@
-// Patterns and values meet in the memory as they meet on trees.

@@ -1,1 +1,0 @@
-// Executing an intrinsic over the memory agrees with executing it on trees.

@@ -1,1 +1,0 @@
-// The fixed nodes stand for the trees of the numbered record.

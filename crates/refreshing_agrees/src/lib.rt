@@ -1,1 +1,0 @@
-// Refreshing over the memory agrees with refreshing on trees.

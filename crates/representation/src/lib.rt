@@ -1,1 +1,0 @@
-// What the evaluator's memory represents.

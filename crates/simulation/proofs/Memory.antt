@@ -1,0 +1,10 @@
+pub mod Runs
+pub mod Stands
+pub mod Steps
+pub mod Numbers
+pub mod Lists
+pub mod Provers
+pub mod Nodes
+pub mod Cells
+pub mod Pairs
+pub mod Sums
