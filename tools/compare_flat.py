@@ -1,10 +1,10 @@
 #!/usr/bin/env python3
-"""Compares the compiled program flat_replay with the oracle on generated flat records, and prints the counts by answer.
+"""Compares the compiled program test_flat with the oracle on generated flat records, and prints the counts by answer.
 
     python3 tools/compare_flat.py ORACLE SEED N [KIND]
 
 ORACLE is the oracle, built from the unchanged Rust by oracle/build.sh (tools/flat_records.py says what it has to answer). Run it at the top of
-the repository, after `rt check flat_replay`. The records are those of the seeds from SEED on: random flat records, or with
+the repository, after `rt check test_flat`. The records are those of the seeds from SEED on: random flat records, or with
 KIND (mixed, plain, rich, big, deep) those that evaluation makes of N random modules of that kind. Each goes in once as it is
 and once with a word changed, and these are counted apart; every third output is just long enough, and every third a byte short. A record that differs
 is printed.
@@ -16,7 +16,7 @@ import sys
 
 from flat_records import answers, case, generated, generated_modules, pack, unpack
 
-REPLAY = "target/bin/flat_replay"
+REPLAY = "target/bin/test_flat"
 BATCH = 2000
 STORES = (0, 1, 16, 1000)
 
@@ -50,7 +50,7 @@ def compare(oracle, records, counts):
     said = subprocess.run([REPLAY], input=cases, capture_output=True, check=True).stdout.decode().splitlines()
     accepted, refused, differ = (int(part.split()[0]) for part in said[-1].split(", "))
     if accepted + refused + differ != len(records):
-        raise SystemExit("flat_replay saw %d of %d cases" % (accepted + refused + differ, len(records)))
+        raise SystemExit("test_flat saw %d of %d cases" % (accepted + refused + differ, len(records)))
     return [records[int(line.split()[1])] for line in said[:-1]]
 
 

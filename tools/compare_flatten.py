@@ -1,5 +1,5 @@
 #!/usr/bin/env python3
-"""Compares program flatten_replay with the Rust on generated source records, from the record to its constraint record, and prints the counts by cause.
+"""Compares program test_flatten with the Rust on generated source records, from the record to its constraint record, and prints the counts by cause.
 
     python3 tools/compare_flatten.py TWIN PROGRAM SEED N [KIND..] [--model] [--jobs J] [--timeout S]
 

@@ -3,7 +3,7 @@
 
     python3 tools/compare_source.py TWIN PROGRAM SEED N [KIND..] [--model] [--jobs J] [--timeout S]
 
-TWIN is built by oracle/build.sh. PROGRAM reads groups as tools/source_records.py says (evaluation_replay). The records are those of N seeds from SEED on, for
+TWIN is built by oracle/build.sh. PROGRAM reads groups as tools/source_records.py says (test_eval). The records are those of N seeds from SEED on, for
 each KIND: those of the oracle's generator (mixed, plain, rich, big, deep: all five by default) or of the model's (typed, untyped, closures, lambda,
 mix, lost, combi, obs, rec, and the last five with +); the kind `directed` is every directed module, whatever the seeds. Each record is run with a store that
 is just full, one that is a node short, and one of random length.

@@ -1,7 +1,7 @@
 #!/usr/bin/env python3
-"""Writes crates/evaluation_replay/stdin: source records with the answers of the Rust, for the program evaluation_replay.
+"""Writes crates/test_eval/stdin: source records with the answers of the Rust, for the program test_eval.
 
-    python3 tools/evaluation_cases.py ORACLE TWIN > crates/evaluation_replay/stdin
+    python3 tools/evaluation_cases.py ORACLE TWIN > crates/test_eval/stdin
 
 ORACLE and TWIN are built by oracle/build.sh. The format stands at the top of tools/source_records.py: a source record, the runs (a store length
 in bytes, and the answer to expect: 0 or the refusal's number), and the flat record that every accepted run has to give. Nearly every record has two

@@ -3,7 +3,7 @@
 
     python3 tools/evaluation_stack.py PROGRAM [WORD]
 
-PROGRAM is evaluation_replay, flatten or flatten_equalities. Each record is run alone, with the largest store, and the program's stack is limited to fewer and
+PROGRAM is test_eval, flatten or flatten_equalities. Each record is run alone, with the largest store, and the program's stack is limited to fewer and
 fewer bytes (`ulimit -s`) until it no longer ends well; the records are the directed modules of oracle/model and the deep ones below, of these only such whose name
 has WORD in it, if one is given. Printed are the kilobytes that suffice, the largest first.
 """
@@ -126,7 +126,7 @@ def steps():
 def measured(program, record):
     """The answered number, and the least kilobytes of stack with which the program ends well; None where 64 MiB do not suffice."""
     answer = model_answer(record)
-    replays = os.path.basename(program) == "evaluation_replay"
+    replays = os.path.basename(program) == "test_eval"
     data = group(record, answer, [(LAST_STORE,)]) if replays else record
 
     def ends(kb):

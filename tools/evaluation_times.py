@@ -3,7 +3,7 @@
 
     python3 tools/evaluation_times.py ORACLE TWIN PROGRAM [SEEDS]
 
-PROGRAM is evaluation_replay, given each record with a store that is just full; it reads, numbers, evaluates, and compares the flat record and the store.
+PROGRAM is test_eval, given each record with a store that is just full; it reads, numbers, evaluates, and compares the flat record and the store.
 ORACLE runs `evaluate`: the same up to the flat record, by the unchanged Rust, without the passes. First the accepted records of SEEDS seeds (2,000 by default) of each kind, one process
 each side for the whole kind; then modules of one form and growing size, each repeated. Last the slowest of the port, by microseconds a record over all records of
 both, whatever their answer. Printed is processor time, the least of three runs.

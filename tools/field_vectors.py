@@ -1,7 +1,7 @@
 #!/usr/bin/env python3
-"""Writes crates/field_vectors/src/vectors.rt: answers of the field, made by Python's integers alone.
+"""Writes crates/test_field/src/vectors.rt: answers of the field, made by Python's integers alone.
 
-    python3 tools/field_vectors.py > crates/field_vectors/src/vectors.rt && rt fmt
+    python3 tools/field_vectors.py > crates/test_field/src/vectors.rt && rt fmt
 
 Inverses by pow(b, -1, p), quotients by //, powers by pow(a, n, p). Counts of a power by the rule of document 01.
 """

@@ -1,7 +1,7 @@
 #!/usr/bin/env python3
-"""Writes crates/flat_replay/stdin: flat records with the answers of the Rust, for the program flat_replay.
+"""Writes crates/test_flat/stdin: flat records with the answers of the Rust, for the program test_flat.
 
-    python3 tools/flat_cases.py ORACLE MODULE.. > crates/flat_replay/stdin
+    python3 tools/flat_cases.py ORACLE MODULE.. > crates/test_flat/stdin
 
 ORACLE is the oracle, built from the unchanged Rust by oracle/build.sh (tools/flat_records.py says what it has to answer). Each MODULE is a module
 in the oracle's text form: what evaluation makes of it becomes a case. Nothing is random here but what the oracle makes from

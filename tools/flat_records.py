@@ -1,4 +1,4 @@
-"""Flat records, the oracle's answers to them, and the cases that the program flat_replay reads.
+"""Flat records, the oracle's answers to them, and the cases that the program test_flat reads.
 
 Used by flat_cases.py, compare_flat.py and compare_programs.py. The oracle is the unchanged Rust with a reader and a writer of document 01's
 records around it: `oracle batch flat` answers a hexadecimal flat record a line by `ok cons=HEX`, the constraint record, or by
@@ -137,7 +137,7 @@ def answers(oracle, records):
 
 
 def case(record, room, store, answer):
-    """A case of flat_replay: the record, the lengths lent, and the answer, a constraint record or a number."""
+    """A case of test_flat: the record, the lengths lent, and the answer, a constraint record or a number."""
     if isinstance(answer, bytes) and len(answer) <= room:
         return pack([len(record), room, store, len(answer)]) + record + answer
     number = 33 if isinstance(answer, bytes) else answer

@@ -1,7 +1,7 @@
 #!/usr/bin/env python3
-"""Writes crates/flatten_replay/stdin: source records with the constraint records or errors of the Rust, for the program flatten_replay.
+"""Writes crates/test_flatten/stdin: source records with the constraint records or errors of the Rust, for the program test_flatten.
 
-    python3 tools/flatten_cases.py ORACLE TWIN > crates/flatten_replay/stdin
+    python3 tools/flatten_cases.py ORACLE TWIN > crates/test_flatten/stdin
 
 ORACLE and TWIN are built by oracle/build.sh. The records are chosen, and their answers held to oracle, twin and model alike, as in
 tools/evaluation_cases.py; the plain modules are checked by tools/plain_agreement.py as well. Nearly every accepted record has three runs: with a store and an

@@ -1,7 +1,7 @@
 #!/usr/bin/env python3
-"""Writes crates/number_replay/stdin: source records with the ids that the Rust gives, for the program number_replay.
+"""Writes crates/test_numbering/stdin: source records with the ids that the Rust gives, for the program test_numbering.
 
-    python3 tools/number_cases.py ORACLE > crates/number_replay/stdin
+    python3 tools/number_cases.py ORACLE > crates/test_numbering/stdin
 
 ORACLE is built around the unchanged Rust by oracle/build.sh. `ORACLE gen-src SEED COUNT KIND` prints source records in hex, a line each,
 and `ORACLE numbers FILE` answers such a file with a line for each record: `refused N`, or `next N pubs I,I,.. ids I,-,..`, where

@@ -3,9 +3,9 @@
 
     python3 tools/plain_agreement.py TWIN PROGRAM SEED N [--jobs J]
 
-TWIN is built by oracle/build.sh, PROGRAM is flatten_replay. Each seed from SEED on gives a plain module (document 01, "Plain modules") and elements for its
+TWIN is built by oracle/build.sh, PROGRAM is test_flatten. Each seed from SEED on gives a plain module (document 01, "Plain modules") and elements for its
 inputs under which no divisor is zero; half of the equations are made to hold. The module is worked out from the top as document 01 says, by the evaluator below. Its
-constraint record is the Rust's, and flatten_replay shows that the port's is the same, byte by byte; its equalities are solved from the inputs upward. They have
+constraint record is the Rust's, and test_flatten shows that the port's is the same, byte by byte; its equalities are solved from the inputs upward. They have
 to determine every variable in them, and to hold exactly when the equations do. Printed are the counts of modules whose equations
 hold, of those whose do not, and of refused ones (an exponent that is no constant); and what fails. The exit status says whether any does.
 """

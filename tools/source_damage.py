@@ -1,12 +1,12 @@
 #!/usr/bin/env python3
-"""Writes crates/source_replay/stdin: damaged source records with their answers, for the program source_replay.
+"""Writes crates/test_source/stdin: damaged source records with their answers, for the program test_source.
 
-    python3 tools/source_damage.py [ORACLE] > crates/source_replay/stdin
+    python3 tools/source_damage.py [ORACLE] > crates/test_source/stdin
 
 The answers are those of the checker below, written from document 01 and not from the port's code. With ORACLE, a program as
 tools/number_cases.py says, each answer is also compared with `ORACLE numbers`. Counts go to standard error. Seeds are fixed.
 
-A case is a base record with up to two words written anew and a length, so that it takes 24 bytes: crates/source_replay/src/main.rt
+A case is a base record with up to two words written anew and a length, so that it takes 24 bytes: crates/test_source/src/main.rt
 says how both are written.
 """
 import collections

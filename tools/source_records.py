@@ -1,10 +1,10 @@
-"""Source records, what the Rust and the model answer to them, and the cases that the programs evaluation_replay and flatten_replay read.
+"""Source records, what the Rust and the model answer to them, and the cases that the programs test_eval and test_flatten read.
 
 Used by evaluation_cases.py, flatten_cases.py, compare_source.py, compare_flatten.py, compare_programs.py and oracle/twin_check.py. The twin (oracle/README.md) is the Rust with counters: it tells
 the flat and the constraint record, or the refusal that the port meets first, and the nodes made by then. The model (oracle/model) answers where the Rust's
 memory or time explodes, and gives a second opinion everywhere.
 
-The input of evaluation_replay is a list of groups, in little-endian words of 32 bits, bytes unpadded:
+The input of test_eval is a list of groups, in little-endian words of 32 bits, bytes unpadded:
 
     words    length of the source record in bytes (at most 76,052, the longest legal one), number of runs (1 to 8), length of the
              expected record in bytes (at most 344,344, the longest flat record; 0: no run is accepted)
@@ -17,7 +17,7 @@ Each run gets a store of that length, filled beforehand with bytes that are not 
 `group G run R differs: N` for each run that differs, both counted from 0, where N is what it answered: the refusal's number, or 0 for
 accepted (another record, or a store that is not 0). Its last line is `A accepted, R refused, D differ`, and counts runs.
 
-The input of flatten_replay is the same but for these: the expected record is the constraint record (at most 480,000 bytes), and a run has three words: the
+The input of test_flatten is the same but for these: the expected record is the constraint record (at most 480,000 bytes), and a run has three words: the
 length of the lent store, that of the lent output (at most 480,000), and the answer. The output is filled beforehand too; behind the record, and wholly at
 a refusal, it has to stay so.
 """
@@ -150,7 +150,7 @@ def stores(answer, k):
 
 
 def group(record, answer, runs):
-    """A group of evaluation_replay, whose runs are lengths of stores (store,), or of flatten_replay, with those of outputs (store, room)."""
+    """A group of test_eval, whose runs are lengths of stores (store,), or of test_flatten, with those of outputs (store, room)."""
     numbers = [answer.lent(*run) for run in runs]
     expected = answer.record if 0 in numbers else b""
     most = (LAST_STORE, LAST_ROOM) if len(runs[0]) == 2 else (LAST_STORE, LAST_FLAT)

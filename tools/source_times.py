@@ -3,7 +3,7 @@
 
     python3 tools/source_times.py ORACLE [TIMES]
 
-The port is target/bin/source_replay, given a record and TIMES cases of it as it is. ORACLE is a program built around the unchanged
+The port is target/bin/test_source, given a record and TIMES cases of it as it is. ORACLE is a program built around the unchanged
 Rust; `ORACLE repeat FILE TIMES` reads and numbers the record of FILE (in hex) so often and prints the next id. Printed is the
 processor time of each whole run, divided by TIMES: the least of three runs.
 """
@@ -37,7 +37,7 @@ def measure(what, record, oracle, times):
         port, rust = [], []
         for _ in range(3):
             with open(cases.name, "rb") as stdin:
-                took, out = processor_time(["target/bin/source_replay"], stdin)
+                took, out = processor_time(["target/bin/test_source"], stdin)
             assert out.startswith("%d accepted" % times), out
             port.append(took)
             took, out = processor_time([oracle, "repeat", text.name, str(times)])

@@ -14,13 +14,13 @@ use Rattle.flat.specs.Trees.{FlatModule, defines}
 use Rattle.flat.specs.Meaning.{Assignment, Elements, workedOut}
 use Rattle.constraint.specs.Trees.{ConstraintModule}
 use Rattle.constraint.specs.Meaning as Constraints
-use Rattle.passes.specs.Passes.{member, classifyDefs, counted, cut, cutOf}
-use Rattle.passes.specs.Meaning.{Inputs, Given}
-use Rattle.passes.specs.Meaning
-use Rattle.passes.specs.Statements.{KeepsMeaning}
-use Rattle.passes.proofs.Lists.{all-map, all-those, every-map, every-both, defines-those}
-use Rattle.passes.proofs.Classified.{all-both}
-use Rattle.passes.proofs.Agreement.{cut-keeps-meaning-at, inputs-given}
+use Rattle.pass_trees.specs.Passes.{member, classifyDefs, counted, cut, cutOf}
+use Rattle.pass_trees.specs.Meaning.{Inputs, Given}
+use Rattle.pass_trees.specs.Meaning
+use Rattle.pass_trees.specs.Statements.{KeepsMeaning}
+use Rattle.pass_trees.proofs.Lists.{all-map, all-those, every-map, every-both, defines-those}
+use Rattle.pass_trees.proofs.Classified.{all-both}
+use Rattle.pass_trees.proofs.Agreement.{cut-keeps-meaning-at, inputs-given}
 use Rattle.numbering.specs.Numbering.{namesOf, numbered}
 use Rattle.numbering.specs.Inputs.{inputs, inputIds}
 use Rattle.numbering.specs.Inputs
@@ -29,7 +29,7 @@ use Rattle.numbering.specs.Statements
 use Rattle.numbering.proofs.Lists.{all-member, members, pointwise-map}
 use Rattle.numbering.proofs.Names.{nameOf, falling-named}
 use Rattle.numbering.proofs.Facts.{module-step}
-use Rattle.evaluation.specs.Evaluation.{Evaluated, flat, refusal, evaluated}
+use Rattle.eval_trees.specs.Evaluation.{Evaluated, flat, refusal, evaluated}
 use Rattle.plain.specs.Plain.{isPlain}
 use Rattle.plain.specs.Meaning.{NoDivisorZero}
 use Rattle.plain.specs.Statements.{IsInput, Gives, Known, PlainFlat, SaysTheSame}

@@ -8,10 +8,10 @@ use Rattle.flat.specs.Trees.{Flat, Definition}
 use Rattle.flat.specs.Meaning.{update}
 use Rattle.constraint.specs.declared.Term.{Term}
 use Rattle.constraint.specs.Trees.{Side, Equality}
-use Rattle.passes.specs.Passes
-use Rattle.passes.specs.Passes.{Outcome, cut, refused}
-use Rattle.evaluation.proofs.Compute.{answerOf}
-use Rattle.evaluation.proofs.Cases.{Case, cases}
+use Rattle.pass_trees.specs.Passes
+use Rattle.pass_trees.specs.Passes.{Outcome, cut, refused}
+use Rattle.eval_trees.proofs.Compute.{answerOf}
+use Rattle.eval_trees.proofs.Cases.{Case, cases}
 use Rattle.agreement.specs.Flattened.{passed, flattenedOf}
 
 abbrev v : ℕ → Term

@@ -9,14 +9,14 @@ use Rattle.source.specs.Trees.{Pat, unitP, nilP, asP, productP, consP, variable
 use Rattle.source.specs.Record.{moduleOf}
 use Rattle.flat.specs.Trees.{Flat, Definition, Equation, FlatModule}
 use Rattle.flat.specs.Rules.{All}
-use Rattle.passes.specs.Passes.{classifyDefs, cuttable, cuttableExpr, cuttableDefs, cuttableEquations, counted, unless, fitting, cutOf, passes}
-use Rattle.passes.proofs.Lists.{all-map, all-those}
+use Rattle.pass_trees.specs.Passes.{classifyDefs, cuttable, cuttableExpr, cuttableDefs, cuttableEquations, counted, unless, fitting, cutOf, passes}
+use Rattle.pass_trees.proofs.Lists.{all-map, all-those}
 use Rattle.numbering.specs.Numbering.{Ids, registered, numbered}
-use Rattle.evaluation.specs.Evaluation.{flat, evaluated}
-use Rattle.evaluation.proofs.Good.{false-true, both-true}
-use Rattle.evaluation.proofs.Helpers.{and-true}
-use Rattle.evaluation.proofs.Narrow.{NarrowPat, Narrow, Cuttable, NarrowTree}
-use Rattle.evaluation.proofs.NarrowModule.{NarrowDefinitions, NarrowExpressions, NarrowModule, made-narrow, read-narrow}
+use Rattle.eval_trees.specs.Evaluation.{flat, evaluated}
+use Rattle.eval_trees.proofs.Good.{false-true, both-true}
+use Rattle.eval_trees.proofs.Helpers.{and-true}
+use Rattle.eval_trees.proofs.Narrow.{NarrowPat, Narrow, Cuttable, NarrowTree}
+use Rattle.eval_trees.proofs.NarrowModule.{NarrowDefinitions, NarrowExpressions, NarrowModule, made-narrow, read-narrow}
 use Rattle.plain.specs.Plain.{isArithmetic, isPlainPattern, isPlainExpr, isEqual, isPlainEquation, arePlainPublics, arePlainDefinitions, arePlainEquations, isPlain}
 use Rattle.agreement.specs.Flattened.{passed, flattenedOf}
 

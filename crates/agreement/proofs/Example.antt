@@ -11,9 +11,9 @@ use Rattle.field.specs.Element.{elem}
 use Rattle.flat.specs.Meaning.{update}
 use Rattle.constraint.specs.declared.Term.{Term}
 use Rattle.constraint.specs.Trees.{Side, ConstraintModule}
-use Rattle.passes.specs.Passes
-use Rattle.passes.specs.Passes.{cut}
-use Rattle.evaluation.proofs.Compute.{answerOf}
+use Rattle.pass_trees.specs.Passes
+use Rattle.pass_trees.specs.Passes.{cut}
+use Rattle.eval_trees.proofs.Compute.{answerOf}
 use Rattle.plain.specs.Meaning.{valueOf, NoDivisorZero}
 use Rattle.plain.specs.Meaning
 use Rattle.plain.proofs.Example.{source, is-plain}

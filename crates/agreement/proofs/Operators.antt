@@ -14,9 +14,9 @@ use Rattle.field.specs.declared.InfixOp.the-variants.{Divide, DivideZ, Multiply
 use Rattle.source.specs.Trees.{variableP, Expr, binary, negate, constant, variable, letting, Module}
 use Rattle.flat.specs.Meaning.{update, onValues, negated}
 use Rattle.numbering.specs.Numbering.{found, sameText, named, registered}
-use Rattle.passes.specs.Passes
-use Rattle.passes.specs.Passes.{Outcome, cut, refused}
-use Rattle.evaluation.proofs.Compute.{answerOf}
+use Rattle.pass_trees.specs.Passes
+use Rattle.pass_trees.specs.Passes.{Outcome, cut, refused}
+use Rattle.eval_trees.proofs.Compute.{answerOf}
 use Rattle.plain.specs.Plain.{isArithmetic, isFree, isPlainName, isPlainPattern, isPlainExpr, isEqual, isPlainEquation, arePlainPublics, arePlainDefinitions, arePlainEquations, isPlain}
 use Rattle.plain.specs.Meaning.{write, through, valueOf, sidesOf, sides, start, Holds}
 use Rattle.plain.specs.Meaning

@@ -2,8 +2,8 @@
 use Prim.Native.Nat.{ℕ}
 use Rattle.source.specs.Trees.{Module}
 use Rattle.numbering.specs.Numbering.{numbered}
-use Rattle.evaluation.specs.Evaluation.{Evaluated, flat, refusal, evaluated}
-use Rattle.passes.specs.Passes.{Outcome, refused, cutOf}
+use Rattle.eval_trees.specs.Evaluation.{Evaluated, flat, refusal, evaluated}
+use Rattle.pass_trees.specs.Passes.{Outcome, refused, cutOf}
 
 -- each stage runs only where the one before did not refuse
 unfoldable pub passed : Evaluated → Outcome

@@ -11,7 +11,7 @@ use Rattle.flat.specs.Rules.{All}
 use Rattle.flat.specs.Meaning.{Assignment, Elements}
 use Rattle.constraint.specs.Trees.{ConstraintModule}
 use Rattle.constraint.specs.Meaning.{InEquality, EqualityHolds}
-use Rattle.passes.specs.Passes.{cut}
+use Rattle.pass_trees.specs.Passes.{cut}
 use Rattle.plain.specs.Plain.{isPlain}
 use Rattle.plain.specs.Meaning.{Holds, NoDivisorZero}
 use Rattle.plain.specs.Statements.{Gives}

@@ -1,6 +1,6 @@
 // The equalities of a flat record: the record on standard input, the text of its equalities, or its refusal, on standard
 // output.
-use cut::Answer;
+use pass_entry::Answer;
 
 // "The program lends 65,536 bytes each for record, store and output."
 const LENT: usize = 65536;
@@ -9,11 +9,11 @@ fn print_answer(answer: Answer, out: &[u8]) {
     match answer {
         Answer::Written(n) => {
             if n <= out.len() {
-                listing::print_equalities(&out[..n]);
+                constraint_text::print_equalities(&out[..n]);
             }
         }
         Answer::Refused(number) => {
-            listing::print_refused(number);
+            constraint_text::print_refused(number);
         }
     }
 }
@@ -23,11 +23,11 @@ fn main() {
     let mut record = [0u8; 65537];
     let n = io::read_full(0, &mut record);
     if LENT < n {
-        listing::print_refused(20);
+        constraint_text::print_refused(20);
         return;
     }
     let mut store = [0u8; 65536];
     let mut out = [0u8; 65536];
-    let answer = cut::cut(&record[..n], &mut store, &mut out);
+    let answer = pass_entry::cut(&record[..n], &mut store, &mut out);
     print_answer(answer, &out);
 }

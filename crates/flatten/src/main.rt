@@ -2,13 +2,13 @@
 // refusal nothing there, and "refused" with the number on standard error. Arguments: how many bytes to lend as the store,
 // and how many as the output, in at most 40 digits. One that is missing, or more than can matter, counts as the most that
 // can.
-use cut::Answer;
-use flattening::buffers::output_buffer;
-use flattening::buffers::record_buffer;
-use flattening::buffers::store_buffer;
+use flatten_entry::buffers::output_buffer;
+use flatten_entry::buffers::record_buffer;
+use flatten_entry::buffers::store_buffer;
 use libc::STDERR_FILENO;
 use libc::STDIN_FILENO;
 use libc::STDOUT_FILENO;
+use pass_entry::Answer;
 ghost use Prim.Native.Nat.{_≤_};
 
 const STORE: usize = 1048560;
@@ -68,7 +68,7 @@ fn print_record(bytes: &[u8]) {
 
 fn print_refused(number: u32) {
     let mut line = [0u8; 80];
-    let n = listing::refused_line(number, &mut line);
+    let n = constraint_text::refused_line(number, &mut line);
     io::write_all(STDERR_FILENO, &line[..n]);
 }
 
@@ -87,7 +87,7 @@ fn print_answer(answer: Answer, out: &[u8]) {
 fn flatten_input(store: &mut [u8], out: &mut [u8]) {
     let mut record = record_buffer();
     let n = io::read_full(STDIN_FILENO, &mut record);
-    let answer = flattening::flatten(&record[..n], store, out);
+    let answer = flatten_entry::flatten(&record[..n], store, out);
     print_answer(answer, out);
 }
 

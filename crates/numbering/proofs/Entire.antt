@@ -18,8 +18,8 @@ use Rattle.source.specs.Nodes.{entryOf, patternFits, publicsFit, definitionsFit
 use Rattle.source.specs.Uses.{same, byNodes, byDefinitions, byExpressions}
 use Rattle.source.specs.Record.{Read, moduleOf, usedOnce, definitionAt, expressionAt}
 use Rattle.source.specs.Readable.{Readable}
-use Rattle.checking.specs.declared.Checked.{Checked}
-use Rattle.checking.specs.Answer.{checked}
+use Rattle.source_check.specs.declared.Checked.{Checked}
+use Rattle.source_check.specs.Answer.{checked}
 use Rattle.numbering.specs.Numbering.{Ids, Names, Numbered, _>>=_, return, found, named, freshText, iterText, foldText, registered, numberModuleVariables, namesOf, numbered}
 use Rattle.numbering.specs.Numbers.{NumberedIn, numberedModule, numberedDefinition, numberedExpression}
 use Rattle.numbering.specs.Walks.{weight, each, coded, Holds, names as both, noRow, noEntries, noPublics, Sizes, Room, Walkable, Ready, ReadyDefinitions, ReadyExpressions, sumFrom, definitionsWeight, expressionsWeight, Published, Registered, DefinitionsWalk, ExpressionsWalk}

@@ -5,14 +5,14 @@ mod patterns;
 mod registering;
 mod rows;
 
-use checking::Checked;
-use checking::check_source;
 use listing::number_definitions;
 use listing::number_expressions;
 use registering::number_publics;
 use registering::register;
 use source::Layout;
 use source::layout_of;
+use source_check::Checked;
+use source_check::check_source;
 ghost use mathlib.Core.Path.{_≡_};
 ghost use mathlib.Core.Bool.{true};
 ghost use mathlib.Core.List.{[]};

@@ -23,7 +23,7 @@ use Rattle.numbering.specs.Statements.{definitionBinders, expressionBinders, al
 use Rattle.numbering.proofs.Lists.{all-append, all-split, all-map, all-member, members, pointwise-map, zipped}
 use Rattle.numbering.proofs.Names.{none-some, falling-bounded, falling-named, registered-well}
 use Rattle.numbering.proofs.Facts.{publics-step, definitions-step, empty-scope, module-step}
-use Rattle.evaluation.specs.Evaluation.{flat, evaluated}
+use Rattle.eval_trees.specs.Evaluation.{flat, evaluated}
 use Rattle.plain.specs.Plain.{arePlainPublics, arePlainDefinitions, isPlain}
 use Rattle.plain.specs.Meaning.{Equal-sides, sides, start, NoDivisorZero}
 use Rattle.plain.specs.Meaning

@@ -14,8 +14,8 @@ use Rattle.source.specs.Trees.{variableP, binary, constant, variable, letting, 
 use Rattle.flat.specs.Trees.{Flat, FlatModule}
 use Rattle.flat.specs.Meaning.{update, Assignment, Elements, onValues, negated, value, orZero, workedOut}
 use Rattle.numbering.specs.Numbering.{found, sameText, named, registered}
-use Rattle.evaluation.specs.Evaluation.{flat, evaluated}
-use Rattle.evaluation.proofs.Compute.{answerOf}
+use Rattle.eval_trees.specs.Evaluation.{flat, evaluated}
+use Rattle.eval_trees.proofs.Compute.{answerOf}
 use Rattle.plain.specs.Plain.{isArithmetic, isFree, isPlainName, isPlainPattern, isPlainExpr, isEqual, isPlainEquation, arePlainPublics, arePlainDefinitions, arePlainEquations, isPlain}
 use Rattle.plain.specs.Meaning.{write, through, valueOf, sidesOf, sides, start, NoDivisorZero}
 use Rattle.plain.specs.Meaning

@@ -17,17 +17,17 @@ use Rattle.source.specs.Trees.{variableP, Expr, constant, variable, Env, empty,
 use Rattle.flat.specs.Trees.{Definition}
 use Rattle.flat.specs.Meaning.{Assignment, Elements}
 use Rattle.numbering.specs.Inputs.{member}
-use Rattle.evaluation.specs.Environments.{lookUp, insert, remove, Options, hasKey, toOptions, kept, present, oldest}
-use Rattle.evaluation.specs.Forms.{kind, onVariable}
-use Rattle.evaluation.specs.State.{State, Outcome, gives, Run, after, _>>=_, _>>_, return, refuse, Done, get, refuseIf, make, pushDefinition, bound}
-use Rattle.evaluation.specs.Expand.{unexpanded, expandVariable, expandPatternVariables}
-use Rattle.evaluation.specs.Flatten.{defines, flattenBinding}
-use Rattle.evaluation.specs.Match.{True, follow, resolve, matchPatternExpr}
-use Rattle.evaluation.specs.Closures.{exchangeMap, captureEnv}
-use Rattle.evaluation.specs.Evaluation.{evaluate, step, evaluateBinding, enterLet, finishLets, letChain}
-use Rattle.evaluation.proofs.Runs.{refused-gives, gives-value, gives-state, bind-case, then-case, bind-known, return-back, past, same-by, make-same, push-back}
-use Rattle.evaluation.proofs.Environments.{insert-same, insert-other}
-use Rattle.evaluation.proofs.Exchange.{restored, restored-step, Exchanged, exchange-back, binding, one-bound}
+use Rattle.eval_trees.specs.Environments.{lookUp, insert, remove, Options, hasKey, toOptions, kept, present, oldest}
+use Rattle.eval_trees.specs.Forms.{kind, onVariable}
+use Rattle.eval_trees.specs.State.{State, Outcome, gives, Run, after, _>>=_, _>>_, return, refuse, Done, get, refuseIf, make, pushDefinition, bound}
+use Rattle.eval_trees.specs.Expand.{unexpanded, expandVariable, expandPatternVariables}
+use Rattle.eval_trees.specs.Flatten.{defines, flattenBinding}
+use Rattle.eval_trees.specs.Match.{True, follow, resolve, matchPatternExpr}
+use Rattle.eval_trees.specs.Closures.{exchangeMap, captureEnv}
+use Rattle.eval_trees.specs.Evaluation.{evaluate, step, evaluateBinding, enterLet, finishLets, letChain}
+use Rattle.eval_trees.proofs.Runs.{refused-gives, gives-value, gives-state, bind-case, then-case, bind-known, return-back, past, same-by, make-same, push-back}
+use Rattle.eval_trees.proofs.Environments.{insert-same, insert-other}
+use Rattle.eval_trees.proofs.Exchange.{restored, restored-step, Exchanged, exchange-back, binding, one-bound}
 use Rattle.plain.specs.Meaning.{Table, write, valueOf}
 use Rattle.plain.proofs.Powers.{P-above, value-path}
 use Rattle.plain.proofs.Values.{false-true, through-back, negated-back, values-back, writing, update-same, update-other, flat-value}

@@ -18,13 +18,13 @@ use Rattle.flat.specs.Rules.{Every}
 use Rattle.flat.specs.Meaning.{update, Assignment, Elements, onValues, negated, value, orZero, workedOut}
 use Rattle.numbering.specs.Numbering.{Numbered}
 use Rattle.numbering.specs.Inputs.{member}
-use Rattle.evaluation.specs.Environments.{lookUp, insert, extended}
-use Rattle.evaluation.specs.Forms.{flatOf, opposed}
-use Rattle.evaluation.specs.State.{State, Outcome, refused, gives, Run, _>>_, refuse, Done, get, setBindings, make}
-use Rattle.evaluation.specs.Flatten.{flattenEquals, equates}
-use Rattle.evaluation.specs.Evaluation.{evaluate, step, evaluateInfix, evaluateBinding, evaluateDef, evaluateDefs, evaluateExprs, evaluateModule, begin, flat, refusal, finished, evaluatedBy}
-use Rattle.evaluation.proofs.Runs.{refused-gives, bind-case, then-case, bind-known, return-back, past, got, make-same, Equated, equation-back, set-back}
-use Rattle.evaluation.proofs.Environments.{insert-same, insert-other}
+use Rattle.eval_trees.specs.Environments.{lookUp, insert, extended}
+use Rattle.eval_trees.specs.Forms.{flatOf, opposed}
+use Rattle.eval_trees.specs.State.{State, Outcome, refused, gives, Run, _>>_, refuse, Done, get, setBindings, make}
+use Rattle.eval_trees.specs.Flatten.{flattenEquals, equates}
+use Rattle.eval_trees.specs.Evaluation.{evaluate, step, evaluateInfix, evaluateBinding, evaluateDef, evaluateDefs, evaluateExprs, evaluateModule, begin, flat, refusal, finished, evaluatedBy}
+use Rattle.eval_trees.proofs.Runs.{refused-gives, bind-case, then-case, bind-known, return-back, past, got, make-same, Equated, equation-back, set-back}
+use Rattle.eval_trees.proofs.Environments.{insert-same, insert-other}
 use Rattle.plain.specs.Meaning.{Table, write, valueOf, sidesOf, sides}
 use Rattle.plain.specs.Meaning
 use Rattle.plain.proofs.Values.{false-true, writing, table, some-path, none-some, flat-value}

@@ -27,20 +27,20 @@ use Rattle.source.specs.Trees.{variableP, Expr, binary, negate, constant, varia
 use Rattle.flat.specs.Trees.{Flat, Definition, defines}
 use Rattle.flat.specs.Rules.{Every}
 use Rattle.numbering.specs.Inputs.{member}
-use Rattle.evaluation.specs.Environments.{lookUp, insert, remove, Options, toOptions, kept, present, oldest}
-use Rattle.evaluation.specs.Forms.{onConstant, flatOf, joined, opposed}
-use Rattle.evaluation.specs.State.{State, gives, Run, after, isProver, bound, _>>=_, return, refuse, get, generateId, make, pushDefinition}
-use Rattle.evaluation.specs.Expand.{expandPatternVariables}
-use Rattle.evaluation.specs.Flatten.{flattenBinding}
-use Rattle.evaluation.specs.Match.{matchPatternExpr}
-use Rattle.evaluation.specs.Closures.{exchangeMap, captureEnv}
-use Rattle.evaluation.specs.Simplify.{infixOp, isConstant}
-use Rattle.evaluation.specs.Evaluation
-use Rattle.evaluation.specs.Evaluation.{evaluate, step, defined, answered, boundTo, numbers, evaluateOperation, evaluatePower, evaluateInfix, evaluateVariable, evaluateBinding, enterLet, finishLets, letChain}
-use Rattle.evaluation.proofs.Runs.{refused-gives, gives-value, gives-state, bind-case, then-case, bind-known, return-back, past, got, Same, same-refl, same-trans, same-by, make-same, generate-back, push-back}
-use Rattle.evaluation.proofs.Environments.{insert-same, insert-other}
-use Rattle.evaluation.proofs.Exchange.{restored, restored-step, Exchanged, exchange-back, one-bound}
-use Rattle.evaluation.proofs.Helpers.{infix-case}
+use Rattle.eval_trees.specs.Environments.{lookUp, insert, remove, Options, toOptions, kept, present, oldest}
+use Rattle.eval_trees.specs.Forms.{onConstant, flatOf, joined, opposed}
+use Rattle.eval_trees.specs.State.{State, gives, Run, after, isProver, bound, _>>=_, return, refuse, get, generateId, make, pushDefinition}
+use Rattle.eval_trees.specs.Expand.{expandPatternVariables}
+use Rattle.eval_trees.specs.Flatten.{flattenBinding}
+use Rattle.eval_trees.specs.Match.{matchPatternExpr}
+use Rattle.eval_trees.specs.Closures.{exchangeMap, captureEnv}
+use Rattle.eval_trees.specs.Simplify.{infixOp, isConstant}
+use Rattle.eval_trees.specs.Evaluation
+use Rattle.eval_trees.specs.Evaluation.{evaluate, step, defined, answered, boundTo, numbers, evaluateOperation, evaluatePower, evaluateInfix, evaluateVariable, evaluateBinding, enterLet, finishLets, letChain}
+use Rattle.eval_trees.proofs.Runs.{refused-gives, gives-value, gives-state, bind-case, then-case, bind-known, return-back, past, got, Same, same-refl, same-trans, same-by, make-same, generate-back, push-back}
+use Rattle.eval_trees.proofs.Environments.{insert-same, insert-other}
+use Rattle.eval_trees.proofs.Exchange.{restored, restored-step, Exchanged, exchange-back, one-bound}
+use Rattle.eval_trees.proofs.Helpers.{infix-case}
 use Rattle.plain.specs.Plain.{isArithmetic}
 use Rattle.plain.proofs.Powers.{P-above}
 use Rattle.plain.proofs.Values.{false-true, some-path, none-some}

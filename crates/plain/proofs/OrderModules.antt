@@ -18,11 +18,11 @@ use Rattle.flat.specs.Rules
 use Rattle.flat.specs.Meaning.{Assignment, Elements}
 use Rattle.numbering.specs.Numbering.{Numbered}
 use Rattle.numbering.specs.Inputs.{member}
-use Rattle.evaluation.specs.Environments.{lookUp, insert, extended}
-use Rattle.evaluation.specs.State.{State, gives, _>>_, refuse, Done, get, setBindings}
-use Rattle.evaluation.specs.Evaluation.{evaluate, step, evaluateBinding, evaluateDef, evaluateDefs, evaluateExprs, evaluateModule, begin, flat, finished, evaluatedBy}
-use Rattle.evaluation.proofs.Runs.{refused-gives, bind-case, then-case, bind-known, return-back, got, set-back}
-use Rattle.evaluation.proofs.Environments.{insert-same, insert-other}
+use Rattle.eval_trees.specs.Environments.{lookUp, insert, extended}
+use Rattle.eval_trees.specs.State.{State, gives, _>>_, refuse, Done, get, setBindings}
+use Rattle.eval_trees.specs.Evaluation.{evaluate, step, evaluateBinding, evaluateDef, evaluateDefs, evaluateExprs, evaluateModule, begin, flat, finished, evaluatedBy}
+use Rattle.eval_trees.proofs.Runs.{refused-gives, bind-case, then-case, bind-known, return-back, got, set-back}
+use Rattle.eval_trees.proofs.Environments.{insert-same, insert-other}
 use Rattle.plain.proofs.Values.{false-true}
 use Rattle.plain.proofs.Terms.{Scoped, Term, ofConstant, ofVariable, ofNegate, term-up}
 use Rattle.plain.proofs.Modules.{ScopedDefinitions, noDefinition, definition, ScopedEquations, noEquation, equation, equal-back, gave, flat-path}

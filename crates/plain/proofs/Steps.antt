@@ -24,13 +24,13 @@ use Rattle.source.specs.Trees.{Expr, binary, negate, constant, variable}
 use Rattle.flat.specs.Trees.{Flat, Definition}
 use Rattle.flat.specs.Meaning.{Assignment, Elements, value, orZero}
 use Rattle.numbering.specs.Inputs.{member}
-use Rattle.evaluation.specs.Environments.{lookUp}
-use Rattle.evaluation.specs.Forms.{onConstant}
-use Rattle.evaluation.specs.State.{State, gives, Run, after, _>>=_, _>>_, return, refuse, get, refuseIf, generateId, make, pushDefinition, isProver, bound}
-use Rattle.evaluation.specs.Simplify.{infixOp, isConstant}
-use Rattle.evaluation.specs.Evaluation
-use Rattle.evaluation.specs.Evaluation.{defined, answered, boundTo, numbers, evaluateOperation, evaluatePower, evaluateInfix, evaluateVariable}
-use Rattle.evaluation.proofs.Runs.{refused-gives, gives-value, gives-state, bind-case, then-case, bind-known, return-back, passed, past, got, Same, same-refl, same-trans, same-by, make-same, generate-back, push-back}
+use Rattle.eval_trees.specs.Environments.{lookUp}
+use Rattle.eval_trees.specs.Forms.{onConstant}
+use Rattle.eval_trees.specs.State.{State, gives, Run, after, _>>=_, _>>_, return, refuse, get, refuseIf, generateId, make, pushDefinition, isProver, bound}
+use Rattle.eval_trees.specs.Simplify.{infixOp, isConstant}
+use Rattle.eval_trees.specs.Evaluation
+use Rattle.eval_trees.specs.Evaluation.{defined, answered, boundTo, numbers, evaluateOperation, evaluatePower, evaluateInfix, evaluateVariable}
+use Rattle.eval_trees.proofs.Runs.{refused-gives, gives-value, gives-state, bind-case, then-case, bind-known, return-back, passed, past, got, Same, same-refl, same-trans, same-by, make-same, generate-back, push-back}
 use Rattle.plain.specs.Plain.{isArithmetic}
 use Rattle.plain.specs.Meaning.{Table, valueOf}
 use Rattle.plain.proofs.Powers.{value-path, nothing-value, elem-below, elem-opposite, power-sum, power-one, power-none, multiplied, raised-by, raised-value, divided}

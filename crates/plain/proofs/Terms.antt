@@ -21,11 +21,11 @@ use Rattle.source.specs.Trees.{variableP, Expr, binary, negate, constant, varia
 use Rattle.flat.specs.Trees.{Flat, Definition}
 use Rattle.flat.specs.Meaning.{update, Assignment, Elements, negated, value, orZero}
 use Rattle.numbering.specs.Inputs.{member}
-use Rattle.evaluation.specs.Environments.{lookUp}
-use Rattle.evaluation.specs.State.{State}
-use Rattle.evaluation.specs.Simplify.{infixOp}
-use Rattle.evaluation.proofs.Runs.{Same}
-use Rattle.evaluation.proofs.Helpers.{infix-case}
+use Rattle.eval_trees.specs.Environments.{lookUp}
+use Rattle.eval_trees.specs.State.{State}
+use Rattle.eval_trees.specs.Simplify.{infixOp}
+use Rattle.eval_trees.proofs.Runs.{Same}
+use Rattle.eval_trees.proofs.Helpers.{infix-case}
 use Rattle.plain.specs.Plain.{isArithmetic}
 use Rattle.plain.specs.Meaning.{Table, valueOf}
 use Rattle.plain.proofs.Powers.{P-above, value-path}

@@ -21,8 +21,8 @@ use Rattle.field.proofs.Units.{one-element, zero-element, one-multiply, multipl
 use Rattle.source.specs.Trees.{Pat, unitP, nilP, asP, productP, consP, variableP, constantP, Expr, unit, nil, sequence, product, cons, binary, negate, application, constant, variable, function, intrinsic, letting, matching}
 use Rattle.flat.specs.Trees.{Flat}
 use Rattle.flat.specs.Meaning.{update, Assignment, onValues, negated, value}
-use Rattle.evaluation.specs.Forms.{onConstant, flatOf, joined, opposed}
-use Rattle.evaluation.specs.Simplify.{isPos, isConstant, infixOp}
+use Rattle.eval_trees.specs.Forms.{onConstant, flatOf, joined, opposed}
+use Rattle.eval_trees.specs.Simplify.{isPos, isConstant, infixOp}
 use Rattle.plain.specs.Meaning.{Table, write, through, valueOf}
 use Rattle.plain.proofs.Powers.{P-above, value-path, nothing-value}
 

@@ -14,7 +14,7 @@ use Rattle.flat.specs.Meaning.{Assignment, Elements, DefinitionHolds, EquationH
 use Rattle.numbering.specs.Numbering.{numbered}
 use Rattle.numbering.specs.Inputs.{member, inputs, inputIds}
 use Rattle.numbering.specs.Statements.{Pointwise}
-use Rattle.evaluation.specs.Evaluation.{flat, evaluated}
+use Rattle.eval_trees.specs.Evaluation.{flat, evaluated}
 use Rattle.plain.specs.Plain.{isPlain}
 use Rattle.plain.specs.Meaning.{Holds, NoDivisorZero}
 

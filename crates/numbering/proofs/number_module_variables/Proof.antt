@@ -4,7 +4,7 @@ use Rattle.numbering.proofs.number_module_variables.Statement.{statemen
 use Rattle.numbering.proofs.number_module_variables.Tie as tie
 use mathlib.Core.Path.{_∙_, sym}
 use Rattle.numbering.proofs.Entire.{no-entries-long, no-publics-long, refused-is, numbered-from}
-use Rattle.checking.proofs.Accepted.{checked-accepted}
+use Rattle.source_check.proofs.Accepted.{checked-accepted}
 use Rattle.numbering.specs.Outcome.{Outcome}
 
 no-entries-requires : tie.Need-no-entries-requires

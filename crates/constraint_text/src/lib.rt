@@ -1,0 +1,92 @@
+// The text of a constraint record, in ASCII: "next N", then an equality a line. A line is made in an array of the caller's
+// and written by one call. No contract can speak of standard output: what is proved is each line, and how many there are.
+mod line;
+mod reading;
+
+pub use line::equality_line;
+pub use line::next_line;
+pub use line::refused_line;
+pub use reading::equality_at;
+use words::word_at;
+ghost use mathlib.Core.Path.{_≡_};
+ghost use Prim.Native.Nat.{_≤_};
+ghost use lib.ListN.{length};
+ghost use Rattle.io.specs.Counts.{Counts};
+ghost use Rattle.constraint_text.specs.Text.{setBytes, refusedText};
+ghost use Rattle.constraint_text.specs.Reading.{firstEquality, lines, lineAt};
+
+// The bound, 6 and twice the largest word, is what keeps the sums below from wrapping.
+fn first_equality(s: &[u8]) -> usize
+    requires { ⌜ 24 ≤ length (now s) ⌝ }
+    ensures { λ r. ⌜ r ≡ firstEquality (now (s .entry)) ⌝ }
+    ensures { λ r. ⌜ r ≤ 8589934596 ⌝ }
+{
+    let publics = word_at(s, 1) as usize;
+    let provers = word_at(s, 2) as usize;
+    6 + publics + provers
+}
+
+// The counts of a record are any words, so lines are counted only as far as its bytes go.
+fn line_count(s: &[u8]) -> usize
+    ensures { λ r. ⌜ r ≡ lines (now (s .entry)) ⌝ }
+{
+    if s.len() < 24 {
+        return 0;
+    }
+    let first = first_equality(s);
+    let words = s.len() / 4;
+    if words < first {
+        return 1;
+    }
+    let whole = (words - first) / 7;
+    let counted = word_at(s, 3) as usize;
+    if counted < whole {
+        return 1 + counted;
+    }
+    1 + whole
+}
+
+// Line k of the text of a record, at the front of the bytes; of no bytes behind the last line.
+pub fn line_at(s: &[u8], k: usize, out: &mut [u8; 80]) -> usize
+    ensures { λ r. ⌜ (r ≡ length (lineAt (now (s .entry)) k)) × (now (out .exit) ≡ setBytes (now (out .entry)) 0 (lineAt (now (s .entry)) k)) ⌝ }
+    ensures { λ r. ⌜ Counts r (now (out .exit)) ⌝ }
+{
+    if line_count(s) <= k {
+        return 0;
+    }
+    if k == 0 {
+        return next_line(word_at(s, 0), out);
+    }
+    let at = first_equality(s) + 7 * (k - 1);
+    equality_line(equality_at(s, at), out)
+}
+
+fn print_line(s: &[u8], k: usize) -> usize
+    ensures { λ r. ⌜ r ≡ length (lineAt (now (s .entry)) k) ⌝ }
+{
+    let mut line = [0u8; 80];
+    let n = line_at(s, k, &mut line);
+    io::write_all(1, &line[..n]);
+    n
+}
+
+// The text of a record on standard output; the answer is how many lines. Every line has a byte, so one of none ends them.
+pub fn print_equalities(s: &[u8]) -> usize
+    ensures { λ r. ⌜ r ≡ lines (now (s .entry)) ⌝ }
+{
+    let mut k = 0usize;
+    while print_line(s, k) > 0 {
+        k += 1;
+    }
+    k
+}
+
+// "refused N", on standard output; the answer is how many bytes.
+pub fn print_refused(number: u32) -> usize
+    ensures { λ r. ⌜ r ≡ length (refusedText number) ⌝ }
+{
+    let mut line = [0u8; 80];
+    let n = refused_line(number, &mut line);
+    io::write_all(1, &line[..n]);
+    n
+}

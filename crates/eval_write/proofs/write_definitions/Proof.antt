@@ -1,0 +1,82 @@
+-- `eval_write::write_definitions` meets its contract. Assumes nothing.
+use Rattle.eval_write.proofs.write_definitions.Statement.{statement}
+use Rattle.eval_write.proofs.write_definitions.Tie as tie
+use borrow.Author.Needs.{needs}
+use native.Mathlib.Omega.{arith}
+use mathlib.Core.Path.{_≡_}
+use Prim.Native.Nat.{_-_, _≤_}
+use Rattle.eval_write.specs.Written.{written, writeDefinitions}
+use Rattle.eval_write.proofs.Ways.{definitions-none, definitions-more, definitions-all}
+
+abbrev Inv-loop : tie.InvT-loop
+Inv-loop fixed store rows out₀ at list count k₀ d₀ out k d = ((written k out ≡ writeDefinitions fixed store at rows list d (written 0 out₀)) × (k ≤ 16384)) × (d ≤ count)
+
+abbrev μ-loop : tie.MeasureT-loop
+μ-loop fixed store rows out₀ at list count k₀ d₀ out k d = count - d
+
+loop-holds : tie.Need-loop-holds Inv-loop μ-loop
+loop-holds c = ((definitions-none _ _ _ _ _ _, omega arith), omega arith)
+
+listed-requires : tie.Need-listed-requires Inv-loop μ-loop
+listed-requires c κs = search needs
+
+write-tree-requires : tie.Need-write-tree-requires Inv-loop μ-loop
+write-tree-requires c κs = (c .before .before .before .before .before .pre .0, c .before .before .before .loop .inv .0 .1)
+
+cast-to : tie.Need-cast-to Inv-loop μ-loop
+cast-to c = search needs
+
+mul-to : tie.Need-mul-to Inv-loop μ-loop
+mul-to c = search needs
+
+add-to : tie.Need-add-to Inv-loop μ-loop
+add-to c = search needs
+
+listed-requires-2 : tie.Need-listed-requires-2 Inv-loop μ-loop
+listed-requires-2 c κs = search needs
+
+put-requires : tie.Need-put-requires Inv-loop μ-loop
+put-requires c κs = omega (arith, c .before .before .before .before .before .before .before .before .pre .1 .0, c .before .before .before .before .before .before .before .before .pre .1 .1, c .before .before .before .before .before .loop-test .taken)
+
+add-put : tie.Need-add-put Inv-loop μ-loop
+add-put c = search needs
+
+below-requires : tie.Need-below-requires Inv-loop μ-loop
+below-requires c κs = search needs
+
+put-requires-2 : tie.Need-put-requires-2 Inv-loop μ-loop
+put-requires-2 c κs = omega (arith, c .before .before .before .before .before .before .before .before .before .before .before .pre .1 .0, c .before .before .before .before .before .before .before .before .before .before .before .pre .1 .1, c .before .before .before .before .before .before .before .before .loop-test .taken)
+
+add-d : tie.Need-add-d Inv-loop μ-loop
+add-d c = search needs
+
+loop-less : tie.Need-loop-less Inv-loop μ-loop
+loop-less c = search needs
+
+loop-again : tie.Need-loop-again Inv-loop μ-loop
+loop-again c = ((definitions-more _ _ _ _ _ _ _ (c .before .before .before .before .before .before .before .before .before .before .loop .inv .0 .0) (c .before .before .before .before .before .before .before .listed .ensures) (c .before .before .before .before .before .before .write-tree .ensures .0) (c .before .before .before .before .listed2 .ensures) (c .before .before .before .put .ensures) (c .before .below .ensures) (c .put2 .ensures), c .before .before .before .before .before .before .write-tree .ensures .1), omega (arith, c .before .before .before .before .before .before .before .before .before .loop-test .taken))
+
+returns : tie.Need-returns Inv-loop μ-loop
+returns c = (definitions-all _ _ _ _ _ _ (c .before .loop .inv .0 .0) (c .before .loop .inv .1) (c .loop-test .left), c .before .loop .inv .0 .1)
+
+pub write-definitions-spec : {M : Type 1} → statement M
+write-definitions-spec =
+    tie.close
+    (tie.spec
+    Inv-loop
+    μ-loop
+    loop-holds
+    listed-requires
+    write-tree-requires
+    cast-to
+    mul-to
+    add-to
+    listed-requires-2
+    put-requires
+    add-put
+    below-requires
+    put-requires-2
+    add-d
+    loop-less
+    loop-again
+    returns)

@@ -1,0 +1,81 @@
+// The nodes of the flat lists.
+use eval_memory::nodes::below;
+use eval_memory::nodes::kind;
+use eval_memory::nodes::node_word;
+use words::put_word;
+ghost use mathlib.Core.Path.{_≡_};
+ghost use Prim.Native.Nat.{_≤_, _<_};
+ghost use Rattle.words.specs.Words.{setWord};
+ghost use Rattle.eval_memory.specs.Fall.{upto};
+ghost use Rattle.eval_write.specs.Written.{written, addNode, writeBody, writeTree};
+
+// Word i becomes w.
+pub fn put(out: &mut [u8; 344344], i: usize, w: u32)
+    requires { ⌜ i < 86086 ⌝ }
+    ensures { λ _. ⌜ now (out .exit) ≡ setWord (now (out .entry)) i w ⌝ }
+{
+    put_word(out, i, w);
+}
+
+// One more node, of at most 16,384: how many there are then.
+fn add_node(out: &mut [u8; 344344], at: usize, k: u32, kind: u32, x: u32, y: u32, z: u32) -> u32
+    requires { ⌜ (at ≤ 20550) × (k ≤ 16384) ⌝ }
+    ensures { λ r. ⌜ (written r (now (out .exit)) ≡ addNode at kind x y z (written k (now (out .entry)))) × (r ≤ 16384) ⌝ }
+{
+    if 16383 < k {
+        return k;
+    }
+    let base = at + 4 * (k as usize);
+    put(out, base, kind);
+    put(out, base + 1, x);
+    put(out, base + 2, y);
+    put(out, base + 3, z);
+    k + 1
+}
+
+// Of a node below n.
+fn write_below(
+    fixed: &[u32; 8216],
+    store: &[u8],
+    out: &mut [u8; 344344],
+    at: usize,
+    n: u32,
+    c: u32,
+    k: u32,
+) -> u32
+    requires { ⌜ (at ≤ 20550) × (k ≤ 16384) ⌝ }
+    ensures { λ r. ⌜ (written r (now (out .exit)) ≡ upto (λ w. w) (writeBody (now (fixed .entry)) (now (store .entry)) at) n c (written k (now (out .entry)))) × (r ≤ 16384) ⌝ }
+{
+    if n <= c {
+        return k;
+    }
+    write_tree(fixed, store, out, at, c, k)
+}
+
+// The nodes of a number's tree, children first, behind k nodes: how many there are then.
+pub fn write_tree(
+    fixed: &[u32; 8216],
+    store: &[u8],
+    out: &mut [u8; 344344],
+    at: usize,
+    n: u32,
+    k: u32,
+) -> u32
+    requires { ⌜ (at ≤ 20550) × (k ≤ 16384) ⌝ }
+    ensures { λ r. ⌜ (written r (now (out .exit)) ≡ writeTree (now (fixed .entry)) (now (store .entry)) at n (written k (now (out .entry)))) × (r ≤ 16384) ⌝ }
+{
+    let sort = kind(fixed, store, n);
+    let a = node_word(fixed, store, n, 1);
+    if sort == 5 {
+        let one = write_below(fixed, store, out, at, n, a, k);
+        return add_node(out, at, one, 5, below(one), 0, 0);
+    }
+    if sort != 4 {
+        return add_node(out, at, k, sort, a, 0, 0);
+    }
+    let b = node_word(fixed, store, n, 2);
+    let c = node_word(fixed, store, n, 3);
+    let one = write_below(fixed, store, out, at, n, a, k);
+    let two = write_below(fixed, store, out, at, n, b, one);
+    add_node(out, at, two, 4, below(one), below(two), c)
+}

@@ -1,0 +1,42 @@
+-- `pass_3ac::flatten_def_to_3ac` meets its contract. Assumes nothing.
+use borrow.Author.Needs.{needs}
+use Rattle.pass_3ac.proofs.flatten_def_to_3ac.Statement.{statement}
+use Rattle.pass_3ac.proofs.flatten_def_to_3ac.Tie as tie
+use Rattle.pass_3ac.proofs.Definitions.{way-unused, way-prover, way-counted}
+
+element-copy-out-if1 : tie.Need-element-copy-out-if1
+element-copy-out-if1 c = search needs
+
+returns : tie.Need-returns
+returns c = way-unused (c .before .before .before .before .pre .1) _ _ _ _ _ _ _ (c .if1 .taken) (c .before .before .before .before .pre .3)
+
+element-copy-out-if2 : tie.Need-element-copy-out-if2
+element-copy-out-if2 c = search needs
+
+returns-2 : tie.Need-returns-2
+returns-2 c = way-prover (c .before .before .before .before .before .before .pre .1) _ _ _ _ _ _ _ (c .before .before .if1 .left) (c .if2 .taken) (c .before .before .before .before .before .before .pre .3)
+
+flatten-expr-to-3ac-requires : tie.Need-flatten-expr-to-3ac-requires
+flatten-expr-to-3ac-requires c κs = search needs
+
+substitute-requires : tie.Need-substitute-requires
+substitute-requires c κs = search needs
+
+same-length : tie.Need-same-length
+same-length c = search needs
+
+returns-3 : tie.Need-returns-3
+returns-3 c = way-counted (c .before .before .before .before .before .before .before .before .before .before .before .before .before .pre .1) _ _ _ _ _ _ _ _ (c .before .before .before .before .before .before .before .before .before .if1 .left) (c .before .before .before .before .before .before .before .if2 .left) (c .before .before .before .before .flatten-expr-to-3ac .ensures) (c .substitute .ensures)
+
+pub flatten-def-to-3ac-spec : {M : Type 1} → statement M
+flatten-def-to-3ac-spec =
+    tie.close
+    (tie.spec
+    element-copy-out-if1
+    returns
+    element-copy-out-if2
+    returns-2
+    flatten-expr-to-3ac-requires
+    substitute-requires
+    same-length
+    returns-3)

@@ -1,0 +1,89 @@
+-- What the code of the last pass answers, by the definitions of the passes.
+use mathlib.Core.Path.{_≡_}
+use mathlib.Core.List.{List}
+use mathlib.Core.Option.{Option, none, some}
+use Prim.Native.Nat.{ℕ, _+_, _*_, _≤_}
+use lib.ListN.{length}
+use Rattle.words.specs.Words.{setWords}
+use Rattle.flat.specs.Trees.{Flat, Definition, Equation}
+use Rattle.constraint.specs.declared.Term.{Term}
+use Rattle.constraint.specs.declared.Equality.{Equality as Written}
+use Rattle.constraint.specs.Trees.{Side, Equality, written}
+use Rattle.constraint.specs.Record.{equalitiesWords}
+use Rattle.pass_trees.specs.Passes.{Substitutions, copyPropagateExpr, copyPropagateDefs, afterDefs, copyPropagateEquations, alive, flattenExprTo3ac, flattenDefs, flattenEquations, Cut as Cutting, Cuts}
+use Rattle.pass_classify.specs.Arrays.{proversOf, usedOf}
+use Rattle.pass_copies.specs.declared.Copied.{Copied}
+use Rattle.pass_copies.specs.Substituted.{substOf}
+use Rattle.pass_3ac.specs.declared.Target.{Target}
+use Rattle.pass_3ac.specs.declared.Target.the-variants.{New, Given}
+use Rattle.pass_3ac.specs.declared.Cut.{Cut}
+use Rattle.pass_3ac.specs.declared.Place.{Place}
+use Rattle.pass_3ac.specs.declared.Sides.{Sides}
+use Rattle.pass_3ac.specs.declared.Sides.the-variants.{Left, Right, Neither}
+
+-- the equality of a left term and a right side
+unfoldable pub equalityOf : Term → Side → Written
+equalityOf left right = written (record { left = left; right = right })
+
+-- a left side that is given, or none
+unfoldable pub targetOf : Target → Option Term
+targetOf New = none
+targetOf (Given t) = some t
+
+-- a tree with the substitutions made, cut
+unfoldable pub treeCut : Target → ℕ → Substitutions → Flat → ℕ → Cutting
+treeCut target steps s e next = flattenExprTo3ac (targetOf target) (copyPropagateExpr steps s e) next
+
+-- the body with equalities from word `at` on, and the word after them: "an equality is seven words"
+unfoldable pub putEqualities : List ℕ → ℕ → List Equality → List ℕ
+putEqualities body at qs = setWords body at (equalitiesWords qs)
+
+unfoldable pub after : ℕ → List Equality → ℕ
+after at qs = at + 7 * length qs
+
+-- the code's answer for a cut whose equalities are written from word `at` on
+unfoldable pub cutFrom : ℕ → Cutting → Cut
+cutFrom at c = record { term = c .term; next = c .next; at = after at (c .equalities) }
+
+-- what the cut of a tree from word `at` on leaves: the body after it, and the answer
+abbrev pub CutPut : List ℕ → List ℕ → ℕ → Cutting → Cut → Type 0
+CutPut body body′ at c r = (body′ ≡ putEqualities body at (c .equalities)) × (r ≡ cutFrom at c)
+
+-- room for an equality of each of n nodes, and ids for them
+pub record Room (n at next : ℕ) (body : List ℕ) : Type 0 where
+  pub words : 4 * (at + 7 * n) ≤ length body
+  pub ids : next + n ≤ 131072
+
+-- ---- lists
+
+-- the code's answer for cuts whose equalities are written from word `at` on
+unfoldable pub placeFrom : ℕ → Cuts → Place
+placeFrom at c = record { next = c .next; at = after at (c .equalities) }
+
+-- what such cuts leave: the body after them, and the answer
+abbrev pub CutsPut : List ℕ → List ℕ → ℕ → Cuts → Place → Type 0
+CutsPut body body′ at c r = (body′ ≡ putEqualities body at (c .equalities)) × (r ≡ placeFrom at c)
+
+-- and those of definitions: the array of the substitutions after them too
+abbrev pub DefsPut : List ℕ → List ℕ → ℕ → Cuts → Place → List ℕ → Substitutions → Type 0
+DefsPut body body′ at c r subs′ s = (body′ ≡ putEqualities body at (c .equalities)) × (r ≡ placeFrom at c) × (substOf subs′ ≡ s) × (length subs′ ≡ 131072)
+
+-- definitions of a record with the bytes b, those that are used, with the substitutions made one after the other: cut, and the substitutions after them
+unfoldable pub defsCut : List ℕ → ℕ → Substitutions → List Definition → ℕ → Cuts
+defsCut b steps s ds next = flattenDefs (proversOf b) (copyPropagateDefs (proversOf b) steps s (usedOf b ds)) next
+
+unfoldable pub defsAfter : List ℕ → ℕ → Substitutions → List Definition → Substitutions
+defsAfter b steps s ds = afterDefs (proversOf b) steps s (usedOf b ds)
+
+-- equations with the substitutions made, those that are not obviously true: cut
+unfoldable pub equationsCut : ℕ → Substitutions → List Equation → ℕ → Cuts
+equationsCut steps s es next = flattenEquations (alive (copyPropagateEquations steps s es)) next
+
+-- which side of an equation is the left term, by the sides' roots: a left variable, else a right variable, else a left constant, else a right constant
+unfoldable pub sidesOf : Copied → Copied → Sides
+sidesOf Copied.Tree Copied.Tree = Neither
+sidesOf Copied.Tree (Copied.Leaf y) = Right y
+sidesOf (Copied.Leaf x) Copied.Tree = Left x
+sidesOf (Copied.Leaf (Term.Variable v)) (Copied.Leaf y) = Left (Term.Variable v)
+sidesOf (Copied.Leaf (Term.Constant c)) (Copied.Leaf (Term.Variable w)) = Right (Term.Variable w)
+sidesOf (Copied.Leaf (Term.Constant c)) (Copied.Leaf (Term.Constant d)) = Left (Term.Constant c)

@@ -1,0 +1,36 @@
+-- `pass_classify::classify_defs` meets its contract. Assumes nothing.
+use borrow.Author.Needs.{needs}
+use Rattle.pass_classify.proofs.classify_defs.Statement.{statement}
+use Rattle.pass_classify.proofs.classify_defs.Tie as tie
+use native.Mathlib.Omega.{arith}
+use Rattle.pass_classify.proofs.Lists.{layout-next}
+use Rattle.pass_classify.proofs.Whole.{provers-marked, classified-whole}
+
+mark-provers-requires : tie.Need-mark-provers-requires
+mark-provers-requires c κs = search needs
+
+mark-equations-requires : tie.Need-mark-equations-requires
+mark-equations-requires c κs = search needs
+
+mark-definitions-requires : tie.Need-mark-definitions-requires
+mark-definitions-requires c κs = (c .before .before .before .before .before .before .before .pre .0, (c .before .before .mark-equations .ensures .long, provers-marked _ _ (c .before .before .before .before .before .before .before .pre .1 .no-prover) (c .before .before .before .before .mark-provers .ensures)))
+
+layout-of-requires : tie.Need-layout-of-requires
+layout-of-requires c κs = search needs
+
+add-witnesses-requires : tie.Need-add-witnesses-requires
+add-witnesses-requires c κs = (omega (arith, layout-next _ (c .before .before .layout-of .ensures), c .before .before .before .before .before .before .before .before .before .before .before .pre .0 .next-small), c .before .before .before .before .before .before .before .before .mark-provers .ensures .long)
+
+returns : tie.Need-returns
+returns c = classified-whole _ _ (c .before .before .before .before .before .before .before .before .before .before .before .before .pre .0) (c .before .before .before .before .before .before .before .before .before .before .before .before .pre .1) (layout-next _ (c .before .before .before .layout-of .ensures)) (c .before .before .before .before .before .before .before .before .before .mark-provers .ensures) (c .before .before .before .before .before .before .before .mark-equations .ensures) (c .before .before .before .before .mark-definitions .ensures) (c .add-witnesses .ensures)
+
+pub classify-defs-spec : {M : Type 1} → statement M
+classify-defs-spec =
+    tie.close
+    (tie.spec
+    mark-provers-requires
+    mark-equations-requires
+    mark-definitions-requires
+    layout-of-requires
+    add-witnesses-requires
+    returns)

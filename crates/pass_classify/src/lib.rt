@@ -1,0 +1,275 @@
+// classify_defs: how each id is used, and which ids are the prover's. Usages stand in an array by id: 0 never, 1 witness, 2 constraint;
+// prover ids are marked by 1 in another.
+use field::InfixOp;
+use flat::Node;
+use words::word_at;
+ghost use mathlib.Core.Path.{_≡_};
+ghost use mathlib.Core.Bool.{_&&_, _||_};
+ghost use Prim.Native.Nat.{_+_, _<_, _≤_};
+ghost use lib.ListN.{length};
+ghost use lib.Dec.{eqb, ltb};
+ghost use Rattle.flat.specs.Meaning.{update};
+ghost use Rattle.flat.specs.Record.{tree, moduleOf};
+ghost use Rattle.flat.specs.Readable.{Readable, Inside};
+ghost use Rattle.pass_trees.specs.Passes.{member, most, isNever, isWitness, markUsed, usedIn, override, classified, cuttable, cuttableExpr, cuttableDefs, cuttableEquations, counted};
+ghost use Rattle.pass_classify.specs.Arrays.{usageAt, usageOf, marked, Uses, Marks, noMarks, Clear, Classified};
+
+// Id v is used at least so.
+fn mark(usage: &mut [u8; 65536], v: u32, u: u8)
+    requires { ⌜ (v < 65536) × (length (now usage) ≡ 65536) ⌝ }
+    ensures { λ _. ⌜ Uses (now (usage .exit)) (update (usageOf (now (usage .entry))) v (most (usageOf (now (usage .entry)) v) (usageAt u))) ⌝ }
+{
+    let i = v as usize;
+    if usage[i] < u {
+        usage[i] = u;
+    }
+}
+
+// Every variable of node k's tree is used at least so. The node index falls at each call.
+fn mark_used(s: &[u8], at: usize, k: usize, u: u8, usage: &mut [u8; 65536])
+    requires { ⌜ Inside (now s) at k × (length (now usage) ≡ 65536) ⌝ }
+    ensures { λ _. ⌜ Uses (now (usage .exit)) (markUsed (usageAt u) (tree (now (s .entry)) at (k + 1) k) (usageOf (now (usage .entry)))) ⌝ }
+{
+    let node = flat::node_at(s, at, k);
+    match node {
+        Node::Infix(_, x, y) => {
+            mark_used(s, at, x, u, usage);
+            mark_used(s, at, y, u, usage);
+        }
+        Node::Negate(x) => {
+            mark_used(s, at, x, u, usage);
+        }
+        Node::Constant(_) => {}
+        Node::Variable(v) => {
+            mark(usage, v, u);
+        }
+    }
+}
+
+// The variables of the equations are used in constraints.
+fn mark_equations(s: &[u8], usage: &mut [u8; 65536])
+    requires { ⌜ Readable (now s) × (length (now usage) ≡ 65536) ⌝ }
+    ensures { λ _. ⌜ Uses (now (usage .exit)) (usedIn (moduleOf (now (s .entry)) .equations) (usageOf (now (usage .entry)))) ⌝ }
+{
+    let layout = flat::layout_of(s);
+    let n = layout.equations;
+    let equations = layout.equations_at;
+    let at = layout.nodes_at;
+    let mut k = 0usize;
+    while k < n {
+        let left = word_at(s, equations + 2 * k) as usize;
+        let right = word_at(s, equations + 2 * k + 1) as usize;
+        mark_used(s, at, left, 2, usage);
+        mark_used(s, at, right, 2, usage);
+        k += 1;
+    }
+}
+
+// How a defined id is used: as a witness where it is used and the prover's.
+fn override_usage(usage: &mut [u8; 65536], provers: &[u8; 65536], id: usize) -> u8
+    requires { ⌜ (id < 65536) × (length (now usage) ≡ 65536) ⌝ }
+    ensures { λ r. ⌜ (usageAt r ≡ override (marked (now (provers .entry)) id) (usageOf (now (usage .entry)) id)) × Uses (now (usage .exit)) (update (usageOf (now (usage .entry))) id (usageAt r)) ⌝ }
+{
+    let u = usage[id];
+    if u < 2 {
+        return u;
+    }
+    if provers[id] == 0 {
+        return 2;
+    }
+    usage[id] = 1;
+    1
+}
+
+// The definitions from the last to the first: each hands its usage on to the variables of its right side.
+fn mark_definitions(s: &[u8], provers: &[u8; 65536], usage: &mut [u8; 65536])
+    requires { ⌜ Readable (now s) × ((length (now usage) ≡ 65536) × (marked (now provers) ≡ (λ v. member v (moduleOf (now s) .provers)))) ⌝ }
+    ensures { λ _. ⌜ Uses (now (usage .exit)) (classified (moduleOf (now (s .entry)) .provers) (moduleOf (now (s .entry)) .definitions) (usageOf (now (usage .entry)))) ⌝ }
+{
+    let layout = flat::layout_of(s);
+    let n = layout.definitions;
+    let definitions = layout.definitions_at;
+    let at = layout.nodes_at;
+    let mut done = 0usize;
+    while done < n {
+        done += 1;
+        let k = n - done;
+        let id = word_at(s, definitions + 2 * k) as usize;
+        let node = word_at(s, definitions + 2 * k + 1) as usize;
+        let u = override_usage(usage, provers, id);
+        mark_used(s, at, node, u, usage);
+    }
+}
+
+// The record's prover ids are marked.
+fn mark_provers(s: &[u8], provers: &mut [u8; 65536])
+    requires { ⌜ Readable (now s) × (length (now provers) ≡ 65536) ⌝ }
+    ensures { λ _. ⌜ Marks (now (provers .exit)) (λ v. marked (now (provers .entry)) v || member v (moduleOf (now (s .entry)) .provers)) ⌝ }
+{
+    let layout = flat::layout_of(s);
+    let n = layout.provers;
+    let at = layout.provers_at;
+    let mut k = 0usize;
+    while k < n {
+        let id = word_at(s, at + k) as usize;
+        provers[id] = 1;
+        k += 1;
+    }
+}
+
+// Id v is the prover's where it is used as a witness.
+fn add_witness(usage: &[u8; 65536], provers: &mut [u8; 65536], v: usize)
+    requires { ⌜ (v < 65536) × (length (now provers) ≡ 65536) ⌝ }
+    ensures { λ _. ⌜ Marks (now (provers .exit)) (λ w. marked (now (provers .entry)) w || (eqb w v && isWitness (usageOf (now (usage .entry)) w))) ⌝ }
+{
+    if usage[v] == 1 {
+        provers[v] = 1;
+    }
+}
+
+// The ids below the next id that are used as a witness are the prover's.
+fn add_witnesses(usage: &[u8; 65536], next: usize, provers: &mut [u8; 65536])
+    requires { ⌜ (next ≤ 65536) × (length (now provers) ≡ 65536) ⌝ }
+    ensures { λ _. ⌜ Marks (now (provers .exit)) (λ w. marked (now (provers .entry)) w || (ltb w next && isWitness (usageOf (now (usage .entry)) w))) ⌝ }
+{
+    let mut v = 0usize;
+    while v < next {
+        add_witness(usage, provers, v);
+        v += 1;
+    }
+}
+
+// An array by id in which nothing is marked.
+pub fn no_marks() -> [u8; 65536]
+    ensures { λ r. ⌜ r ≡ noMarks ⌝ }
+{
+    [0u8; 65536]
+}
+
+// Usages and prover ids of a readable record, in arrays that are clear at the call.
+pub fn classify_defs(s: &[u8], usage: &mut [u8; 65536], provers: &mut [u8; 65536])
+    requires { ⌜ Readable (now s) × Clear (now usage) (now provers) ⌝ }
+    ensures { λ _. ⌜ Classified (now (s .entry)) (now (usage .exit)) (now (provers .exit)) ⌝ }
+{
+    mark_provers(s, provers);
+    mark_equations(s, usage);
+    mark_definitions(s, provers, usage);
+    let layout = flat::layout_of(s);
+    add_witnesses(usage, layout.next, provers);
+}
+
+// Neither `^` nor `=`.
+fn cuttable_operator(op: InfixOp) -> bool
+    ensures { λ r. ⌜ r ≡ cuttable op ⌝ }
+{
+    match op {
+        InfixOp::Divide => true,
+        InfixOp::DivideZ => true,
+        InfixOp::Multiply => true,
+        InfixOp::Add => true,
+        InfixOp::Subtract => true,
+        InfixOp::Equal => false,
+        InfixOp::Exponentiate => false,
+        InfixOp::IntDivide => true,
+        InfixOp::Modulo => true,
+    }
+}
+
+// Whether node k's tree has neither `^` nor `=`. The node index falls at each call.
+fn cuttable_expr(s: &[u8], at: usize, k: usize) -> bool
+    requires { ⌜ Inside (now s) at k ⌝ }
+    ensures { λ r. ⌜ r ≡ cuttableExpr (tree (now (s .entry)) at (k + 1) k) ⌝ }
+{
+    let node = flat::node_at(s, at, k);
+    match node {
+        Node::Infix(op, x, y) => {
+            if !cuttable_operator(op) {
+                return false;
+            }
+            if !cuttable_expr(s, at, x) {
+                return false;
+            }
+            cuttable_expr(s, at, y)
+        }
+        Node::Negate(x) => cuttable_expr(s, at, x),
+        Node::Constant(_) => true,
+        Node::Variable(_) => true,
+    }
+}
+
+// Whether no equation has `^` or an inner `=`.
+fn cuttable_equations(s: &[u8]) -> bool
+    requires { ⌜ Readable (now s) ⌝ }
+    ensures { λ r. ⌜ r ≡ cuttableEquations (moduleOf (now (s .entry)) .equations) ⌝ }
+{
+    let layout = flat::layout_of(s);
+    let n = layout.equations;
+    let equations = layout.equations_at;
+    let at = layout.nodes_at;
+    let mut k = 0usize;
+    while k < n {
+        let left = word_at(s, equations + 2 * k) as usize;
+        let right = word_at(s, equations + 2 * k + 1) as usize;
+        if !cuttable_expr(s, at, left) {
+            return false;
+        }
+        if !cuttable_expr(s, at, right) {
+            return false;
+        }
+        k += 1;
+    }
+    true
+}
+
+// A definition that is not counted need not be cut.
+fn cuttable_def(
+    s: &[u8],
+    at: usize,
+    id: usize,
+    node: usize,
+    usage: &[u8; 65536],
+    provers: &[u8; 65536],
+) -> bool
+    requires { ⌜ Inside (now s) at node × (id < 65536) ⌝ }
+    ensures { λ r. ⌜ r ≡ (isNever (usageOf (now (usage .entry)) id) || (marked (now (provers .entry)) id || cuttableExpr (tree (now (s .entry)) at (node + 1) node))) ⌝ }
+{
+    if usage[id] == 0 {
+        return true;
+    }
+    if provers[id] != 0 {
+        return true;
+    }
+    cuttable_expr(s, at, node)
+}
+
+// Whether no counted definition has `^` or `=`.
+fn cuttable_defs(s: &[u8], usage: &[u8; 65536], provers: &[u8; 65536]) -> bool
+    requires { ⌜ Readable (now s) × Classified (now s) (now usage) (now provers) ⌝ }
+    ensures { λ r. ⌜ r ≡ cuttableDefs (counted (moduleOf (now (s .entry)))) ⌝ }
+{
+    let layout = flat::layout_of(s);
+    let n = layout.definitions;
+    let definitions = layout.definitions_at;
+    let at = layout.nodes_at;
+    let mut k = 0usize;
+    while k < n {
+        let id = word_at(s, definitions + 2 * k) as usize;
+        let node = word_at(s, definitions + 2 * k + 1) as usize;
+        if !cuttable_def(s, at, id, node, usage, provers) {
+            return false;
+        }
+        k += 1;
+    }
+    true
+}
+
+// Not 22.
+pub fn cuttable(s: &[u8], usage: &[u8; 65536], provers: &[u8; 65536]) -> bool
+    requires { ⌜ Readable (now s) × Classified (now s) (now usage) (now provers) ⌝ }
+    ensures { λ r. ⌜ r ≡ (cuttableDefs (counted (moduleOf (now (s .entry)))) && cuttableEquations (moduleOf (now (s .entry)) .equations)) ⌝ }
+{
+    if !cuttable_defs(s, usage, provers) {
+        return false;
+    }
+    cuttable_equations(s)
+}

@@ -1,0 +1,162 @@
+// copy_propagate and eliminate_dead_equalities: what stands for a variable. Substitutions stand in an array, two words for an id: 0 where there is
+// none, 1 and an id, or 2 and a number's bits.
+use constraint::Term;
+use flat::Node;
+use words::signed;
+use words::unsigned;
+use words::wide;
+use words::word_at;
+ghost use mathlib.Core.Path.{_≡_};
+ghost use mathlib.Core.Bool.{false, not};
+ghost use mathlib.Core.Option.{none};
+ghost use Prim.Native.Nat.{_+_, _*_, _<_};
+ghost use lib.ListN.{length, set};
+ghost use Rattle.flat.specs.Record.{pick, definitions, definitionsAt, tree, moduleOf};
+ghost use Rattle.flat.specs.Readable.{Readable, Inside};
+ghost use Rattle.constraint.specs.declared.Term.the-variants.{Variable};
+ghost use Rattle.pass_trees.specs.Passes.{isNever, those, walk, copyPropagateExpr, substituting};
+ghost use Rattle.pass_classify.specs.Arrays.{usageAt, usageOf};
+ghost use Rattle.pass_copies.specs.Substituted.{substOf, noSubstitutions, copiedOf, sameTerm, deadRoots};
+
+// The term that stands for id v, by as many steps as are left.
+pub fn resolve(subs: &[u32; 131072], v: u32, steps: usize) -> Term
+    ensures { λ r. ⌜ r ≡ walk steps (substOf (now (subs .entry))) (Variable v) ⌝ }
+{
+    let mut id = v;
+    let mut left = steps;
+    while 0 < left {
+        let i = wide(id);
+        if 65536 <= i {
+            return Term::Variable(id);
+        }
+        let kind = subs[2 * i];
+        if kind == 0 {
+            return Term::Variable(id);
+        }
+        let value = subs[2 * i + 1];
+        if kind != 1 {
+            return Term::Constant(signed(value));
+        }
+        id = value;
+        left -= 1;
+    }
+    Term::Variable(id)
+}
+
+// The root of an expression with the substitutions made: a term, or an operation on others.
+pub enum Copied {
+    Leaf(Term),
+    Tree,
+}
+
+// The root of node k's expression with the substitutions made.
+pub fn copy_expr(s: &[u8], at: usize, k: usize, subs: &[u32; 131072], steps: usize) -> Copied
+    requires { ⌜ Inside (now s) at k ⌝ }
+    ensures { λ r. ⌜ r ≡ copiedOf (copyPropagateExpr steps (substOf (now (subs .entry))) (tree (now (s .entry)) at (k + 1) k)) ⌝ }
+{
+    let node = flat::node_at(s, at, k);
+    match node {
+        Node::Infix(_, _, _) => Copied::Tree,
+        Node::Negate(_) => Copied::Tree,
+        Node::Constant(c) => Copied::Leaf(Term::Constant(c)),
+        Node::Variable(v) => Copied::Leaf(resolve(subs, v, steps)),
+    }
+}
+
+fn put_substitution(subs: &mut [u32; 131072], id: usize, kind: u32, value: u32)
+    requires { ⌜ id < 65536 ⌝ }
+    ensures { λ _. ⌜ now (subs .exit) ≡ set (set (now (subs .entry)) (2 * id) kind) (2 * id + 1) value ⌝ }
+{
+    subs[2 * id] = kind;
+    subs[2 * id + 1] = value;
+}
+
+// The substitutions after a definition whose id is not the prover's: a term stands for its variable, unless it is the variable itself.
+pub fn substitute(s: &[u8], at: usize, id: u32, k: usize, subs: &mut [u32; 131072], steps: usize)
+    requires { ⌜ Inside (now s) at k × (id < 65536) × (length (now subs) ≡ 131072) ⌝ }
+    ensures { λ _. ⌜ (substOf (now (subs .exit)) ≡ substituting false id (copyPropagateExpr steps (substOf (now (subs .entry))) (tree (now (s .entry)) at (k + 1) k)) (substOf (now (subs .entry)))) × (length (now (subs .exit)) ≡ 131072) ⌝ }
+{
+    let Copied::Leaf(term) = copy_expr(s, at, k, subs, steps) else {
+        return;
+    };
+    match term {
+        Term::Variable(w) => {
+            if w != id {
+                put_substitution(subs, id as usize, 1, w);
+            }
+        }
+        Term::Constant(c) => {
+            put_substitution(subs, id as usize, 2, unsigned(c));
+        }
+    }
+}
+
+fn same_term(a: Term, b: Term) -> bool
+    ensures { λ r. ⌜ r ≡ sameTerm a b ⌝ }
+{
+    match a {
+        Term::Variable(v) => match b {
+            Term::Variable(w) => v == w,
+            Term::Constant(_) => false,
+        },
+        Term::Constant(c) => match b {
+            Term::Variable(_) => false,
+            Term::Constant(d) => c == d,
+        },
+    }
+}
+
+// Whether an equation is obviously true: two equal constants, as they are written, or one variable twice.
+pub fn is_dead(a: Copied, b: Copied) -> bool
+    ensures { λ r. ⌜ r ≡ deadRoots a b ⌝ }
+{
+    let Copied::Leaf(x) = a else {
+        return false;
+    };
+    let Copied::Leaf(y) = b else {
+        return false;
+    };
+    same_term(x, y)
+}
+
+// No id has a substitution.
+pub fn no_substitutions() -> [u32; 131072]
+    ensures { λ r. ⌜ r ≡ noSubstitutions ⌝ }
+{
+    [0u32; 131072]
+}
+
+// No id has a substitution any more.
+pub fn clear_substitutions(subs: &mut [u32; 131072])
+    ensures { λ _. ⌜ (substOf (now (subs .exit)) ≡ (λ _. none)) × (length (now (subs .exit)) ≡ length (now (subs .entry))) ⌝ }
+{
+    let mut i = 0usize;
+    while i < 131072 {
+        subs[i] = 0;
+        i += 1;
+    }
+}
+
+fn one_where_used(u: u8) -> usize
+    ensures { λ r. ⌜ r ≡ pick (not (isNever (usageAt u))) 1 0 ⌝ }
+{
+    if u == 0 {
+        return 0;
+    }
+    1
+}
+
+// How many of the record's n definitions, from word `at` on, are used: the steps that suffice for every walk.
+pub fn used_definitions(s: &[u8], at: usize, n: usize, usage: &[u8; 65536]) -> usize
+    requires { ⌜ Readable (now s) × (at ≡ definitionsAt (now s)) × (n ≡ definitions (now s)) ⌝ }
+    ensures { λ r. ⌜ r ≡ length (those (λ v. not (isNever (usageOf (now (usage .entry)) v))) (moduleOf (now (s .entry)) .definitions)) ⌝ }
+{
+    let mut count = 0usize;
+    let mut k = 0usize;
+    while k < n {
+        let id = wide(word_at(s, at + 2 * k));
+        count += one_where_used(usage[id]);
+        k += 1;
+    }
+    count
+}

@@ -1,0 +1,90 @@
+// The body of a constraint record, made in the port's own lists: its length is known only at the end, and a refused output stays untouched.
+use super::lists::put_provers;
+use super::lists::put_publics;
+ghost use mathlib.Core.Path.{_≡_};
+ghost use Prim.Native.Nat.{_≤_};
+ghost use lib.ListN.{length};
+ghost use Rattle.flat.specs.Trees.{moduleNodes};
+ghost use Rattle.flat.specs.Record.{publics, moduleOf};
+ghost use Rattle.flat.specs.Readable.{Readable};
+ghost use Rattle.pass_trees.specs.Passes.{passes};
+ghost use Rattle.pass_classify.specs.Arrays.{Classified};
+ghost use Rattle.pass_entry.specs.Body.{Made, Fitting};
+
+// The next id; the words of the body up to the equalities, up to the kept definitions, and in all; the nodes.
+pub struct Built {
+    pub next: u32,
+    pub start: usize,
+    pub equalities: usize,
+    pub kept: usize,
+    pub nodes: usize,
+}
+
+// The passes' constraint module of a classified record, in the two lists.
+pub fn build(
+    s: &[u8],
+    usage: &[u8; 65536],
+    provers: &[u8; 65536],
+    body: &mut [u8],
+    list: &mut [u8],
+) -> Built
+    requires { ⌜ Readable (now s) × (moduleNodes (moduleOf (now s)) ≤ 16384) × Classified (now s) (now usage) (now provers) ⌝ }
+    requires { ⌜ (length (now body) ≡ 753920) × (length (now list) ≡ 262144) ⌝ }
+    ensures { λ r. ⌜ Made (passes (moduleOf (now (s .entry)))) r (now (body .exit)) (now (list .exit)) × Fitting r (publics (now (s .entry))) (now (body .exit)) (now (list .exit)) ⌝ }
+{
+    let layout = flat::layout_of(s);
+    let next = layout.next;
+    let publics = layout.publics;
+    let definitions = layout.definitions;
+    let definitions_at = layout.definitions_at;
+    let nodes_at = layout.nodes_at;
+    put_publics(s, publics, body);
+    let start = put_provers(provers, next, body, publics);
+    let steps = pass_copies::used_definitions(s, definitions_at, definitions, usage);
+    let mut subs = pass_copies::no_substitutions();
+    let d = pass_3ac::flatten_defs(
+        s,
+        definitions_at,
+        definitions,
+        nodes_at,
+        usage,
+        provers,
+        &mut subs,
+        steps,
+        body,
+        start,
+        next as u32,
+    );
+    let e = pass_3ac::flatten_equations(
+        s,
+        layout.equations_at,
+        layout.equations,
+        nodes_at,
+        &subs,
+        steps,
+        body,
+        d.at,
+        d.next,
+    );
+    pass_copies::clear_substitutions(&mut subs);
+    let k = pass_keep::keep_defs(
+        s,
+        definitions_at,
+        definitions,
+        nodes_at,
+        usage,
+        provers,
+        &mut subs,
+        steps,
+        body,
+        e.at,
+        list,
+    );
+    Built {
+        next: e.next,
+        start,
+        equalities: e.at,
+        kept: k.at,
+        nodes: k.nodes,
+    }
+}

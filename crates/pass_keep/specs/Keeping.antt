@@ -1,0 +1,52 @@
+-- What the code that keeps definitions answers, by the definitions of the passes and of the constraint record.
+use mathlib.Core.Path.{_≡_}
+use mathlib.Core.List.{List}
+use mathlib.Core.Bool.{not}
+use Prim.Native.Nat.{ℕ, _+_, _*_, _≤_}
+use lib.ListN.{length}
+use Rattle.words.specs.Words.{setWords}
+use Rattle.flat.specs.Trees.{Flat, Definition, definitionsNodes}
+use Rattle.flat.specs.Record.{moduleOf}
+use Rattle.constraint.specs.Record.{nodesFrom, keptWords, keptNodes}
+use Rattle.pass_trees.specs.Passes.{member, those, isNever, usage, classifyDefs, Substitutions, copyPropagateDefs, afterDefs}
+use Rattle.pass_classify.specs.Arrays.{proversOf, usedOf}
+use Rattle.pass_copies.specs.Substituted.{substOf}
+use Rattle.pass_keep.specs.declared.Kept.{Kept}
+
+-- definitions of that record, those that are used, with the substitutions made one after the other: "kept definitions are those of prover
+-- variables only, uncut"; and the substitutions after them
+unfoldable pub keptOf : List ℕ → ℕ → Substitutions → List Definition → List Definition
+keptOf b steps s ds = those (λ v. member v (proversOf b)) (copyPropagateDefs (proversOf b) steps s (usedOf b ds))
+
+unfoldable pub keptAfter : List ℕ → ℕ → Substitutions → List Definition → Substitutions
+keptAfter b steps s ds = afterDefs (proversOf b) steps s (usedOf b ds)
+
+-- the list with the nodes of a tree from index `base` on, "children first, left to right": four words each
+unfoldable pub putTree : List ℕ → ℕ → Flat → List ℕ
+putTree list base e = setWords list (4 * base) (nodesFrom base e)
+
+-- the body with kept definitions (id, node) from word `at` on, the list with their nodes from index `base` on, and the places after both
+unfoldable pub putKept : List ℕ → ℕ → ℕ → List Definition → List ℕ
+putKept body at base ds = setWords body at (keptWords base ds)
+
+unfoldable pub putNodes : List ℕ → ℕ → List Definition → List ℕ
+putNodes list base ds = setWords list (4 * base) (keptNodes base ds)
+
+unfoldable pub keptFrom : ℕ → ℕ → List Definition → Kept
+keptFrom at base ds = record { at = at + 2 * length ds; nodes = base + definitionsNodes ds }
+
+-- what keeping definitions leaves, of substitutions, a body and a list: their later contents, and the code's answer
+pub record Keeps (b : List ℕ) (steps : ℕ) (ds : List Definition) (at base : ℕ) (subs body list subs′ body′ list′ : List ℕ) (r : Kept) : Type 0 where
+  pub body-is : body′ ≡ putKept body at base (keptOf b steps (substOf subs) ds)
+  pub list-is : list′ ≡ putNodes list base (keptOf b steps (substOf subs) ds)
+  pub answer-is : r ≡ keptFrom at base (keptOf b steps (substOf subs) ds)
+  pub subs-are : substOf subs′ ≡ keptAfter b steps (substOf subs) ds
+  pub subs-long : length subs′ ≡ 131072
+
+-- room for n nodes from index `base` on, and for so many definitions from word `at` on
+pub record NodeRoom (n base : ℕ) (list : List ℕ) : Type 0 where
+  pub long : 16 * (base + n) ≤ length list
+  pub few : base + n ≤ 65536
+
+pub record WordRoom (count at : ℕ) (body : List ℕ) : Type 0 where
+  pub long : 4 * (at + 2 * count) ≤ length body

@@ -1,0 +1,90 @@
+-- `source_check::naming::names_fit` meets its contract. Assumes nothing.
+use Rattle.source_check.proofs.naming.names_fit.Statement.{statement}
+use Rattle.source_check.proofs.naming.names_fit.Tie as tie
+use borrow.Author.Needs.{needs}
+use native.Mathlib.Omega.{arith}
+use Prim.Native.Nat.{_-_, _≤_, _<_}
+use mathlib.Core.Path.{_≡_, _∙_, sym}
+use mathlib.Core.Bool.{true}
+use borrow.Author.Tests.{not-true, not-false}
+use Rattle.source.specs.Indices.{every}
+use Rattle.source.specs.Names.{endOf, nameFits}
+use Rattle.source.proofs.Laws.{every-none, every-more}
+use Rattle.source.proofs.Names.{end-none, end-more, names-fail, names-end}
+
+abbrev Inv-loop : tie.InvT-loop
+Inv-loop s text n end₀ k₀ end k = ((every k (nameFits s text) ≡ true) × (end ≡ endOf s k)) × ((k ≤ n) × (end < 8589934592))
+
+abbrev μ-loop : tie.MeasureT-loop
+μ-loop s text n end₀ k₀ end k = n - k
+
+loop-holds : tie.Need-loop-holds Inv-loop μ-loop
+loop-holds c = ((every-none _, end-none _), (omega arith, omega arith))
+
+name-fits-requires : tie.Need-name-fits-requires Inv-loop μ-loop
+name-fits-requires c κs = (omega (arith, c .before .before .before .pre .0), (c .before .before .before .pre .1, c .before .loop .inv .0 .1))
+
+returns : tie.Need-returns Inv-loop μ-loop
+returns c = names-fail (c .before .before .before .before .before .args .s .now) _ _ (c .before .before .before .loop .k) (c .before .before .loop-test .taken) (c .before .name-fits .ensures) (not-true _ (c .if1 .taken))
+
+mul-count : tie.Need-mul-count Inv-loop μ-loop
+mul-count c = search needs
+
+add-count : tie.Need-add-count Inv-loop μ-loop
+add-count c = search needs
+
+count-requires : tie.Need-count-requires Inv-loop μ-loop
+count-requires c κs = search needs
+
+mul-count-2 : tie.Need-mul-count-2 Inv-loop μ-loop
+mul-count-2 c = search needs
+
+add-count-2 : tie.Need-add-count-2 Inv-loop μ-loop
+add-count-2 c = search needs
+
+add-count-3 : tie.Need-add-count-3 Inv-loop μ-loop
+add-count-3 c = search needs
+
+count-requires-2 : tie.Need-count-requires-2 Inv-loop μ-loop
+count-requires-2 c κs = search needs
+
+add-end : tie.Need-add-end Inv-loop μ-loop
+add-end c = search needs
+
+add-k : tie.Need-add-k Inv-loop μ-loop
+add-k c = search needs
+
+loop-less : tie.Need-loop-less Inv-loop μ-loop
+loop-less c = search needs
+
+loop-again : tie.Need-loop-again Inv-loop μ-loop
+loop-again c = ((every-more _ _ (c .before .before .before .before .before .loop .inv .0 .0) (sym (c .before .before .before .name-fits .ensures) ∙ not-false _ (c .before .before .if1 .left)), end-more (c .before .before .before .before .before .before .before .args .s .now) _ (c .before .count .ensures .0) (c .count2 .ensures .0)), (omega arith, omega (arith, c .before .count .ensures .1, c .count2 .ensures .1)))
+
+add-result : tie.Need-add-result Inv-loop μ-loop
+add-result c = search needs
+
+returns-2 : tie.Need-returns-2 Inv-loop μ-loop
+returns-2 c = names-end (c .before .before .before .args .s .now) _ _ _ (c .before .loop .inv .0 .0) (c .before .loop .inv .0 .1) (omega (arith, c .loop-test .left))
+
+pub names-fit-spec : {M : Type 1} → statement M
+names-fit-spec =
+    tie.close
+    (tie.spec
+    Inv-loop
+    μ-loop
+    loop-holds
+    name-fits-requires
+    returns
+    mul-count
+    add-count
+    count-requires
+    mul-count-2
+    add-count-2
+    add-count-3
+    count-requires-2
+    add-end
+    add-k
+    loop-less
+    loop-again
+    add-result
+    returns-2)

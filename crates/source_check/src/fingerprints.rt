@@ -1,0 +1,46 @@
+// A number for each name, so that most pairs are known to differ without a look at their bytes.
+use source::count;
+ghost use mathlib.Core.Path.{_≡_};
+ghost use Prim.Native.Nat.{_+_, _*_, _≤_, _<_};
+ghost use mathlib.Core.Bool.{true};
+ghost use lib.ListN.{length, getD};
+ghost use Rattle.source.specs.Names.{namesFit};
+ghost use Rattle.source_check.specs.Fingerprints.{fingerprintOf, Fingerprinted};
+
+fn byte(s: &[u8], at: usize) -> u32
+    requires { ⌜ at + 1 ≤ length (now s) ⌝ }
+    ensures { λ r. ⌜ (r ≡ getD (now (s .entry)) at 0) × (r < 256) ⌝ }
+{
+    s[at] as u32
+}
+
+// The fingerprint of n bytes from byte `from` on.
+fn fingerprint(s: &[u8], from: usize, n: usize) -> u32
+    requires { ⌜ from + n ≤ length (now s) ⌝ }
+    ensures { λ r. ⌜ r ≡ fingerprintOf (now (s .entry)) from n ⌝ }
+{
+    let mut h = 0u32;
+    let mut i = 0usize;
+    while i < n {
+        let low = h % 16777216;
+        h = low * 31 + byte(s, from + i);
+        i += 1;
+    }
+    h
+}
+
+// The fingerprints of n names that fit.
+pub fn fingerprints(s: &[u8], text: usize, n: usize) -> [u32; 512]
+    requires { ⌜ ((4 * (5 + 2 * n) ≤ length (now s)) × (namesFit (now s) text n ≡ true)) × (n ≤ 512) ⌝ }
+    ensures { λ r. ⌜ (length r ≡ 512) × Fingerprinted (now (s .entry)) text n r ⌝ }
+{
+    let mut r = [0u32; 512];
+    let mut k = 0usize;
+    while k < n {
+        let from = text + count(s, 5 + 2 * k);
+        let size = count(s, 5 + 2 * k + 1);
+        r[k] = fingerprint(s, from, size);
+        k += 1;
+    }
+    r
+}

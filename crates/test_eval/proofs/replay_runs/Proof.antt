@@ -1,0 +1,85 @@
+-- `test_eval::replay_runs` meets its contract. Assumes nothing.
+use Rattle.test_eval.proofs.replay_runs.Statement.{statement}
+use Rattle.test_eval.proofs.replay_runs.Tie as tie
+use borrow.Author.Needs.{needs}
+use native.Mathlib.Omega.{arith}
+use Prim.Native.Nat.{_-_, _*_, _≤_}
+use mathlib.Core.Path.{_≡_}
+use lib.ListN.{length}
+
+abbrev Inv-loop : tie.InvT-loop
+Inv-loop image expected store₀ runs group counts₀ n i₀ store counts i = (i ≤ n) × ((8 * n ≤ length runs) × (length store ≡ length store₀))
+
+abbrev μ-loop : tie.MeasureT-loop
+μ-loop image expected store₀ runs group counts₀ n i₀ store counts i = n - i
+
+loop-holds : tie.Need-loop-holds Inv-loop μ-loop
+loop-holds c = search needs
+
+mul-word-at : tie.Need-mul-word-at Inv-loop μ-loop
+mul-word-at c = search needs
+
+word-at-requires : tie.Need-word-at-requires Inv-loop μ-loop
+word-at-requires c κs = search needs
+
+cast-held : tie.Need-cast-held Inv-loop μ-loop
+cast-held c = search needs
+
+mul-word-at-2 : tie.Need-mul-word-at-2 Inv-loop μ-loop
+mul-word-at-2 c = search needs
+
+add-word-at : tie.Need-add-word-at Inv-loop μ-loop
+add-word-at c = search needs
+
+word-at-requires-2 : tie.Need-word-at-requires-2 Inv-loop μ-loop
+word-at-requires-2 c κs = search needs
+
+replay-lent-requires : tie.Need-replay-lent-requires Inv-loop μ-loop
+replay-lent-requires c κs = search needs
+
+report-different-requires : tie.Need-report-different-requires Inv-loop μ-loop
+report-different-requires c κs = search needs
+
+place-requires : tie.Need-place-requires Inv-loop μ-loop
+place-requires c κs = search needs
+
+count-requires : tie.Need-count-requires Inv-loop μ-loop
+count-requires c κs = search needs
+
+add-i : tie.Need-add-i Inv-loop μ-loop
+add-i c = search needs
+
+loop-less : tie.Need-loop-less Inv-loop μ-loop
+loop-less c = search needs
+
+loop-again : tie.Need-loop-again Inv-loop μ-loop
+loop-again c = search needs
+
+same-length : tie.Need-same-length Inv-loop μ-loop
+same-length c = search needs
+
+returns : tie.Need-returns Inv-loop μ-loop
+returns c = search needs
+
+pub replay-runs-spec : {M : Type 1} → statement M
+replay-runs-spec =
+    tie.close
+    (tie.spec
+    Inv-loop
+    μ-loop
+    loop-holds
+    mul-word-at
+    word-at-requires
+    cast-held
+    mul-word-at-2
+    add-word-at
+    word-at-requires-2
+    replay-lent-requires
+    report-different-requires
+    place-requires
+    count-requires
+    add-i
+    loop-less
+    loop-again
+    same-length
+    returns)
