@@ -43,7 +43,8 @@ flatten-expr-to-3ac-below t =
     (falls 3 flatten-expr-to-3ac-kinds.ps _<_ μ-flatten-expr-to-3ac t)
     flatten-expr-to-3ac.Pre
 
-flatten-expr-to-3ac-node-at-requires : (t : ℕ) → flatten-expr-to-3ac-lts.Need-node-at-requires (
+abbrev flatten-expr-to-3ac-claims : ℕ → flatten-expr-to-3ac-lts.Claims
+flatten-expr-to-3ac-claims t = (
   node-at-reads.Asked,
   node-at-reads.Learnt,
   flatten-expr-to-3ac-below t,
@@ -60,495 +61,89 @@ flatten-expr-to-3ac-node-at-requires : (t : ℕ) → flatten-expr-to-3ac-lts.Nee
   place-term-reads.Learnt,
   resolve-reads.Asked,
   resolve-reads.Learnt,
-) (flatten-expr-to-3ac-at t) flatten-expr-to-3ac.Post
+)
+
+flatten-expr-to-3ac-node-at-requires : (t : ℕ) → flatten-expr-to-3ac-lts.Need-node-at-requires (flatten-expr-to-3ac-claims t) (flatten-expr-to-3ac-at t) flatten-expr-to-3ac.Post
 flatten-expr-to-3ac-node-at-requires t c κs = search needs
 
-flatten-expr-to-3ac-enum-known-node : (t : ℕ) → flatten-expr-to-3ac-lts.Need-enum-known-node (
-  node-at-reads.Asked,
-  node-at-reads.Learnt,
-  flatten-expr-to-3ac-below t,
-  flatten-expr-to-3ac.Post,
-  left-term-reads.Asked,
-  left-term-reads.Learnt,
-  infix-op-reads.Asked,
-  infix-op-reads.Learnt,
-  push-constraint-def-reads.Asked,
-  push-constraint-def-reads.Learnt,
-  negate-reads.Asked,
-  negate-reads.Learnt,
-  place-term-reads.Asked,
-  place-term-reads.Learnt,
-  resolve-reads.Asked,
-  resolve-reads.Learnt,
-) (flatten-expr-to-3ac-at t) flatten-expr-to-3ac.Post
+flatten-expr-to-3ac-enum-known-node : (t : ℕ) → flatten-expr-to-3ac-lts.Need-enum-known-node (flatten-expr-to-3ac-claims t) (flatten-expr-to-3ac-at t) flatten-expr-to-3ac.Post
 flatten-expr-to-3ac-enum-known-node t c = search needs
 
 flatten-expr-to-3ac-flatten-expr-to-3ac-requires :
-    (t : ℕ) → flatten-expr-to-3ac-lts.Need-flatten-expr-to-3ac-requires (
-      node-at-reads.Asked,
-      node-at-reads.Learnt,
-      flatten-expr-to-3ac-below t,
-      flatten-expr-to-3ac.Post,
-      left-term-reads.Asked,
-      left-term-reads.Learnt,
-      infix-op-reads.Asked,
-      infix-op-reads.Learnt,
-      push-constraint-def-reads.Asked,
-      push-constraint-def-reads.Learnt,
-      negate-reads.Asked,
-      negate-reads.Learnt,
-      place-term-reads.Asked,
-      place-term-reads.Learnt,
-      resolve-reads.Asked,
-      resolve-reads.Learnt,
-    ) (flatten-expr-to-3ac-at t) flatten-expr-to-3ac.Post
+    (t : ℕ) → flatten-expr-to-3ac-lts.Need-flatten-expr-to-3ac-requires (flatten-expr-to-3ac-claims t) (flatten-expr-to-3ac-at t) flatten-expr-to-3ac.Post
 flatten-expr-to-3ac-flatten-expr-to-3ac-requires t c κs = let w = left-inside (c .before .before .before .before .before .before .before .pre .1 .0) (sym (c .before .before .before .before .node-at .ensures) ∙ c .before .before .node .given .1) in (omega (arith, c .before .before .before .before .before .before .before .pre .0, w .0), (w .1, room-first _ (c .before .before .before .before .before .before .before .pre .1 .1) (node-infix (c .before .before .before .before .before .before .before .pre .1 .0) (sym (c .before .before .before .before .node-at .ensures) ∙ c .before .before .node .given .1))))
 
 flatten-expr-to-3ac-flatten-expr-to-3ac-requires-2 :
-    (t : ℕ) → flatten-expr-to-3ac-lts.Need-flatten-expr-to-3ac-requires-2 (
-      node-at-reads.Asked,
-      node-at-reads.Learnt,
-      flatten-expr-to-3ac-below t,
-      flatten-expr-to-3ac.Post,
-      left-term-reads.Asked,
-      left-term-reads.Learnt,
-      infix-op-reads.Asked,
-      infix-op-reads.Learnt,
-      push-constraint-def-reads.Asked,
-      push-constraint-def-reads.Learnt,
-      negate-reads.Asked,
-      negate-reads.Learnt,
-      place-term-reads.Asked,
-      place-term-reads.Learnt,
-      resolve-reads.Asked,
-      resolve-reads.Learnt,
-    ) (flatten-expr-to-3ac-at t) flatten-expr-to-3ac.Post
+    (t : ℕ) → flatten-expr-to-3ac-lts.Need-flatten-expr-to-3ac-requires-2 (flatten-expr-to-3ac-claims t) (flatten-expr-to-3ac-at t) flatten-expr-to-3ac.Post
 flatten-expr-to-3ac-flatten-expr-to-3ac-requires-2 t c κs = let w = right-inside (c .before .before .before .before .before .before .before .before .before .before .before .pre .1 .0) (sym (c .before .before .before .before .before .before .before .before .node-at .ensures) ∙ c .before .before .before .before .before .before .node .given .1) in (omega (arith, c .before .before .before .before .before .before .before .before .before .before .before .pre .0, w .0), (w .1, room-second _ (c .before .before .before .before .before .before .before .before .before .before .before .pre .1 .1) (node-infix (c .before .before .before .before .before .before .before .before .before .before .before .pre .1 .0) (sym (c .before .before .before .before .before .before .before .before .node-at .ensures) ∙ c .before .before .before .before .before .before .node .given .1)) _ _ (c .before .before .before .flatten-expr-to-3ac .ensures)))
 
-flatten-expr-to-3ac-left-term-requires : (t : ℕ) → flatten-expr-to-3ac-lts.Need-left-term-requires (
-  node-at-reads.Asked,
-  node-at-reads.Learnt,
-  flatten-expr-to-3ac-below t,
-  flatten-expr-to-3ac.Post,
-  left-term-reads.Asked,
-  left-term-reads.Learnt,
-  infix-op-reads.Asked,
-  infix-op-reads.Learnt,
-  push-constraint-def-reads.Asked,
-  push-constraint-def-reads.Learnt,
-  negate-reads.Asked,
-  negate-reads.Learnt,
-  place-term-reads.Asked,
-  place-term-reads.Learnt,
-  resolve-reads.Asked,
-  resolve-reads.Learnt,
-) (flatten-expr-to-3ac-at t) flatten-expr-to-3ac.Post
+flatten-expr-to-3ac-left-term-requires : (t : ℕ) → flatten-expr-to-3ac-lts.Need-left-term-requires (flatten-expr-to-3ac-claims t) (flatten-expr-to-3ac-at t) flatten-expr-to-3ac.Post
 flatten-expr-to-3ac-left-term-requires t c κs = search needs
 
-flatten-expr-to-3ac-infix-op-requires : (t : ℕ) → flatten-expr-to-3ac-lts.Need-infix-op-requires (
-  node-at-reads.Asked,
-  node-at-reads.Learnt,
-  flatten-expr-to-3ac-below t,
-  flatten-expr-to-3ac.Post,
-  left-term-reads.Asked,
-  left-term-reads.Learnt,
-  infix-op-reads.Asked,
-  infix-op-reads.Learnt,
-  push-constraint-def-reads.Asked,
-  push-constraint-def-reads.Learnt,
-  negate-reads.Asked,
-  negate-reads.Learnt,
-  place-term-reads.Asked,
-  place-term-reads.Learnt,
-  resolve-reads.Asked,
-  resolve-reads.Learnt,
-) (flatten-expr-to-3ac-at t) flatten-expr-to-3ac.Post
+flatten-expr-to-3ac-infix-op-requires : (t : ℕ) → flatten-expr-to-3ac-lts.Need-infix-op-requires (flatten-expr-to-3ac-claims t) (flatten-expr-to-3ac-at t) flatten-expr-to-3ac.Post
 flatten-expr-to-3ac-infix-op-requires t c κs = search needs
 
 flatten-expr-to-3ac-push-constraint-def-requires :
-    (t : ℕ) → flatten-expr-to-3ac-lts.Need-push-constraint-def-requires (
-      node-at-reads.Asked,
-      node-at-reads.Learnt,
-      flatten-expr-to-3ac-below t,
-      flatten-expr-to-3ac.Post,
-      left-term-reads.Asked,
-      left-term-reads.Learnt,
-      infix-op-reads.Asked,
-      infix-op-reads.Learnt,
-      push-constraint-def-reads.Asked,
-      push-constraint-def-reads.Learnt,
-      negate-reads.Asked,
-      negate-reads.Learnt,
-      place-term-reads.Asked,
-      place-term-reads.Learnt,
-      resolve-reads.Asked,
-      resolve-reads.Learnt,
-    ) (flatten-expr-to-3ac-at t) flatten-expr-to-3ac.Post
+    (t : ℕ) → flatten-expr-to-3ac-lts.Need-push-constraint-def-requires (flatten-expr-to-3ac-claims t) (flatten-expr-to-3ac-at t) flatten-expr-to-3ac.Post
 flatten-expr-to-3ac-push-constraint-def-requires t c κs = room-third _ (c .before .before .before .before .before .before .before .before .before .before .before .before .before .before .before .before .before .pre .1 .1) (node-infix (c .before .before .before .before .before .before .before .before .before .before .before .before .before .before .before .before .before .pre .1 .0) (sym (c .before .before .before .before .before .before .before .before .before .before .before .before .before .before .node-at .ensures) ∙ c .before .before .before .before .before .before .before .before .before .before .before .before .node .given .1)) _ _ (c .before .before .before .before .before .before .before .before .before .flatten-expr-to-3ac .ensures) (c .before .before .before .before .before .flatten-expr-to-3ac2 .ensures)
 
-flatten-expr-to-3ac-enum-known-node-2 : (t : ℕ) → flatten-expr-to-3ac-lts.Need-enum-known-node-2 (
-  node-at-reads.Asked,
-  node-at-reads.Learnt,
-  flatten-expr-to-3ac-below t,
-  flatten-expr-to-3ac.Post,
-  left-term-reads.Asked,
-  left-term-reads.Learnt,
-  infix-op-reads.Asked,
-  infix-op-reads.Learnt,
-  push-constraint-def-reads.Asked,
-  push-constraint-def-reads.Learnt,
-  negate-reads.Asked,
-  negate-reads.Learnt,
-  place-term-reads.Asked,
-  place-term-reads.Learnt,
-  resolve-reads.Asked,
-  resolve-reads.Learnt,
-) (flatten-expr-to-3ac-at t) flatten-expr-to-3ac.Post
+flatten-expr-to-3ac-enum-known-node-2 : (t : ℕ) → flatten-expr-to-3ac-lts.Need-enum-known-node-2 (flatten-expr-to-3ac-claims t) (flatten-expr-to-3ac-at t) flatten-expr-to-3ac.Post
 flatten-expr-to-3ac-enum-known-node-2 t c = search needs
 
 flatten-expr-to-3ac-flatten-expr-to-3ac-requires-3 :
-    (t : ℕ) → flatten-expr-to-3ac-lts.Need-flatten-expr-to-3ac-requires-3 (
-      node-at-reads.Asked,
-      node-at-reads.Learnt,
-      flatten-expr-to-3ac-below t,
-      flatten-expr-to-3ac.Post,
-      left-term-reads.Asked,
-      left-term-reads.Learnt,
-      infix-op-reads.Asked,
-      infix-op-reads.Learnt,
-      push-constraint-def-reads.Asked,
-      push-constraint-def-reads.Learnt,
-      negate-reads.Asked,
-      negate-reads.Learnt,
-      place-term-reads.Asked,
-      place-term-reads.Learnt,
-      resolve-reads.Asked,
-      resolve-reads.Learnt,
-    ) (flatten-expr-to-3ac-at t) flatten-expr-to-3ac.Post
+    (t : ℕ) → flatten-expr-to-3ac-lts.Need-flatten-expr-to-3ac-requires-3 (flatten-expr-to-3ac-claims t) (flatten-expr-to-3ac-at t) flatten-expr-to-3ac.Post
 flatten-expr-to-3ac-flatten-expr-to-3ac-requires-3 t c κs = let w = child-inside (c .before .before .before .before .before .before .before .pre .1 .0) (sym (c .before .before .before .before .node-at .ensures) ∙ c .before .before .node2 .given .1) in (omega (arith, c .before .before .before .before .before .before .before .pre .0, w .0), (w .1, room-negated _ (c .before .before .before .before .before .before .before .pre .1 .1) (node-negate (c .before .before .before .before .before .before .before .pre .1 .0) (sym (c .before .before .before .before .node-at .ensures) ∙ c .before .before .node2 .given .1))))
 
 flatten-expr-to-3ac-left-term-requires-2 :
-    (t : ℕ) → flatten-expr-to-3ac-lts.Need-left-term-requires-2 (
-      node-at-reads.Asked,
-      node-at-reads.Learnt,
-      flatten-expr-to-3ac-below t,
-      flatten-expr-to-3ac.Post,
-      left-term-reads.Asked,
-      left-term-reads.Learnt,
-      infix-op-reads.Asked,
-      infix-op-reads.Learnt,
-      push-constraint-def-reads.Asked,
-      push-constraint-def-reads.Learnt,
-      negate-reads.Asked,
-      negate-reads.Learnt,
-      place-term-reads.Asked,
-      place-term-reads.Learnt,
-      resolve-reads.Asked,
-      resolve-reads.Learnt,
-    ) (flatten-expr-to-3ac-at t) flatten-expr-to-3ac.Post
+    (t : ℕ) → flatten-expr-to-3ac-lts.Need-left-term-requires-2 (flatten-expr-to-3ac-claims t) (flatten-expr-to-3ac-at t) flatten-expr-to-3ac.Post
 flatten-expr-to-3ac-left-term-requires-2 t c κs = search needs
 
-flatten-expr-to-3ac-negate-requires : (t : ℕ) → flatten-expr-to-3ac-lts.Need-negate-requires (
-  node-at-reads.Asked,
-  node-at-reads.Learnt,
-  flatten-expr-to-3ac-below t,
-  flatten-expr-to-3ac.Post,
-  left-term-reads.Asked,
-  left-term-reads.Learnt,
-  infix-op-reads.Asked,
-  infix-op-reads.Learnt,
-  push-constraint-def-reads.Asked,
-  push-constraint-def-reads.Learnt,
-  negate-reads.Asked,
-  negate-reads.Learnt,
-  place-term-reads.Asked,
-  place-term-reads.Learnt,
-  resolve-reads.Asked,
-  resolve-reads.Learnt,
-) (flatten-expr-to-3ac-at t) flatten-expr-to-3ac.Post
+flatten-expr-to-3ac-negate-requires : (t : ℕ) → flatten-expr-to-3ac-lts.Need-negate-requires (flatten-expr-to-3ac-claims t) (flatten-expr-to-3ac-at t) flatten-expr-to-3ac.Post
 flatten-expr-to-3ac-negate-requires t c κs = search needs
 
 flatten-expr-to-3ac-push-constraint-def-requires-2 :
-    (t : ℕ) → flatten-expr-to-3ac-lts.Need-push-constraint-def-requires-2 (
-      node-at-reads.Asked,
-      node-at-reads.Learnt,
-      flatten-expr-to-3ac-below t,
-      flatten-expr-to-3ac.Post,
-      left-term-reads.Asked,
-      left-term-reads.Learnt,
-      infix-op-reads.Asked,
-      infix-op-reads.Learnt,
-      push-constraint-def-reads.Asked,
-      push-constraint-def-reads.Learnt,
-      negate-reads.Asked,
-      negate-reads.Learnt,
-      place-term-reads.Asked,
-      place-term-reads.Learnt,
-      resolve-reads.Asked,
-      resolve-reads.Learnt,
-    ) (flatten-expr-to-3ac-at t) flatten-expr-to-3ac.Post
+    (t : ℕ) → flatten-expr-to-3ac-lts.Need-push-constraint-def-requires-2 (flatten-expr-to-3ac-claims t) (flatten-expr-to-3ac-at t) flatten-expr-to-3ac.Post
 flatten-expr-to-3ac-push-constraint-def-requires-2 t c κs = room-pushed _ (c .before .before .before .before .before .before .before .before .before .before .before .before .before .pre .1 .1) (node-negate (c .before .before .before .before .before .before .before .before .before .before .before .before .before .pre .1 .0) (sym (c .before .before .before .before .before .before .before .before .before .before .node-at .ensures) ∙ c .before .before .before .before .before .before .before .before .node2 .given .1)) _ _ (c .before .before .before .before .before .flatten-expr-to-3ac3 .ensures)
 
-flatten-expr-to-3ac-enum-known-node-3 : (t : ℕ) → flatten-expr-to-3ac-lts.Need-enum-known-node-3 (
-  node-at-reads.Asked,
-  node-at-reads.Learnt,
-  flatten-expr-to-3ac-below t,
-  flatten-expr-to-3ac.Post,
-  left-term-reads.Asked,
-  left-term-reads.Learnt,
-  infix-op-reads.Asked,
-  infix-op-reads.Learnt,
-  push-constraint-def-reads.Asked,
-  push-constraint-def-reads.Learnt,
-  negate-reads.Asked,
-  negate-reads.Learnt,
-  place-term-reads.Asked,
-  place-term-reads.Learnt,
-  resolve-reads.Asked,
-  resolve-reads.Learnt,
-) (flatten-expr-to-3ac-at t) flatten-expr-to-3ac.Post
+flatten-expr-to-3ac-enum-known-node-3 : (t : ℕ) → flatten-expr-to-3ac-lts.Need-enum-known-node-3 (flatten-expr-to-3ac-claims t) (flatten-expr-to-3ac-at t) flatten-expr-to-3ac.Post
 flatten-expr-to-3ac-enum-known-node-3 t c = search needs
 
 flatten-expr-to-3ac-place-term-requires :
-    (t : ℕ) → flatten-expr-to-3ac-lts.Need-place-term-requires (
-      node-at-reads.Asked,
-      node-at-reads.Learnt,
-      flatten-expr-to-3ac-below t,
-      flatten-expr-to-3ac.Post,
-      left-term-reads.Asked,
-      left-term-reads.Learnt,
-      infix-op-reads.Asked,
-      infix-op-reads.Learnt,
-      push-constraint-def-reads.Asked,
-      push-constraint-def-reads.Learnt,
-      negate-reads.Asked,
-      negate-reads.Learnt,
-      place-term-reads.Asked,
-      place-term-reads.Learnt,
-      resolve-reads.Asked,
-      resolve-reads.Learnt,
-    ) (flatten-expr-to-3ac-at t) flatten-expr-to-3ac.Post
+    (t : ℕ) → flatten-expr-to-3ac-lts.Need-place-term-requires (flatten-expr-to-3ac-claims t) (flatten-expr-to-3ac-at t) flatten-expr-to-3ac.Post
 flatten-expr-to-3ac-place-term-requires t c κs = room-term _ (c .before .before .before .before .before .before .before .pre .1 .1)
 
-flatten-expr-to-3ac-enum-known-node-4 : (t : ℕ) → flatten-expr-to-3ac-lts.Need-enum-known-node-4 (
-  node-at-reads.Asked,
-  node-at-reads.Learnt,
-  flatten-expr-to-3ac-below t,
-  flatten-expr-to-3ac.Post,
-  left-term-reads.Asked,
-  left-term-reads.Learnt,
-  infix-op-reads.Asked,
-  infix-op-reads.Learnt,
-  push-constraint-def-reads.Asked,
-  push-constraint-def-reads.Learnt,
-  negate-reads.Asked,
-  negate-reads.Learnt,
-  place-term-reads.Asked,
-  place-term-reads.Learnt,
-  resolve-reads.Asked,
-  resolve-reads.Learnt,
-) (flatten-expr-to-3ac-at t) flatten-expr-to-3ac.Post
+flatten-expr-to-3ac-enum-known-node-4 : (t : ℕ) → flatten-expr-to-3ac-lts.Need-enum-known-node-4 (flatten-expr-to-3ac-claims t) (flatten-expr-to-3ac-at t) flatten-expr-to-3ac.Post
 flatten-expr-to-3ac-enum-known-node-4 t c = search needs
 
-flatten-expr-to-3ac-resolve-requires : (t : ℕ) → flatten-expr-to-3ac-lts.Need-resolve-requires (
-  node-at-reads.Asked,
-  node-at-reads.Learnt,
-  flatten-expr-to-3ac-below t,
-  flatten-expr-to-3ac.Post,
-  left-term-reads.Asked,
-  left-term-reads.Learnt,
-  infix-op-reads.Asked,
-  infix-op-reads.Learnt,
-  push-constraint-def-reads.Asked,
-  push-constraint-def-reads.Learnt,
-  negate-reads.Asked,
-  negate-reads.Learnt,
-  place-term-reads.Asked,
-  place-term-reads.Learnt,
-  resolve-reads.Asked,
-  resolve-reads.Learnt,
-) (flatten-expr-to-3ac-at t) flatten-expr-to-3ac.Post
+flatten-expr-to-3ac-resolve-requires : (t : ℕ) → flatten-expr-to-3ac-lts.Need-resolve-requires (flatten-expr-to-3ac-claims t) (flatten-expr-to-3ac-at t) flatten-expr-to-3ac.Post
 flatten-expr-to-3ac-resolve-requires t c κs = search needs
 
 flatten-expr-to-3ac-place-term-requires-2 :
-    (t : ℕ) → flatten-expr-to-3ac-lts.Need-place-term-requires-2 (
-      node-at-reads.Asked,
-      node-at-reads.Learnt,
-      flatten-expr-to-3ac-below t,
-      flatten-expr-to-3ac.Post,
-      left-term-reads.Asked,
-      left-term-reads.Learnt,
-      infix-op-reads.Asked,
-      infix-op-reads.Learnt,
-      push-constraint-def-reads.Asked,
-      push-constraint-def-reads.Learnt,
-      negate-reads.Asked,
-      negate-reads.Learnt,
-      place-term-reads.Asked,
-      place-term-reads.Learnt,
-      resolve-reads.Asked,
-      resolve-reads.Learnt,
-    ) (flatten-expr-to-3ac-at t) flatten-expr-to-3ac.Post
+    (t : ℕ) → flatten-expr-to-3ac-lts.Need-place-term-requires-2 (flatten-expr-to-3ac-claims t) (flatten-expr-to-3ac-at t) flatten-expr-to-3ac.Post
 flatten-expr-to-3ac-place-term-requires-2 t c κs = room-term _ (c .before .before .before .before .before .before .before .before .pre .1 .1)
 
-flatten-expr-to-3ac-same-length : (t : ℕ) → flatten-expr-to-3ac-lts.Need-same-length (
-  node-at-reads.Asked,
-  node-at-reads.Learnt,
-  flatten-expr-to-3ac-below t,
-  flatten-expr-to-3ac.Post,
-  left-term-reads.Asked,
-  left-term-reads.Learnt,
-  infix-op-reads.Asked,
-  infix-op-reads.Learnt,
-  push-constraint-def-reads.Asked,
-  push-constraint-def-reads.Learnt,
-  negate-reads.Asked,
-  negate-reads.Learnt,
-  place-term-reads.Asked,
-  place-term-reads.Learnt,
-  resolve-reads.Asked,
-  resolve-reads.Learnt,
-) (flatten-expr-to-3ac-at t) flatten-expr-to-3ac.Post
+flatten-expr-to-3ac-same-length : (t : ℕ) → flatten-expr-to-3ac-lts.Need-same-length (flatten-expr-to-3ac-claims t) (flatten-expr-to-3ac-at t) flatten-expr-to-3ac.Post
 flatten-expr-to-3ac-same-length t c = search needs
 
-flatten-expr-to-3ac-returns : (t : ℕ) → flatten-expr-to-3ac-lts.Need-returns (
-  node-at-reads.Asked,
-  node-at-reads.Learnt,
-  flatten-expr-to-3ac-below t,
-  flatten-expr-to-3ac.Post,
-  left-term-reads.Asked,
-  left-term-reads.Learnt,
-  infix-op-reads.Asked,
-  infix-op-reads.Learnt,
-  push-constraint-def-reads.Asked,
-  push-constraint-def-reads.Learnt,
-  negate-reads.Asked,
-  negate-reads.Learnt,
-  place-term-reads.Asked,
-  place-term-reads.Learnt,
-  resolve-reads.Asked,
-  resolve-reads.Learnt,
-) (flatten-expr-to-3ac-at t) flatten-expr-to-3ac.Post
+flatten-expr-to-3ac-returns : (t : ℕ) → flatten-expr-to-3ac-lts.Need-returns (flatten-expr-to-3ac-claims t) (flatten-expr-to-3ac-at t) flatten-expr-to-3ac.Post
 flatten-expr-to-3ac-returns t c = way-infix _ _ _ _ _ _ _ (node-infix (c .before .before .before .before .before .before .before .before .before .before .before .before .before .before .before .before .before .before .before .before .pre .1 .0) (sym (c .before .before .before .before .before .before .before .before .before .before .before .before .before .before .before .before .before .node-at .ensures) ∙ c .before .before .before .before .before .before .before .before .before .before .before .before .before .before .before .node .given .1)) (c .before .before .before .before .before .before .before .before .before .before .before .before .flatten-expr-to-3ac .ensures) (c .before .before .before .before .before .before .before .before .flatten-expr-to-3ac2 .ensures) (c .before .before .before .before .before .left-term .ensures) (c .before .before .before .before .infix-op .ensures) (c .before .before .push-constraint-def .ensures)
 
-flatten-expr-to-3ac-same-length-2 : (t : ℕ) → flatten-expr-to-3ac-lts.Need-same-length-2 (
-  node-at-reads.Asked,
-  node-at-reads.Learnt,
-  flatten-expr-to-3ac-below t,
-  flatten-expr-to-3ac.Post,
-  left-term-reads.Asked,
-  left-term-reads.Learnt,
-  infix-op-reads.Asked,
-  infix-op-reads.Learnt,
-  push-constraint-def-reads.Asked,
-  push-constraint-def-reads.Learnt,
-  negate-reads.Asked,
-  negate-reads.Learnt,
-  place-term-reads.Asked,
-  place-term-reads.Learnt,
-  resolve-reads.Asked,
-  resolve-reads.Learnt,
-) (flatten-expr-to-3ac-at t) flatten-expr-to-3ac.Post
+flatten-expr-to-3ac-same-length-2 : (t : ℕ) → flatten-expr-to-3ac-lts.Need-same-length-2 (flatten-expr-to-3ac-claims t) (flatten-expr-to-3ac-at t) flatten-expr-to-3ac.Post
 flatten-expr-to-3ac-same-length-2 t c = search needs
 
-flatten-expr-to-3ac-returns-2 : (t : ℕ) → flatten-expr-to-3ac-lts.Need-returns-2 (
-  node-at-reads.Asked,
-  node-at-reads.Learnt,
-  flatten-expr-to-3ac-below t,
-  flatten-expr-to-3ac.Post,
-  left-term-reads.Asked,
-  left-term-reads.Learnt,
-  infix-op-reads.Asked,
-  infix-op-reads.Learnt,
-  push-constraint-def-reads.Asked,
-  push-constraint-def-reads.Learnt,
-  negate-reads.Asked,
-  negate-reads.Learnt,
-  place-term-reads.Asked,
-  place-term-reads.Learnt,
-  resolve-reads.Asked,
-  resolve-reads.Learnt,
-) (flatten-expr-to-3ac-at t) flatten-expr-to-3ac.Post
+flatten-expr-to-3ac-returns-2 : (t : ℕ) → flatten-expr-to-3ac-lts.Need-returns-2 (flatten-expr-to-3ac-claims t) (flatten-expr-to-3ac-at t) flatten-expr-to-3ac.Post
 flatten-expr-to-3ac-returns-2 t c = way-negate _ _ _ _ _ _ _ (node-negate (c .before .before .before .before .before .before .before .before .before .before .before .before .before .before .before .before .pre .1 .0) (sym (c .before .before .before .before .before .before .before .before .before .before .before .before .before .node-at .ensures) ∙ c .before .before .before .before .before .before .before .before .before .before .before .node2 .given .1)) (c .before .before .before .before .before .before .before .before .flatten-expr-to-3ac3 .ensures) (c .before .before .before .before .before .left-term2 .ensures) (c .before .before .before .negate .ensures) (c .before .before .push-constraint-def2 .ensures)
 
-flatten-expr-to-3ac-same-length-3 : (t : ℕ) → flatten-expr-to-3ac-lts.Need-same-length-3 (
-  node-at-reads.Asked,
-  node-at-reads.Learnt,
-  flatten-expr-to-3ac-below t,
-  flatten-expr-to-3ac.Post,
-  left-term-reads.Asked,
-  left-term-reads.Learnt,
-  infix-op-reads.Asked,
-  infix-op-reads.Learnt,
-  push-constraint-def-reads.Asked,
-  push-constraint-def-reads.Learnt,
-  negate-reads.Asked,
-  negate-reads.Learnt,
-  place-term-reads.Asked,
-  place-term-reads.Learnt,
-  resolve-reads.Asked,
-  resolve-reads.Learnt,
-) (flatten-expr-to-3ac-at t) flatten-expr-to-3ac.Post
+flatten-expr-to-3ac-same-length-3 : (t : ℕ) → flatten-expr-to-3ac-lts.Need-same-length-3 (flatten-expr-to-3ac-claims t) (flatten-expr-to-3ac-at t) flatten-expr-to-3ac.Post
 flatten-expr-to-3ac-same-length-3 t c = search needs
 
-flatten-expr-to-3ac-returns-3 : (t : ℕ) → flatten-expr-to-3ac-lts.Need-returns-3 (
-  node-at-reads.Asked,
-  node-at-reads.Learnt,
-  flatten-expr-to-3ac-below t,
-  flatten-expr-to-3ac.Post,
-  left-term-reads.Asked,
-  left-term-reads.Learnt,
-  infix-op-reads.Asked,
-  infix-op-reads.Learnt,
-  push-constraint-def-reads.Asked,
-  push-constraint-def-reads.Learnt,
-  negate-reads.Asked,
-  negate-reads.Learnt,
-  place-term-reads.Asked,
-  place-term-reads.Learnt,
-  resolve-reads.Asked,
-  resolve-reads.Learnt,
-) (flatten-expr-to-3ac-at t) flatten-expr-to-3ac.Post
+flatten-expr-to-3ac-returns-3 : (t : ℕ) → flatten-expr-to-3ac-lts.Need-returns-3 (flatten-expr-to-3ac-claims t) (flatten-expr-to-3ac-at t) flatten-expr-to-3ac.Post
 flatten-expr-to-3ac-returns-3 t c = way-constant _ _ _ _ _ _ _ (tree-constant _ _ _ (sym (c .before .before .before .before .before .before .before .node-at .ensures) ∙ c .before .before .before .before .before .node3 .given .1)) (toZ-ofZ w32 _ (record { sfits = c .before .before .before .before .known-told3 .given .0 .1 })) (c .before .before .place-term .ensures)
 
-flatten-expr-to-3ac-same-length-4 : (t : ℕ) → flatten-expr-to-3ac-lts.Need-same-length-4 (
-  node-at-reads.Asked,
-  node-at-reads.Learnt,
-  flatten-expr-to-3ac-below t,
-  flatten-expr-to-3ac.Post,
-  left-term-reads.Asked,
-  left-term-reads.Learnt,
-  infix-op-reads.Asked,
-  infix-op-reads.Learnt,
-  push-constraint-def-reads.Asked,
-  push-constraint-def-reads.Learnt,
-  negate-reads.Asked,
-  negate-reads.Learnt,
-  place-term-reads.Asked,
-  place-term-reads.Learnt,
-  resolve-reads.Asked,
-  resolve-reads.Learnt,
-) (flatten-expr-to-3ac-at t) flatten-expr-to-3ac.Post
+flatten-expr-to-3ac-same-length-4 : (t : ℕ) → flatten-expr-to-3ac-lts.Need-same-length-4 (flatten-expr-to-3ac-claims t) (flatten-expr-to-3ac-at t) flatten-expr-to-3ac.Post
 flatten-expr-to-3ac-same-length-4 t c = search needs
 
-flatten-expr-to-3ac-returns-4 : (t : ℕ) → flatten-expr-to-3ac-lts.Need-returns-4 (
-  node-at-reads.Asked,
-  node-at-reads.Learnt,
-  flatten-expr-to-3ac-below t,
-  flatten-expr-to-3ac.Post,
-  left-term-reads.Asked,
-  left-term-reads.Learnt,
-  infix-op-reads.Asked,
-  infix-op-reads.Learnt,
-  push-constraint-def-reads.Asked,
-  push-constraint-def-reads.Learnt,
-  negate-reads.Asked,
-  negate-reads.Learnt,
-  place-term-reads.Asked,
-  place-term-reads.Learnt,
-  resolve-reads.Asked,
-  resolve-reads.Learnt,
-) (flatten-expr-to-3ac-at t) flatten-expr-to-3ac.Post
+flatten-expr-to-3ac-returns-4 : (t : ℕ) → flatten-expr-to-3ac-lts.Need-returns-4 (flatten-expr-to-3ac-claims t) (flatten-expr-to-3ac-at t) flatten-expr-to-3ac.Post
 flatten-expr-to-3ac-returns-4 t c = way-variable _ _ _ _ _ _ _ (tree-variable _ _ _ (sym (c .before .before .before .before .before .before .before .before .node-at .ensures) ∙ c .before .before .before .before .before .before .node4 .given .1)) (c .before .before .before .resolve .ensures) (c .before .before .place-term2 .ensures)
 
 pub +flatten-expr-to-3ac-spec : {M : Type 1} → statement M

@@ -30,155 +30,60 @@ cuttable-expr-below t =
     (falls 1 cuttable-expr-kinds.ps _<_ μ-cuttable-expr t)
     cuttable-expr.Pre
 
-cuttable-expr-node-at-requires : (t : ℕ) → cuttable-expr-lts.Need-node-at-requires (
+abbrev cuttable-expr-claims : ℕ → cuttable-expr-lts.Claims
+cuttable-expr-claims t = (
   node-at-reads.Asked,
   node-at-reads.Learnt,
   cuttable-operator-reads.Asked,
   cuttable-operator-reads.Learnt,
   cuttable-expr-below t,
   cuttable-expr.Post,
-) (cuttable-expr-at t) cuttable-expr.Post
+)
+
+cuttable-expr-node-at-requires : (t : ℕ) → cuttable-expr-lts.Need-node-at-requires (cuttable-expr-claims t) (cuttable-expr-at t) cuttable-expr.Post
 cuttable-expr-node-at-requires t c κs = search needs
 
-cuttable-expr-enum-known-node : (t : ℕ) → cuttable-expr-lts.Need-enum-known-node (
-  node-at-reads.Asked,
-  node-at-reads.Learnt,
-  cuttable-operator-reads.Asked,
-  cuttable-operator-reads.Learnt,
-  cuttable-expr-below t,
-  cuttable-expr.Post,
-) (cuttable-expr-at t) cuttable-expr.Post
+cuttable-expr-enum-known-node : (t : ℕ) → cuttable-expr-lts.Need-enum-known-node (cuttable-expr-claims t) (cuttable-expr-at t) cuttable-expr.Post
 cuttable-expr-enum-known-node t c = search needs
 
 cuttable-expr-cuttable-operator-requires :
-    (t : ℕ) → cuttable-expr-lts.Need-cuttable-operator-requires (
-      node-at-reads.Asked,
-      node-at-reads.Learnt,
-      cuttable-operator-reads.Asked,
-      cuttable-operator-reads.Learnt,
-      cuttable-expr-below t,
-      cuttable-expr.Post,
-    ) (cuttable-expr-at t) cuttable-expr.Post
+    (t : ℕ) → cuttable-expr-lts.Need-cuttable-operator-requires (cuttable-expr-claims t) (cuttable-expr-at t) cuttable-expr.Post
 cuttable-expr-cuttable-operator-requires t c κs = search needs
 
-cuttable-expr-returns : (t : ℕ) → cuttable-expr-lts.Need-returns (
-  node-at-reads.Asked,
-  node-at-reads.Learnt,
-  cuttable-operator-reads.Asked,
-  cuttable-operator-reads.Learnt,
-  cuttable-expr-below t,
-  cuttable-expr.Post,
-) (cuttable-expr-at t) cuttable-expr.Post
+cuttable-expr-returns : (t : ℕ) → cuttable-expr-lts.Need-returns (cuttable-expr-claims t) (cuttable-expr-at t) cuttable-expr.Post
 cuttable-expr-returns t c = cuttable-operator-no (c .before .before .before .before .before .before .before .pre .1) (sym (c .before .before .before .before .before .node-at .ensures) ∙ c .before .before .before .node .given .1) (c .before .cuttable-operator .ensures) (not-true _ (c .if1 .taken))
 
-cuttable-expr-cuttable-expr-requires : (t : ℕ) → cuttable-expr-lts.Need-cuttable-expr-requires (
-  node-at-reads.Asked,
-  node-at-reads.Learnt,
-  cuttable-operator-reads.Asked,
-  cuttable-operator-reads.Learnt,
-  cuttable-expr-below t,
-  cuttable-expr.Post,
-) (cuttable-expr-at t) cuttable-expr.Post
+cuttable-expr-cuttable-expr-requires : (t : ℕ) → cuttable-expr-lts.Need-cuttable-expr-requires (cuttable-expr-claims t) (cuttable-expr-at t) cuttable-expr.Post
 cuttable-expr-cuttable-expr-requires t c κs = let w = left-inside (c .before .before .before .before .before .before .before .pre .1) (sym (c .before .before .before .before .before .node-at .ensures) ∙ c .before .before .before .node .given .1) in (omega (arith, c .before .before .before .before .before .before .before .pre .0, w .0), w .1)
 
-cuttable-expr-returns-2 : (t : ℕ) → cuttable-expr-lts.Need-returns-2 (
-  node-at-reads.Asked,
-  node-at-reads.Learnt,
-  cuttable-operator-reads.Asked,
-  cuttable-operator-reads.Learnt,
-  cuttable-expr-below t,
-  cuttable-expr.Post,
-) (cuttable-expr-at t) cuttable-expr.Post
+cuttable-expr-returns-2 : (t : ℕ) → cuttable-expr-lts.Need-returns-2 (cuttable-expr-claims t) (cuttable-expr-at t) cuttable-expr.Post
 cuttable-expr-returns-2 t c = cuttable-left-no (c .before .before .before .before .before .before .before .before .before .pre .1) (sym (c .before .before .before .before .before .before .before .node-at .ensures) ∙ c .before .before .before .before .before .node .given .1) (c .before .before .before .cuttable-operator .ensures) (not-false _ (c .before .before .if1 .left)) (c .before .cuttable-expr .ensures) (not-true _ (c .if2 .taken))
 
-cuttable-expr-cuttable-expr-requires-2 : (t : ℕ) → cuttable-expr-lts.Need-cuttable-expr-requires-2 (
-  node-at-reads.Asked,
-  node-at-reads.Learnt,
-  cuttable-operator-reads.Asked,
-  cuttable-operator-reads.Learnt,
-  cuttable-expr-below t,
-  cuttable-expr.Post,
-) (cuttable-expr-at t) cuttable-expr.Post
+cuttable-expr-cuttable-expr-requires-2 : (t : ℕ) → cuttable-expr-lts.Need-cuttable-expr-requires-2 (cuttable-expr-claims t) (cuttable-expr-at t) cuttable-expr.Post
 cuttable-expr-cuttable-expr-requires-2 t c κs = let w = right-inside (c .before .before .before .before .before .before .before .before .before .pre .1) (sym (c .before .before .before .before .before .before .before .node-at .ensures) ∙ c .before .before .before .before .before .node .given .1) in (omega (arith, c .before .before .before .before .before .before .before .before .before .pre .0, w .0), w .1)
 
-cuttable-expr-enum-known-node-2 : (t : ℕ) → cuttable-expr-lts.Need-enum-known-node-2 (
-  node-at-reads.Asked,
-  node-at-reads.Learnt,
-  cuttable-operator-reads.Asked,
-  cuttable-operator-reads.Learnt,
-  cuttable-expr-below t,
-  cuttable-expr.Post,
-) (cuttable-expr-at t) cuttable-expr.Post
+cuttable-expr-enum-known-node-2 : (t : ℕ) → cuttable-expr-lts.Need-enum-known-node-2 (cuttable-expr-claims t) (cuttable-expr-at t) cuttable-expr.Post
 cuttable-expr-enum-known-node-2 t c = search needs
 
-cuttable-expr-cuttable-expr-requires-3 : (t : ℕ) → cuttable-expr-lts.Need-cuttable-expr-requires-3 (
-  node-at-reads.Asked,
-  node-at-reads.Learnt,
-  cuttable-operator-reads.Asked,
-  cuttable-operator-reads.Learnt,
-  cuttable-expr-below t,
-  cuttable-expr.Post,
-) (cuttable-expr-at t) cuttable-expr.Post
+cuttable-expr-cuttable-expr-requires-3 : (t : ℕ) → cuttable-expr-lts.Need-cuttable-expr-requires-3 (cuttable-expr-claims t) (cuttable-expr-at t) cuttable-expr.Post
 cuttable-expr-cuttable-expr-requires-3 t c κs = let w = child-inside (c .before .before .before .before .before .pre .1) (sym (c .before .before .before .node-at .ensures) ∙ c .before .node2 .given .1) in (omega (arith, c .before .before .before .before .before .pre .0, w .0), w .1)
 
-cuttable-expr-enum-told : (t : ℕ) → cuttable-expr-lts.Need-enum-told (
-  node-at-reads.Asked,
-  node-at-reads.Learnt,
-  cuttable-operator-reads.Asked,
-  cuttable-operator-reads.Learnt,
-  cuttable-expr-below t,
-  cuttable-expr.Post,
-) (cuttable-expr-at t) cuttable-expr.Post
+cuttable-expr-enum-told : (t : ℕ) → cuttable-expr-lts.Need-enum-told (cuttable-expr-claims t) (cuttable-expr-at t) cuttable-expr.Post
 cuttable-expr-enum-told t c = search needs
 
-cuttable-expr-enum-told-2 : (t : ℕ) → cuttable-expr-lts.Need-enum-told-2 (
-  node-at-reads.Asked,
-  node-at-reads.Learnt,
-  cuttable-operator-reads.Asked,
-  cuttable-operator-reads.Learnt,
-  cuttable-expr-below t,
-  cuttable-expr.Post,
-) (cuttable-expr-at t) cuttable-expr.Post
+cuttable-expr-enum-told-2 : (t : ℕ) → cuttable-expr-lts.Need-enum-told-2 (cuttable-expr-claims t) (cuttable-expr-at t) cuttable-expr.Post
 cuttable-expr-enum-told-2 t c = search needs
 
-cuttable-expr-returns-3 : (t : ℕ) → cuttable-expr-lts.Need-returns-3 (
-  node-at-reads.Asked,
-  node-at-reads.Learnt,
-  cuttable-operator-reads.Asked,
-  cuttable-operator-reads.Learnt,
-  cuttable-expr-below t,
-  cuttable-expr.Post,
-) (cuttable-expr-at t) cuttable-expr.Post
+cuttable-expr-returns-3 : (t : ℕ) → cuttable-expr-lts.Need-returns-3 (cuttable-expr-claims t) (cuttable-expr-at t) cuttable-expr.Post
 cuttable-expr-returns-3 t c = cuttable-infix (c .before .before .before .before .before .before .before .before .before .before .pre .1) (sym (c .before .before .before .before .before .before .before .before .node-at .ensures) ∙ c .before .before .before .before .before .before .node .given .1) (c .before .before .before .before .cuttable-operator .ensures) (not-false _ (c .before .before .before .if1 .left)) (c .before .before .cuttable-expr .ensures) (not-false _ (c .before .if2 .left)) (c .cuttable-expr2 .ensures)
 
-cuttable-expr-returns-4 : (t : ℕ) → cuttable-expr-lts.Need-returns-4 (
-  node-at-reads.Asked,
-  node-at-reads.Learnt,
-  cuttable-operator-reads.Asked,
-  cuttable-operator-reads.Learnt,
-  cuttable-expr-below t,
-  cuttable-expr.Post,
-) (cuttable-expr-at t) cuttable-expr.Post
+cuttable-expr-returns-4 : (t : ℕ) → cuttable-expr-lts.Need-returns-4 (cuttable-expr-claims t) (cuttable-expr-at t) cuttable-expr.Post
 cuttable-expr-returns-4 t c = cuttable-negate (c .before .before .before .before .before .before .pre .1) (sym (c .before .before .before .before .node-at .ensures) ∙ c .before .before .node2 .given .1) (c .cuttable-expr3 .ensures)
 
-cuttable-expr-returns-5 : (t : ℕ) → cuttable-expr-lts.Need-returns-5 (
-  node-at-reads.Asked,
-  node-at-reads.Learnt,
-  cuttable-operator-reads.Asked,
-  cuttable-operator-reads.Learnt,
-  cuttable-expr-below t,
-  cuttable-expr.Post,
-) (cuttable-expr-at t) cuttable-expr.Post
+cuttable-expr-returns-5 : (t : ℕ) → cuttable-expr-lts.Need-returns-5 (cuttable-expr-claims t) (cuttable-expr-at t) cuttable-expr.Post
 cuttable-expr-returns-5 t c = cuttable-constant (c .before .before .before .before .pre .1) (sym (c .before .before .node-at .ensures) ∙ c .enum-told .given .1)
 
-cuttable-expr-returns-6 : (t : ℕ) → cuttable-expr-lts.Need-returns-6 (
-  node-at-reads.Asked,
-  node-at-reads.Learnt,
-  cuttable-operator-reads.Asked,
-  cuttable-operator-reads.Learnt,
-  cuttable-expr-below t,
-  cuttable-expr.Post,
-) (cuttable-expr-at t) cuttable-expr.Post
+cuttable-expr-returns-6 : (t : ℕ) → cuttable-expr-lts.Need-returns-6 (cuttable-expr-claims t) (cuttable-expr-at t) cuttable-expr.Post
 cuttable-expr-returns-6 t c = cuttable-variable (c .before .before .before .before .pre .1) (sym (c .before .before .node-at .ensures) ∙ c .enum-told2 .given .1)
 
 pub +cuttable-expr-spec : {M : Type 1} → statement M

@@ -33,7 +33,8 @@ abbrev put-tree-below : ℕ → In 3 put-tree-kinds.ps
 put-tree-below t =
     and 3 put-tree-kinds.ps (falls 3 put-tree-kinds.ps _<_ μ-put-tree t) put-tree.Pre
 
-put-tree-node-at-requires : (t : ℕ) → put-tree-lts.Need-node-at-requires (
+abbrev put-tree-claims : ℕ → put-tree-lts.Claims
+put-tree-claims t = (
   node-at-reads.Asked,
   node-at-reads.Learnt,
   put-tree-below t,
@@ -46,535 +47,108 @@ put-tree-node-at-requires : (t : ℕ) → put-tree-lts.Need-node-at-requires (
   put-leaf-reads.Learnt,
   resolve-reads.Asked,
   resolve-reads.Learnt,
-) (put-tree-at t) put-tree.Post
+)
+
+put-tree-node-at-requires : (t : ℕ) → put-tree-lts.Need-node-at-requires (put-tree-claims t) (put-tree-at t) put-tree.Post
 put-tree-node-at-requires t c κs = search needs
 
-put-tree-enum-known-node : (t : ℕ) → put-tree-lts.Need-enum-known-node (
-  node-at-reads.Asked,
-  node-at-reads.Learnt,
-  put-tree-below t,
-  put-tree.Post,
-  operator-number-reads.Asked,
-  operator-number-reads.Learnt,
-  put-node-reads.Asked,
-  put-node-reads.Learnt,
-  put-leaf-reads.Asked,
-  put-leaf-reads.Learnt,
-  resolve-reads.Asked,
-  resolve-reads.Learnt,
-) (put-tree-at t) put-tree.Post
+put-tree-enum-known-node : (t : ℕ) → put-tree-lts.Need-enum-known-node (put-tree-claims t) (put-tree-at t) put-tree.Post
 put-tree-enum-known-node t c = search needs
 
-put-tree-put-tree-requires : (t : ℕ) → put-tree-lts.Need-put-tree-requires (
-  node-at-reads.Asked,
-  node-at-reads.Learnt,
-  put-tree-below t,
-  put-tree.Post,
-  operator-number-reads.Asked,
-  operator-number-reads.Learnt,
-  put-node-reads.Asked,
-  put-node-reads.Learnt,
-  put-leaf-reads.Asked,
-  put-leaf-reads.Learnt,
-  resolve-reads.Asked,
-  resolve-reads.Learnt,
-) (put-tree-at t) put-tree.Post
+put-tree-put-tree-requires : (t : ℕ) → put-tree-lts.Need-put-tree-requires (put-tree-claims t) (put-tree-at t) put-tree.Post
 put-tree-put-tree-requires t c κs = let w = left-inside (c .before .before .before .before .before .before .before .pre .1 .0) (sym (c .before .before .before .before .node-at .ensures) ∙ c .before .before .node .given .1) in (omega (arith, w .0, c .before .before .before .before .before .before .before .pre .0), (w .1, room-left (c .before .before .before .before .before .before .before .pre .1 .0) (c .before .before .before .before .before .before .before .args .base) (c .before .before .before .before .before .before .before .args .steps) (substOf (c .before .before .before .before .before .before .before .args .subs .now)) (c .before .before .before .before .before .before .before .args .list .now) (c .before .before .before .before .before .before .before .pre .1 .1) (sym (c .before .before .before .before .node-at .ensures) ∙ c .before .before .node .given .1)))
 
-put-tree-put-tree-requires-2 : (t : ℕ) → put-tree-lts.Need-put-tree-requires-2 (
-  node-at-reads.Asked,
-  node-at-reads.Learnt,
-  put-tree-below t,
-  put-tree.Post,
-  operator-number-reads.Asked,
-  operator-number-reads.Learnt,
-  put-node-reads.Asked,
-  put-node-reads.Learnt,
-  put-leaf-reads.Asked,
-  put-leaf-reads.Learnt,
-  resolve-reads.Asked,
-  resolve-reads.Learnt,
-) (put-tree-at t) put-tree.Post
+put-tree-put-tree-requires-2 : (t : ℕ) → put-tree-lts.Need-put-tree-requires-2 (put-tree-claims t) (put-tree-at t) put-tree.Post
 put-tree-put-tree-requires-2 t c κs = let w = right-inside (c .before .before .before .before .before .before .before .before .before .before .before .pre .1 .0) (sym (c .before .before .before .before .before .before .before .before .node-at .ensures) ∙ c .before .before .before .before .before .before .node .given .1) in (omega (arith, w .0, c .before .before .before .before .before .before .before .before .before .before .before .pre .0), (w .1, room-right (c .before .before .before .before .before .before .before .before .before .before .before .pre .1 .0) (c .before .before .before .before .before .before .before .before .before .before .before .args .base) (c .before .before .before .before .before .before .before .before .before .before .before .args .steps) (substOf (c .before .before .before .before .before .before .before .before .before .before .before .args .subs .now)) (c .before .before .before .before .before .before .before .before .before .before .before .args .list .now) (c .before .before .before .before .before .before .before .before .before .before .before .pre .1 .1) (sym (c .before .before .before .before .before .before .before .before .node-at .ensures) ∙ c .before .before .before .before .before .before .node .given .1) (c .before .before .before .put-tree .ensures .0) (c .before .before .before .put-tree .ensures .1)))
 
-put-tree-operator-number-requires : (t : ℕ) → put-tree-lts.Need-operator-number-requires (
-  node-at-reads.Asked,
-  node-at-reads.Learnt,
-  put-tree-below t,
-  put-tree.Post,
-  operator-number-reads.Asked,
-  operator-number-reads.Learnt,
-  put-node-reads.Asked,
-  put-node-reads.Learnt,
-  put-leaf-reads.Asked,
-  put-leaf-reads.Learnt,
-  resolve-reads.Asked,
-  resolve-reads.Learnt,
-) (put-tree-at t) put-tree.Post
+put-tree-operator-number-requires : (t : ℕ) → put-tree-lts.Need-operator-number-requires (put-tree-claims t) (put-tree-at t) put-tree.Post
 put-tree-operator-number-requires t c κs = search needs
 
-put-tree-mul-put-node : (t : ℕ) → put-tree-lts.Need-mul-put-node (
-  node-at-reads.Asked,
-  node-at-reads.Learnt,
-  put-tree-below t,
-  put-tree.Post,
-  operator-number-reads.Asked,
-  operator-number-reads.Learnt,
-  put-node-reads.Asked,
-  put-node-reads.Learnt,
-  put-leaf-reads.Asked,
-  put-leaf-reads.Learnt,
-  resolve-reads.Asked,
-  resolve-reads.Learnt,
-) (put-tree-at t) put-tree.Post
+put-tree-mul-put-node : (t : ℕ) → put-tree-lts.Need-mul-put-node (put-tree-claims t) (put-tree-at t) put-tree.Post
 put-tree-mul-put-node t c = let w = room-root (c .before .before .before .before .before .before .before .before .before .before .before .before .before .before .before .before .pre .1 .0) (c .before .before .before .before .before .before .before .before .before .before .before .before .before .before .before .before .args .base) (c .before .before .before .before .before .before .before .before .before .before .before .before .before .before .before .before .args .steps) (substOf (c .before .before .before .before .before .before .before .before .before .before .before .before .before .before .before .before .args .subs .now)) (c .before .before .before .before .before .before .before .before .before .before .before .before .before .before .before .before .args .list .now) (c .before .before .before .before .before .before .before .before .before .before .before .before .before .before .before .before .pre .1 .1) (sym (c .before .before .before .before .before .before .before .before .before .before .before .before .before .node-at .ensures) ∙ c .before .before .before .before .before .before .before .before .before .before .before .node .given .1) (c .before .before .before .before .before .before .before .before .put-tree .ensures .0) (c .before .before .before .before .before .before .before .before .put-tree .ensures .1) (c .before .before .before .before .put-tree2 .ensures .0) (c .before .before .before .before .put-tree2 .ensures .1) in omega (arith, w .1)
 
-put-tree-sub-put-node : (t : ℕ) → put-tree-lts.Need-sub-put-node (
-  node-at-reads.Asked,
-  node-at-reads.Learnt,
-  put-tree-below t,
-  put-tree.Post,
-  operator-number-reads.Asked,
-  operator-number-reads.Learnt,
-  put-node-reads.Asked,
-  put-node-reads.Learnt,
-  put-leaf-reads.Asked,
-  put-leaf-reads.Learnt,
-  resolve-reads.Asked,
-  resolve-reads.Learnt,
-) (put-tree-at t) put-tree.Post
+put-tree-sub-put-node : (t : ℕ) → put-tree-lts.Need-sub-put-node (put-tree-claims t) (put-tree-at t) put-tree.Post
 put-tree-sub-put-node t c = let w = room-root (c .before .before .before .before .before .before .before .before .before .before .before .before .before .before .before .before .pre .1 .0) (c .before .before .before .before .before .before .before .before .before .before .before .before .before .before .before .before .args .base) (c .before .before .before .before .before .before .before .before .before .before .before .before .before .before .before .before .args .steps) (substOf (c .before .before .before .before .before .before .before .before .before .before .before .before .before .before .before .before .args .subs .now)) (c .before .before .before .before .before .before .before .before .before .before .before .before .before .before .before .before .args .list .now) (c .before .before .before .before .before .before .before .before .before .before .before .before .before .before .before .before .pre .1 .1) (sym (c .before .before .before .before .before .before .before .before .before .before .before .before .before .node-at .ensures) ∙ c .before .before .before .before .before .before .before .before .before .before .before .node .given .1) (c .before .before .before .before .before .before .before .before .put-tree .ensures .0) (c .before .before .before .before .before .before .before .before .put-tree .ensures .1) (c .before .before .before .before .put-tree2 .ensures .0) (c .before .before .before .before .put-tree2 .ensures .1) in omega (arith, w .2)
 
-put-tree-cast-put-node : (t : ℕ) → put-tree-lts.Need-cast-put-node (
-  node-at-reads.Asked,
-  node-at-reads.Learnt,
-  put-tree-below t,
-  put-tree.Post,
-  operator-number-reads.Asked,
-  operator-number-reads.Learnt,
-  put-node-reads.Asked,
-  put-node-reads.Learnt,
-  put-leaf-reads.Asked,
-  put-leaf-reads.Learnt,
-  resolve-reads.Asked,
-  resolve-reads.Learnt,
-) (put-tree-at t) put-tree.Post
+put-tree-cast-put-node : (t : ℕ) → put-tree-lts.Need-cast-put-node (put-tree-claims t) (put-tree-at t) put-tree.Post
 put-tree-cast-put-node t c = let w = room-root (c .before .before .before .before .before .before .before .before .before .before .before .before .before .before .before .before .pre .1 .0) (c .before .before .before .before .before .before .before .before .before .before .before .before .before .before .before .before .args .base) (c .before .before .before .before .before .before .before .before .before .before .before .before .before .before .before .before .args .steps) (substOf (c .before .before .before .before .before .before .before .before .before .before .before .before .before .before .before .before .args .subs .now)) (c .before .before .before .before .before .before .before .before .before .before .before .before .before .before .before .before .args .list .now) (c .before .before .before .before .before .before .before .before .before .before .before .before .before .before .before .before .pre .1 .1) (sym (c .before .before .before .before .before .before .before .before .before .before .before .before .before .node-at .ensures) ∙ c .before .before .before .before .before .before .before .before .before .before .before .node .given .1) (c .before .before .before .before .before .before .before .before .put-tree .ensures .0) (c .before .before .before .before .before .before .before .before .put-tree .ensures .1) (c .before .before .before .before .put-tree2 .ensures .0) (c .before .before .before .before .put-tree2 .ensures .1) in omega (arith, w .4)
 
-put-tree-sub-put-node-2 : (t : ℕ) → put-tree-lts.Need-sub-put-node-2 (
-  node-at-reads.Asked,
-  node-at-reads.Learnt,
-  put-tree-below t,
-  put-tree.Post,
-  operator-number-reads.Asked,
-  operator-number-reads.Learnt,
-  put-node-reads.Asked,
-  put-node-reads.Learnt,
-  put-leaf-reads.Asked,
-  put-leaf-reads.Learnt,
-  resolve-reads.Asked,
-  resolve-reads.Learnt,
-) (put-tree-at t) put-tree.Post
+put-tree-sub-put-node-2 : (t : ℕ) → put-tree-lts.Need-sub-put-node-2 (put-tree-claims t) (put-tree-at t) put-tree.Post
 put-tree-sub-put-node-2 t c = let w = room-root (c .before .before .before .before .before .before .before .before .before .before .before .before .before .before .before .before .pre .1 .0) (c .before .before .before .before .before .before .before .before .before .before .before .before .before .before .before .before .args .base) (c .before .before .before .before .before .before .before .before .before .before .before .before .before .before .before .before .args .steps) (substOf (c .before .before .before .before .before .before .before .before .before .before .before .before .before .before .before .before .args .subs .now)) (c .before .before .before .before .before .before .before .before .before .before .before .before .before .before .before .before .args .list .now) (c .before .before .before .before .before .before .before .before .before .before .before .before .before .before .before .before .pre .1 .1) (sym (c .before .before .before .before .before .before .before .before .before .before .before .before .before .node-at .ensures) ∙ c .before .before .before .before .before .before .before .before .before .before .before .node .given .1) (c .before .before .before .before .before .before .before .before .put-tree .ensures .0) (c .before .before .before .before .before .before .before .before .put-tree .ensures .1) (c .before .before .before .before .put-tree2 .ensures .0) (c .before .before .before .before .put-tree2 .ensures .1) in omega (arith, w .3)
 
-put-tree-cast-put-node-2 : (t : ℕ) → put-tree-lts.Need-cast-put-node-2 (
-  node-at-reads.Asked,
-  node-at-reads.Learnt,
-  put-tree-below t,
-  put-tree.Post,
-  operator-number-reads.Asked,
-  operator-number-reads.Learnt,
-  put-node-reads.Asked,
-  put-node-reads.Learnt,
-  put-leaf-reads.Asked,
-  put-leaf-reads.Learnt,
-  resolve-reads.Asked,
-  resolve-reads.Learnt,
-) (put-tree-at t) put-tree.Post
+put-tree-cast-put-node-2 : (t : ℕ) → put-tree-lts.Need-cast-put-node-2 (put-tree-claims t) (put-tree-at t) put-tree.Post
 put-tree-cast-put-node-2 t c = let w = room-root (c .before .before .before .before .before .before .before .before .before .before .before .before .before .before .before .before .pre .1 .0) (c .before .before .before .before .before .before .before .before .before .before .before .before .before .before .before .before .args .base) (c .before .before .before .before .before .before .before .before .before .before .before .before .before .before .before .before .args .steps) (substOf (c .before .before .before .before .before .before .before .before .before .before .before .before .before .before .before .before .args .subs .now)) (c .before .before .before .before .before .before .before .before .before .before .before .before .before .before .before .before .args .list .now) (c .before .before .before .before .before .before .before .before .before .before .before .before .before .before .before .before .pre .1 .1) (sym (c .before .before .before .before .before .before .before .before .before .before .before .before .before .node-at .ensures) ∙ c .before .before .before .before .before .before .before .before .before .before .before .node .given .1) (c .before .before .before .before .before .before .before .before .put-tree .ensures .0) (c .before .before .before .before .before .before .before .before .put-tree .ensures .1) (c .before .before .before .before .put-tree2 .ensures .0) (c .before .before .before .before .put-tree2 .ensures .1) in omega (arith, w .1)
 
-put-tree-put-node-requires : (t : ℕ) → put-tree-lts.Need-put-node-requires (
-  node-at-reads.Asked,
-  node-at-reads.Learnt,
-  put-tree-below t,
-  put-tree.Post,
-  operator-number-reads.Asked,
-  operator-number-reads.Learnt,
-  put-node-reads.Asked,
-  put-node-reads.Learnt,
-  put-leaf-reads.Asked,
-  put-leaf-reads.Learnt,
-  resolve-reads.Asked,
-  resolve-reads.Learnt,
-) (put-tree-at t) put-tree.Post
+put-tree-put-node-requires : (t : ℕ) → put-tree-lts.Need-put-node-requires (put-tree-claims t) (put-tree-at t) put-tree.Post
 put-tree-put-node-requires t c κs = room-root (c .before .before .before .before .before .before .before .before .before .before .before .before .before .before .before .before .pre .1 .0) (c .before .before .before .before .before .before .before .before .before .before .before .before .before .before .before .before .args .base) (c .before .before .before .before .before .before .before .before .before .before .before .before .before .before .before .before .args .steps) (substOf (c .before .before .before .before .before .before .before .before .before .before .before .before .before .before .before .before .args .subs .now)) (c .before .before .before .before .before .before .before .before .before .before .before .before .before .before .before .before .args .list .now) (c .before .before .before .before .before .before .before .before .before .before .before .before .before .before .before .before .pre .1 .1) (sym (c .before .before .before .before .before .before .before .before .before .before .before .before .before .node-at .ensures) ∙ c .before .before .before .before .before .before .before .before .before .before .before .node .given .1) (c .before .before .before .before .before .before .before .before .put-tree .ensures .0) (c .before .before .before .before .before .before .before .before .put-tree .ensures .1) (c .before .before .before .before .put-tree2 .ensures .0) (c .before .before .before .before .put-tree2 .ensures .1) .0
 
-put-tree-add-result : (t : ℕ) → put-tree-lts.Need-add-result (
-  node-at-reads.Asked,
-  node-at-reads.Learnt,
-  put-tree-below t,
-  put-tree.Post,
-  operator-number-reads.Asked,
-  operator-number-reads.Learnt,
-  put-node-reads.Asked,
-  put-node-reads.Learnt,
-  put-leaf-reads.Asked,
-  put-leaf-reads.Learnt,
-  resolve-reads.Asked,
-  resolve-reads.Learnt,
-) (put-tree-at t) put-tree.Post
+put-tree-add-result : (t : ℕ) → put-tree-lts.Need-add-result (put-tree-claims t) (put-tree-at t) put-tree.Post
 put-tree-add-result t c = let w = room-root (c .before .before .before .before .before .before .before .before .before .before .before .before .before .before .before .before .before .before .before .pre .1 .0) (c .before .before .before .before .before .before .before .before .before .before .before .before .before .before .before .before .before .before .before .args .base) (c .before .before .before .before .before .before .before .before .before .before .before .before .before .before .before .before .before .before .before .args .steps) (substOf (c .before .before .before .before .before .before .before .before .before .before .before .before .before .before .before .before .before .before .before .args .subs .now)) (c .before .before .before .before .before .before .before .before .before .before .before .before .before .before .before .before .before .before .before .args .list .now) (c .before .before .before .before .before .before .before .before .before .before .before .before .before .before .before .before .before .before .before .pre .1 .1) (sym (c .before .before .before .before .before .before .before .before .before .before .before .before .before .before .before .before .node-at .ensures) ∙ c .before .before .before .before .before .before .before .before .before .before .before .before .before .before .node .given .1) (c .before .before .before .before .before .before .before .before .before .before .before .put-tree .ensures .0) (c .before .before .before .before .before .before .before .before .before .before .before .put-tree .ensures .1) (c .before .before .before .before .before .before .before .put-tree2 .ensures .0) (c .before .before .before .before .before .before .before .put-tree2 .ensures .1) in omega (arith, w .1)
 
-put-tree-enum-known-node-2 : (t : ℕ) → put-tree-lts.Need-enum-known-node-2 (
-  node-at-reads.Asked,
-  node-at-reads.Learnt,
-  put-tree-below t,
-  put-tree.Post,
-  operator-number-reads.Asked,
-  operator-number-reads.Learnt,
-  put-node-reads.Asked,
-  put-node-reads.Learnt,
-  put-leaf-reads.Asked,
-  put-leaf-reads.Learnt,
-  resolve-reads.Asked,
-  resolve-reads.Learnt,
-) (put-tree-at t) put-tree.Post
+put-tree-enum-known-node-2 : (t : ℕ) → put-tree-lts.Need-enum-known-node-2 (put-tree-claims t) (put-tree-at t) put-tree.Post
 put-tree-enum-known-node-2 t c = search needs
 
-put-tree-put-tree-requires-3 : (t : ℕ) → put-tree-lts.Need-put-tree-requires-3 (
-  node-at-reads.Asked,
-  node-at-reads.Learnt,
-  put-tree-below t,
-  put-tree.Post,
-  operator-number-reads.Asked,
-  operator-number-reads.Learnt,
-  put-node-reads.Asked,
-  put-node-reads.Learnt,
-  put-leaf-reads.Asked,
-  put-leaf-reads.Learnt,
-  resolve-reads.Asked,
-  resolve-reads.Learnt,
-) (put-tree-at t) put-tree.Post
+put-tree-put-tree-requires-3 : (t : ℕ) → put-tree-lts.Need-put-tree-requires-3 (put-tree-claims t) (put-tree-at t) put-tree.Post
 put-tree-put-tree-requires-3 t c κs = let w = child-inside (c .before .before .before .before .before .before .before .pre .1 .0) (sym (c .before .before .before .before .node-at .ensures) ∙ c .before .before .node2 .given .1) in (omega (arith, w .0, c .before .before .before .before .before .before .before .pre .0), (w .1, room-child (c .before .before .before .before .before .before .before .pre .1 .0) (c .before .before .before .before .before .before .before .args .base) (c .before .before .before .before .before .before .before .args .steps) (substOf (c .before .before .before .before .before .before .before .args .subs .now)) (c .before .before .before .before .before .before .before .args .list .now) (c .before .before .before .before .before .before .before .pre .1 .1) (sym (c .before .before .before .before .node-at .ensures) ∙ c .before .before .node2 .given .1)))
 
-put-tree-mul-put-node-2 : (t : ℕ) → put-tree-lts.Need-mul-put-node-2 (
-  node-at-reads.Asked,
-  node-at-reads.Learnt,
-  put-tree-below t,
-  put-tree.Post,
-  operator-number-reads.Asked,
-  operator-number-reads.Learnt,
-  put-node-reads.Asked,
-  put-node-reads.Learnt,
-  put-leaf-reads.Asked,
-  put-leaf-reads.Learnt,
-  resolve-reads.Asked,
-  resolve-reads.Learnt,
-) (put-tree-at t) put-tree.Post
+put-tree-mul-put-node-2 : (t : ℕ) → put-tree-lts.Need-mul-put-node-2 (put-tree-claims t) (put-tree-at t) put-tree.Post
 put-tree-mul-put-node-2 t c = let w = room-above (c .before .before .before .before .before .before .before .before .before .before .before .pre .1 .0) (c .before .before .before .before .before .before .before .before .before .before .before .args .base) (c .before .before .before .before .before .before .before .before .before .before .before .args .steps) (substOf (c .before .before .before .before .before .before .before .before .before .before .before .args .subs .now)) (c .before .before .before .before .before .before .before .before .before .before .before .args .list .now) (c .before .before .before .before .before .before .before .before .before .before .before .pre .1 .1) (sym (c .before .before .before .before .before .before .before .before .node-at .ensures) ∙ c .before .before .before .before .before .before .node2 .given .1) (c .before .before .before .put-tree3 .ensures .0) (c .before .before .before .put-tree3 .ensures .1) in omega (arith, w .1)
 
-put-tree-sub-put-node-3 : (t : ℕ) → put-tree-lts.Need-sub-put-node-3 (
-  node-at-reads.Asked,
-  node-at-reads.Learnt,
-  put-tree-below t,
-  put-tree.Post,
-  operator-number-reads.Asked,
-  operator-number-reads.Learnt,
-  put-node-reads.Asked,
-  put-node-reads.Learnt,
-  put-leaf-reads.Asked,
-  put-leaf-reads.Learnt,
-  resolve-reads.Asked,
-  resolve-reads.Learnt,
-) (put-tree-at t) put-tree.Post
+put-tree-sub-put-node-3 : (t : ℕ) → put-tree-lts.Need-sub-put-node-3 (put-tree-claims t) (put-tree-at t) put-tree.Post
 put-tree-sub-put-node-3 t c = let w = room-above (c .before .before .before .before .before .before .before .before .before .before .before .pre .1 .0) (c .before .before .before .before .before .before .before .before .before .before .before .args .base) (c .before .before .before .before .before .before .before .before .before .before .before .args .steps) (substOf (c .before .before .before .before .before .before .before .before .before .before .before .args .subs .now)) (c .before .before .before .before .before .before .before .before .before .before .before .args .list .now) (c .before .before .before .before .before .before .before .before .before .before .before .pre .1 .1) (sym (c .before .before .before .before .before .before .before .before .node-at .ensures) ∙ c .before .before .before .before .before .before .node2 .given .1) (c .before .before .before .put-tree3 .ensures .0) (c .before .before .before .put-tree3 .ensures .1) in omega (arith, w .2)
 
-put-tree-cast-put-node-3 : (t : ℕ) → put-tree-lts.Need-cast-put-node-3 (
-  node-at-reads.Asked,
-  node-at-reads.Learnt,
-  put-tree-below t,
-  put-tree.Post,
-  operator-number-reads.Asked,
-  operator-number-reads.Learnt,
-  put-node-reads.Asked,
-  put-node-reads.Learnt,
-  put-leaf-reads.Asked,
-  put-leaf-reads.Learnt,
-  resolve-reads.Asked,
-  resolve-reads.Learnt,
-) (put-tree-at t) put-tree.Post
+put-tree-cast-put-node-3 : (t : ℕ) → put-tree-lts.Need-cast-put-node-3 (put-tree-claims t) (put-tree-at t) put-tree.Post
 put-tree-cast-put-node-3 t c = let w = room-above (c .before .before .before .before .before .before .before .before .before .before .before .pre .1 .0) (c .before .before .before .before .before .before .before .before .before .before .before .args .base) (c .before .before .before .before .before .before .before .before .before .before .before .args .steps) (substOf (c .before .before .before .before .before .before .before .before .before .before .before .args .subs .now)) (c .before .before .before .before .before .before .before .before .before .before .before .args .list .now) (c .before .before .before .before .before .before .before .before .before .before .before .pre .1 .1) (sym (c .before .before .before .before .before .before .before .before .node-at .ensures) ∙ c .before .before .before .before .before .before .node2 .given .1) (c .before .before .before .put-tree3 .ensures .0) (c .before .before .before .put-tree3 .ensures .1) in omega (arith, w .1)
 
-put-tree-put-node-requires-2 : (t : ℕ) → put-tree-lts.Need-put-node-requires-2 (
-  node-at-reads.Asked,
-  node-at-reads.Learnt,
-  put-tree-below t,
-  put-tree.Post,
-  operator-number-reads.Asked,
-  operator-number-reads.Learnt,
-  put-node-reads.Asked,
-  put-node-reads.Learnt,
-  put-leaf-reads.Asked,
-  put-leaf-reads.Learnt,
-  resolve-reads.Asked,
-  resolve-reads.Learnt,
-) (put-tree-at t) put-tree.Post
+put-tree-put-node-requires-2 : (t : ℕ) → put-tree-lts.Need-put-node-requires-2 (put-tree-claims t) (put-tree-at t) put-tree.Post
 put-tree-put-node-requires-2 t c κs = room-above (c .before .before .before .before .before .before .before .before .before .before .before .pre .1 .0) (c .before .before .before .before .before .before .before .before .before .before .before .args .base) (c .before .before .before .before .before .before .before .before .before .before .before .args .steps) (substOf (c .before .before .before .before .before .before .before .before .before .before .before .args .subs .now)) (c .before .before .before .before .before .before .before .before .before .before .before .args .list .now) (c .before .before .before .before .before .before .before .before .before .before .before .pre .1 .1) (sym (c .before .before .before .before .before .before .before .before .node-at .ensures) ∙ c .before .before .before .before .before .before .node2 .given .1) (c .before .before .before .put-tree3 .ensures .0) (c .before .before .before .put-tree3 .ensures .1) .0
 
-put-tree-add-result-2 : (t : ℕ) → put-tree-lts.Need-add-result-2 (
-  node-at-reads.Asked,
-  node-at-reads.Learnt,
-  put-tree-below t,
-  put-tree.Post,
-  operator-number-reads.Asked,
-  operator-number-reads.Learnt,
-  put-node-reads.Asked,
-  put-node-reads.Learnt,
-  put-leaf-reads.Asked,
-  put-leaf-reads.Learnt,
-  resolve-reads.Asked,
-  resolve-reads.Learnt,
-) (put-tree-at t) put-tree.Post
+put-tree-add-result-2 : (t : ℕ) → put-tree-lts.Need-add-result-2 (put-tree-claims t) (put-tree-at t) put-tree.Post
 put-tree-add-result-2 t c = let w = room-above (c .before .before .before .before .before .before .before .before .before .before .before .before .before .before .pre .1 .0) (c .before .before .before .before .before .before .before .before .before .before .before .before .before .before .args .base) (c .before .before .before .before .before .before .before .before .before .before .before .before .before .before .args .steps) (substOf (c .before .before .before .before .before .before .before .before .before .before .before .before .before .before .args .subs .now)) (c .before .before .before .before .before .before .before .before .before .before .before .before .before .before .args .list .now) (c .before .before .before .before .before .before .before .before .before .before .before .before .before .before .pre .1 .1) (sym (c .before .before .before .before .before .before .before .before .before .before .before .node-at .ensures) ∙ c .before .before .before .before .before .before .before .before .before .node2 .given .1) (c .before .before .before .before .before .before .put-tree3 .ensures .0) (c .before .before .before .before .before .before .put-tree3 .ensures .1) in omega (arith, w .1)
 
-put-tree-enum-known-node-3 : (t : ℕ) → put-tree-lts.Need-enum-known-node-3 (
-  node-at-reads.Asked,
-  node-at-reads.Learnt,
-  put-tree-below t,
-  put-tree.Post,
-  operator-number-reads.Asked,
-  operator-number-reads.Learnt,
-  put-node-reads.Asked,
-  put-node-reads.Learnt,
-  put-leaf-reads.Asked,
-  put-leaf-reads.Learnt,
-  resolve-reads.Asked,
-  resolve-reads.Learnt,
-) (put-tree-at t) put-tree.Post
+put-tree-enum-known-node-3 : (t : ℕ) → put-tree-lts.Need-enum-known-node-3 (put-tree-claims t) (put-tree-at t) put-tree.Post
 put-tree-enum-known-node-3 t c = search needs
 
-put-tree-put-leaf-requires : (t : ℕ) → put-tree-lts.Need-put-leaf-requires (
-  node-at-reads.Asked,
-  node-at-reads.Learnt,
-  put-tree-below t,
-  put-tree.Post,
-  operator-number-reads.Asked,
-  operator-number-reads.Learnt,
-  put-node-reads.Asked,
-  put-node-reads.Learnt,
-  put-leaf-reads.Asked,
-  put-leaf-reads.Learnt,
-  resolve-reads.Asked,
-  resolve-reads.Learnt,
-) (put-tree-at t) put-tree.Post
+put-tree-put-leaf-requires : (t : ℕ) → put-tree-lts.Need-put-leaf-requires (put-tree-claims t) (put-tree-at t) put-tree.Post
 put-tree-put-leaf-requires t c κs = room-leaf (c .before .before .before .before .before .before .before .pre .1 .0) (c .before .before .before .before .before .before .before .args .base) (c .before .before .before .before .before .before .before .args .steps) (substOf (c .before .before .before .before .before .before .before .args .subs .now)) (c .before .before .before .before .before .before .before .args .list .now) (c .before .before .before .before .before .before .before .pre .1 .1)
 
-put-tree-add-result-3 : (t : ℕ) → put-tree-lts.Need-add-result-3 (
-  node-at-reads.Asked,
-  node-at-reads.Learnt,
-  put-tree-below t,
-  put-tree.Post,
-  operator-number-reads.Asked,
-  operator-number-reads.Learnt,
-  put-node-reads.Asked,
-  put-node-reads.Learnt,
-  put-leaf-reads.Asked,
-  put-leaf-reads.Learnt,
-  resolve-reads.Asked,
-  resolve-reads.Learnt,
-) (put-tree-at t) put-tree.Post
+put-tree-add-result-3 : (t : ℕ) → put-tree-lts.Need-add-result-3 (put-tree-claims t) (put-tree-at t) put-tree.Post
 put-tree-add-result-3 t c = let w = room-leaf (c .before .before .before .before .before .before .before .before .before .before .pre .1 .0) (c .before .before .before .before .before .before .before .before .before .before .args .base) (c .before .before .before .before .before .before .before .before .before .before .args .steps) (substOf (c .before .before .before .before .before .before .before .before .before .before .args .subs .now)) (c .before .before .before .before .before .before .before .before .before .before .args .list .now) (c .before .before .before .before .before .before .before .before .before .before .pre .1 .1) in omega (arith, w .few)
 
-put-tree-enum-known-node-4 : (t : ℕ) → put-tree-lts.Need-enum-known-node-4 (
-  node-at-reads.Asked,
-  node-at-reads.Learnt,
-  put-tree-below t,
-  put-tree.Post,
-  operator-number-reads.Asked,
-  operator-number-reads.Learnt,
-  put-node-reads.Asked,
-  put-node-reads.Learnt,
-  put-leaf-reads.Asked,
-  put-leaf-reads.Learnt,
-  resolve-reads.Asked,
-  resolve-reads.Learnt,
-) (put-tree-at t) put-tree.Post
+put-tree-enum-known-node-4 : (t : ℕ) → put-tree-lts.Need-enum-known-node-4 (put-tree-claims t) (put-tree-at t) put-tree.Post
 put-tree-enum-known-node-4 t c = search needs
 
-put-tree-resolve-requires : (t : ℕ) → put-tree-lts.Need-resolve-requires (
-  node-at-reads.Asked,
-  node-at-reads.Learnt,
-  put-tree-below t,
-  put-tree.Post,
-  operator-number-reads.Asked,
-  operator-number-reads.Learnt,
-  put-node-reads.Asked,
-  put-node-reads.Learnt,
-  put-leaf-reads.Asked,
-  put-leaf-reads.Learnt,
-  resolve-reads.Asked,
-  resolve-reads.Learnt,
-) (put-tree-at t) put-tree.Post
+put-tree-resolve-requires : (t : ℕ) → put-tree-lts.Need-resolve-requires (put-tree-claims t) (put-tree-at t) put-tree.Post
 put-tree-resolve-requires t c κs = search needs
 
-put-tree-put-leaf-requires-2 : (t : ℕ) → put-tree-lts.Need-put-leaf-requires-2 (
-  node-at-reads.Asked,
-  node-at-reads.Learnt,
-  put-tree-below t,
-  put-tree.Post,
-  operator-number-reads.Asked,
-  operator-number-reads.Learnt,
-  put-node-reads.Asked,
-  put-node-reads.Learnt,
-  put-leaf-reads.Asked,
-  put-leaf-reads.Learnt,
-  resolve-reads.Asked,
-  resolve-reads.Learnt,
-) (put-tree-at t) put-tree.Post
+put-tree-put-leaf-requires-2 : (t : ℕ) → put-tree-lts.Need-put-leaf-requires-2 (put-tree-claims t) (put-tree-at t) put-tree.Post
 put-tree-put-leaf-requires-2 t c κs = room-leaf (c .before .before .before .before .before .before .before .before .pre .1 .0) (c .before .before .before .before .before .before .before .before .args .base) (c .before .before .before .before .before .before .before .before .args .steps) (substOf (c .before .before .before .before .before .before .before .before .args .subs .now)) (c .before .before .before .before .before .before .before .before .args .list .now) (c .before .before .before .before .before .before .before .before .pre .1 .1)
 
-put-tree-add-result-4 : (t : ℕ) → put-tree-lts.Need-add-result-4 (
-  node-at-reads.Asked,
-  node-at-reads.Learnt,
-  put-tree-below t,
-  put-tree.Post,
-  operator-number-reads.Asked,
-  operator-number-reads.Learnt,
-  put-node-reads.Asked,
-  put-node-reads.Learnt,
-  put-leaf-reads.Asked,
-  put-leaf-reads.Learnt,
-  resolve-reads.Asked,
-  resolve-reads.Learnt,
-) (put-tree-at t) put-tree.Post
+put-tree-add-result-4 : (t : ℕ) → put-tree-lts.Need-add-result-4 (put-tree-claims t) (put-tree-at t) put-tree.Post
 put-tree-add-result-4 t c = let w = room-leaf (c .before .before .before .before .before .before .before .before .before .before .before .pre .1 .0) (c .before .before .before .before .before .before .before .before .before .before .before .args .base) (c .before .before .before .before .before .before .before .before .before .before .before .args .steps) (substOf (c .before .before .before .before .before .before .before .before .before .before .before .args .subs .now)) (c .before .before .before .before .before .before .before .before .before .before .before .args .list .now) (c .before .before .before .before .before .before .before .before .before .before .before .pre .1 .1) in omega (arith, w .few)
 
-put-tree-same-length : (t : ℕ) → put-tree-lts.Need-same-length (
-  node-at-reads.Asked,
-  node-at-reads.Learnt,
-  put-tree-below t,
-  put-tree.Post,
-  operator-number-reads.Asked,
-  operator-number-reads.Learnt,
-  put-node-reads.Asked,
-  put-node-reads.Learnt,
-  put-leaf-reads.Asked,
-  put-leaf-reads.Learnt,
-  resolve-reads.Asked,
-  resolve-reads.Learnt,
-) (put-tree-at t) put-tree.Post
+put-tree-same-length : (t : ℕ) → put-tree-lts.Need-same-length (put-tree-claims t) (put-tree-at t) put-tree.Post
 put-tree-same-length t c = search needs
 
-put-tree-returns : (t : ℕ) → put-tree-lts.Need-returns (
-  node-at-reads.Asked,
-  node-at-reads.Learnt,
-  put-tree-below t,
-  put-tree.Post,
-  operator-number-reads.Asked,
-  operator-number-reads.Learnt,
-  put-node-reads.Asked,
-  put-node-reads.Learnt,
-  put-leaf-reads.Asked,
-  put-leaf-reads.Learnt,
-  resolve-reads.Asked,
-  resolve-reads.Learnt,
-) (put-tree-at t) put-tree.Post
+put-tree-returns : (t : ℕ) → put-tree-lts.Need-returns (put-tree-claims t) (put-tree-at t) put-tree.Post
 put-tree-returns t c = put-infix (c .before .before .before .before .before .before .before .before .before .before .before .before .before .before .before .before .before .before .before .args .list .now) (c .before .before .before .before .before .before .before .before .before .before .before .before .before .before .before .before .before .before .before .args .base) (copy-infix (c .before .before .before .before .before .before .before .before .before .before .before .before .before .before .before .before .before .before .before .pre .1 .0) _ _ (sym (c .before .before .before .before .before .before .before .before .before .before .before .before .before .before .before .before .node-at .ensures) ∙ c .before .before .before .before .before .before .before .before .before .before .before .before .before .before .node .given .1)) (c .before .before .before .before .before .before .before .before .before .before .before .put-tree .ensures .0) (c .before .before .before .before .before .before .before .before .before .before .before .put-tree .ensures .1) (c .before .before .before .before .before .before .before .put-tree2 .ensures .0) (c .before .before .before .before .before .before .before .put-tree2 .ensures .1) (c .before .before .before .before .operator-number .ensures) (c .before .before .put-node .ensures)
 
-put-tree-same-length-2 : (t : ℕ) → put-tree-lts.Need-same-length-2 (
-  node-at-reads.Asked,
-  node-at-reads.Learnt,
-  put-tree-below t,
-  put-tree.Post,
-  operator-number-reads.Asked,
-  operator-number-reads.Learnt,
-  put-node-reads.Asked,
-  put-node-reads.Learnt,
-  put-leaf-reads.Asked,
-  put-leaf-reads.Learnt,
-  resolve-reads.Asked,
-  resolve-reads.Learnt,
-) (put-tree-at t) put-tree.Post
+put-tree-same-length-2 : (t : ℕ) → put-tree-lts.Need-same-length-2 (put-tree-claims t) (put-tree-at t) put-tree.Post
 put-tree-same-length-2 t c = search needs
 
-put-tree-returns-2 : (t : ℕ) → put-tree-lts.Need-returns-2 (
-  node-at-reads.Asked,
-  node-at-reads.Learnt,
-  put-tree-below t,
-  put-tree.Post,
-  operator-number-reads.Asked,
-  operator-number-reads.Learnt,
-  put-node-reads.Asked,
-  put-node-reads.Learnt,
-  put-leaf-reads.Asked,
-  put-leaf-reads.Learnt,
-  resolve-reads.Asked,
-  resolve-reads.Learnt,
-) (put-tree-at t) put-tree.Post
+put-tree-returns-2 : (t : ℕ) → put-tree-lts.Need-returns-2 (put-tree-claims t) (put-tree-at t) put-tree.Post
 put-tree-returns-2 t c = put-negate (c .before .before .before .before .before .before .before .before .before .before .before .before .before .before .args .list .now) (c .before .before .before .before .before .before .before .before .before .before .before .before .before .before .args .base) (copy-negate (c .before .before .before .before .before .before .before .before .before .before .before .before .before .before .pre .1 .0) _ _ (sym (c .before .before .before .before .before .before .before .before .before .before .before .node-at .ensures) ∙ c .before .before .before .before .before .before .before .before .before .node2 .given .1)) (c .before .before .before .before .before .before .put-tree3 .ensures .0) (c .before .before .before .before .before .before .put-tree3 .ensures .1) (c .before .before .put-node2 .ensures)
 
-put-tree-same-length-3 : (t : ℕ) → put-tree-lts.Need-same-length-3 (
-  node-at-reads.Asked,
-  node-at-reads.Learnt,
-  put-tree-below t,
-  put-tree.Post,
-  operator-number-reads.Asked,
-  operator-number-reads.Learnt,
-  put-node-reads.Asked,
-  put-node-reads.Learnt,
-  put-leaf-reads.Asked,
-  put-leaf-reads.Learnt,
-  resolve-reads.Asked,
-  resolve-reads.Learnt,
-) (put-tree-at t) put-tree.Post
+put-tree-same-length-3 : (t : ℕ) → put-tree-lts.Need-same-length-3 (put-tree-claims t) (put-tree-at t) put-tree.Post
 put-tree-same-length-3 t c = search needs
 
-put-tree-returns-3 : (t : ℕ) → put-tree-lts.Need-returns-3 (
-  node-at-reads.Asked,
-  node-at-reads.Learnt,
-  put-tree-below t,
-  put-tree.Post,
-  operator-number-reads.Asked,
-  operator-number-reads.Learnt,
-  put-node-reads.Asked,
-  put-node-reads.Learnt,
-  put-leaf-reads.Asked,
-  put-leaf-reads.Learnt,
-  resolve-reads.Asked,
-  resolve-reads.Learnt,
-) (put-tree-at t) put-tree.Post
+put-tree-returns-3 : (t : ℕ) → put-tree-lts.Need-returns-3 (put-tree-claims t) (put-tree-at t) put-tree.Post
 put-tree-returns-3 t c = put-term (c .before .before .before .before .before .before .before .before .before .before .args .list .now) (c .before .before .before .before .before .before .before .before .before .before .args .base) (copy-constant (c .before .before .before .before .before .before .before .before .before .before .pre .1 .0) _ _ (sym (c .before .before .before .before .before .before .before .node-at .ensures) ∙ c .before .before .before .before .before .node3 .given .1)) (ap Term.Constant (toZ-ofZ w32 _ (record { sfits = c .before .before .before .before .known-told3 .given .0 .1 }))) (c .before .before .put-leaf .ensures)
 
-put-tree-same-length-4 : (t : ℕ) → put-tree-lts.Need-same-length-4 (
-  node-at-reads.Asked,
-  node-at-reads.Learnt,
-  put-tree-below t,
-  put-tree.Post,
-  operator-number-reads.Asked,
-  operator-number-reads.Learnt,
-  put-node-reads.Asked,
-  put-node-reads.Learnt,
-  put-leaf-reads.Asked,
-  put-leaf-reads.Learnt,
-  resolve-reads.Asked,
-  resolve-reads.Learnt,
-) (put-tree-at t) put-tree.Post
+put-tree-same-length-4 : (t : ℕ) → put-tree-lts.Need-same-length-4 (put-tree-claims t) (put-tree-at t) put-tree.Post
 put-tree-same-length-4 t c = search needs
 
-put-tree-returns-4 : (t : ℕ) → put-tree-lts.Need-returns-4 (
-  node-at-reads.Asked,
-  node-at-reads.Learnt,
-  put-tree-below t,
-  put-tree.Post,
-  operator-number-reads.Asked,
-  operator-number-reads.Learnt,
-  put-node-reads.Asked,
-  put-node-reads.Learnt,
-  put-leaf-reads.Asked,
-  put-leaf-reads.Learnt,
-  resolve-reads.Asked,
-  resolve-reads.Learnt,
-) (put-tree-at t) put-tree.Post
+put-tree-returns-4 : (t : ℕ) → put-tree-lts.Need-returns-4 (put-tree-claims t) (put-tree-at t) put-tree.Post
 put-tree-returns-4 t c = put-term (c .before .before .before .before .before .before .before .before .before .before .before .args .list .now) (c .before .before .before .before .before .before .before .before .before .before .before .args .base) (copy-variable (c .before .before .before .before .before .before .before .before .before .before .before .pre .1 .0) _ _ (sym (c .before .before .before .before .before .before .before .before .node-at .ensures) ∙ c .before .before .before .before .before .before .node4 .given .1)) (c .before .before .before .resolve .ensures) (c .before .before .put-leaf2 .ensures)
 
 pub +put-tree-spec : {M : Type 1} → statement M

@@ -41,248 +41,84 @@ abbrev write-tree-below : ℕ → In 3 write-tree-kinds.ps
 write-tree-below t =
     and 3 write-tree-kinds.ps (falls 3 write-tree-kinds.ps _<_ μ-write-tree t) write-tree.Pre
 
+abbrev write-below-claims : ℕ → write-below-lts.Claims
+write-below-claims t = (
+  write-tree-below t,
+  write-tree.Post,
+)
+
+abbrev write-tree-claims : ℕ → write-tree-lts.Claims
+write-tree-claims t = (
+  kind-reads.Asked,
+  kind-reads.Learnt,
+  node-word-reads.Asked,
+  node-word-reads.Learnt,
+  write-below-below t,
+  write-below.Post,
+  below-reads.Asked,
+  below-reads.Learnt,
+  add-node-reads.Asked,
+  add-node-reads.Learnt,
+)
+
 write-below-returns :
     (t : ℕ) →
-    write-below-lts.Need-returns
-    (write-tree-below t, write-tree.Post)
-    (write-below-at t)
+    write-below-lts.Need-returns (write-below-claims t) (write-below-at t)
     write-below.Post
 write-below-returns t c = (high _ _ _ _ _ _ _ (c .if1 .taken), c .before .before .pre .1 .1)
 
-write-below-write-tree-requires : (t : ℕ) → write-below-lts.Need-write-tree-requires (
-  write-tree-below t,
-  write-tree.Post,
-) (write-below-at t) write-below.Post
+write-below-write-tree-requires : (t : ℕ) → write-below-lts.Need-write-tree-requires (write-below-claims t) (write-below-at t) write-below.Post
 write-below-write-tree-requires t c κs = (omega (arith, c .before .before .before .pre .0, c .before .if1 .left), (c .before .before .before .pre .1 .0, c .before .before .before .pre .1 .1))
 
-write-below-returns-2 : (t : ℕ) → write-below-lts.Need-returns-2 (
-  write-tree-below t,
-  write-tree.Post,
-) (write-below-at t) write-below.Post
+write-below-returns-2 : (t : ℕ) → write-below-lts.Need-returns-2 (write-below-claims t) (write-below-at t) write-below.Post
 write-below-returns-2 t c = (low _ _ _ _ _ _ _ (omega (arith, c .before .before .if1 .left)) (c .write-tree .ensures .0), c .write-tree .ensures .1)
 
-write-tree-kind-requires : (t : ℕ) → write-tree-lts.Need-kind-requires (
-  kind-reads.Asked,
-  kind-reads.Learnt,
-  node-word-reads.Asked,
-  node-word-reads.Learnt,
-  write-below-below t,
-  write-below.Post,
-  below-reads.Asked,
-  below-reads.Learnt,
-  add-node-reads.Asked,
-  add-node-reads.Learnt,
-) (write-tree-at t) write-tree.Post
+write-tree-kind-requires : (t : ℕ) → write-tree-lts.Need-kind-requires (write-tree-claims t) (write-tree-at t) write-tree.Post
 write-tree-kind-requires t c κs = search needs
 
-write-tree-node-word-requires : (t : ℕ) → write-tree-lts.Need-node-word-requires (
-  kind-reads.Asked,
-  kind-reads.Learnt,
-  node-word-reads.Asked,
-  node-word-reads.Learnt,
-  write-below-below t,
-  write-below.Post,
-  below-reads.Asked,
-  below-reads.Learnt,
-  add-node-reads.Asked,
-  add-node-reads.Learnt,
-) (write-tree-at t) write-tree.Post
+write-tree-node-word-requires : (t : ℕ) → write-tree-lts.Need-node-word-requires (write-tree-claims t) (write-tree-at t) write-tree.Post
 write-tree-node-word-requires t c κs = search needs
 
-write-tree-write-below-requires : (t : ℕ) → write-tree-lts.Need-write-below-requires (
-  kind-reads.Asked,
-  kind-reads.Learnt,
-  node-word-reads.Asked,
-  node-word-reads.Learnt,
-  write-below-below t,
-  write-below.Post,
-  below-reads.Asked,
-  below-reads.Learnt,
-  add-node-reads.Asked,
-  add-node-reads.Learnt,
-) (write-tree-at t) write-tree.Post
+write-tree-write-below-requires : (t : ℕ) → write-tree-lts.Need-write-below-requires (write-tree-claims t) (write-tree-at t) write-tree.Post
 write-tree-write-below-requires t c κs = (omega (arith, c .before .before .before .before .before .pre .0), (c .before .before .before .before .before .pre .1 .0, c .before .before .before .before .before .pre .1 .1))
 
-write-tree-below-requires : (t : ℕ) → write-tree-lts.Need-below-requires (
-  kind-reads.Asked,
-  kind-reads.Learnt,
-  node-word-reads.Asked,
-  node-word-reads.Learnt,
-  write-below-below t,
-  write-below.Post,
-  below-reads.Asked,
-  below-reads.Learnt,
-  add-node-reads.Asked,
-  add-node-reads.Learnt,
-) (write-tree-at t) write-tree.Post
+write-tree-below-requires : (t : ℕ) → write-tree-lts.Need-below-requires (write-tree-claims t) (write-tree-at t) write-tree.Post
 write-tree-below-requires t c κs = search needs
 
-write-tree-add-node-requires : (t : ℕ) → write-tree-lts.Need-add-node-requires (
-  kind-reads.Asked,
-  kind-reads.Learnt,
-  node-word-reads.Asked,
-  node-word-reads.Learnt,
-  write-below-below t,
-  write-below.Post,
-  below-reads.Asked,
-  below-reads.Learnt,
-  add-node-reads.Asked,
-  add-node-reads.Learnt,
-) (write-tree-at t) write-tree.Post
+write-tree-add-node-requires : (t : ℕ) → write-tree-lts.Need-add-node-requires (write-tree-claims t) (write-tree-at t) write-tree.Post
 write-tree-add-node-requires t c κs = (c .before .before .before .before .before .before .before .before .pre .1 .0, c .before .before .write-below .ensures .1)
 
-write-tree-returns : (t : ℕ) → write-tree-lts.Need-returns (
-  kind-reads.Asked,
-  kind-reads.Learnt,
-  node-word-reads.Asked,
-  node-word-reads.Learnt,
-  write-below-below t,
-  write-below.Post,
-  below-reads.Asked,
-  below-reads.Learnt,
-  add-node-reads.Asked,
-  add-node-reads.Learnt,
-) (write-tree-at t) write-tree.Post
+write-tree-returns : (t : ℕ) → write-tree-lts.Need-returns (write-tree-claims t) (write-tree-at t) write-tree.Post
 write-tree-returns t c = (tree-negate _ _ _ _ _ _ (c .before .before .before .before .before .before .before .kind .ensures .0) (c .before .before .before .before .before .before .node-word .ensures) (c .before .before .before .before .before .if1 .taken) (c .before .before .before .write-below .ensures .0) (c .before .below .ensures) (c .add-node .ensures .0), c .add-node .ensures .1)
 
-write-tree-add-node-requires-2 : (t : ℕ) → write-tree-lts.Need-add-node-requires-2 (
-  kind-reads.Asked,
-  kind-reads.Learnt,
-  node-word-reads.Asked,
-  node-word-reads.Learnt,
-  write-below-below t,
-  write-below.Post,
-  below-reads.Asked,
-  below-reads.Learnt,
-  add-node-reads.Asked,
-  add-node-reads.Learnt,
-) (write-tree-at t) write-tree.Post
+write-tree-add-node-requires-2 : (t : ℕ) → write-tree-lts.Need-add-node-requires-2 (write-tree-claims t) (write-tree-at t) write-tree.Post
 write-tree-add-node-requires-2 t c κs = (c .before .before .before .before .before .before .pre .1 .0, c .before .before .before .before .before .before .pre .1 .1)
 
-write-tree-returns-2 : (t : ℕ) → write-tree-lts.Need-returns-2 (
-  kind-reads.Asked,
-  kind-reads.Learnt,
-  node-word-reads.Asked,
-  node-word-reads.Learnt,
-  write-below-below t,
-  write-below.Post,
-  below-reads.Asked,
-  below-reads.Learnt,
-  add-node-reads.Asked,
-  add-node-reads.Learnt,
-) (write-tree-at t) write-tree.Post
+write-tree-returns-2 : (t : ℕ) → write-tree-lts.Need-returns-2 (write-tree-claims t) (write-tree-at t) write-tree.Post
 write-tree-returns-2 t c = (tree-leaf _ _ _ _ _ _ (c .before .before .before .before .before .kind .ensures .0) (c .before .before .before .before .node-word .ensures) (c .before .before .before .if1 .left) (c .before .before .if2 .taken) (c .add-node2 .ensures .0), c .add-node2 .ensures .1)
 
-write-tree-node-word-requires-2 : (t : ℕ) → write-tree-lts.Need-node-word-requires-2 (
-  kind-reads.Asked,
-  kind-reads.Learnt,
-  node-word-reads.Asked,
-  node-word-reads.Learnt,
-  write-below-below t,
-  write-below.Post,
-  below-reads.Asked,
-  below-reads.Learnt,
-  add-node-reads.Asked,
-  add-node-reads.Learnt,
-) (write-tree-at t) write-tree.Post
+write-tree-node-word-requires-2 : (t : ℕ) → write-tree-lts.Need-node-word-requires-2 (write-tree-claims t) (write-tree-at t) write-tree.Post
 write-tree-node-word-requires-2 t c κs = search needs
 
-write-tree-node-word-requires-3 : (t : ℕ) → write-tree-lts.Need-node-word-requires-3 (
-  kind-reads.Asked,
-  kind-reads.Learnt,
-  node-word-reads.Asked,
-  node-word-reads.Learnt,
-  write-below-below t,
-  write-below.Post,
-  below-reads.Asked,
-  below-reads.Learnt,
-  add-node-reads.Asked,
-  add-node-reads.Learnt,
-) (write-tree-at t) write-tree.Post
+write-tree-node-word-requires-3 : (t : ℕ) → write-tree-lts.Need-node-word-requires-3 (write-tree-claims t) (write-tree-at t) write-tree.Post
 write-tree-node-word-requires-3 t c κs = search needs
 
-write-tree-write-below-requires-2 : (t : ℕ) → write-tree-lts.Need-write-below-requires-2 (
-  kind-reads.Asked,
-  kind-reads.Learnt,
-  node-word-reads.Asked,
-  node-word-reads.Learnt,
-  write-below-below t,
-  write-below.Post,
-  below-reads.Asked,
-  below-reads.Learnt,
-  add-node-reads.Asked,
-  add-node-reads.Learnt,
-) (write-tree-at t) write-tree.Post
+write-tree-write-below-requires-2 : (t : ℕ) → write-tree-lts.Need-write-below-requires-2 (write-tree-claims t) (write-tree-at t) write-tree.Post
 write-tree-write-below-requires-2 t c κs = (omega (arith, c .before .before .before .before .before .before .before .before .pre .0), (c .before .before .before .before .before .before .before .before .pre .1 .0, c .before .before .before .before .before .before .before .before .pre .1 .1))
 
-write-tree-write-below-requires-3 : (t : ℕ) → write-tree-lts.Need-write-below-requires-3 (
-  kind-reads.Asked,
-  kind-reads.Learnt,
-  node-word-reads.Asked,
-  node-word-reads.Learnt,
-  write-below-below t,
-  write-below.Post,
-  below-reads.Asked,
-  below-reads.Learnt,
-  add-node-reads.Asked,
-  add-node-reads.Learnt,
-) (write-tree-at t) write-tree.Post
+write-tree-write-below-requires-3 : (t : ℕ) → write-tree-lts.Need-write-below-requires-3 (write-tree-claims t) (write-tree-at t) write-tree.Post
 write-tree-write-below-requires-3 t c κs = (omega (arith, c .before .before .before .before .before .before .before .before .before .before .pre .0), (c .before .before .before .before .before .before .before .before .before .before .pre .1 .0, c .before .write-below2 .ensures .1))
 
-write-tree-below-requires-2 : (t : ℕ) → write-tree-lts.Need-below-requires-2 (
-  kind-reads.Asked,
-  kind-reads.Learnt,
-  node-word-reads.Asked,
-  node-word-reads.Learnt,
-  write-below-below t,
-  write-below.Post,
-  below-reads.Asked,
-  below-reads.Learnt,
-  add-node-reads.Asked,
-  add-node-reads.Learnt,
-) (write-tree-at t) write-tree.Post
+write-tree-below-requires-2 : (t : ℕ) → write-tree-lts.Need-below-requires-2 (write-tree-claims t) (write-tree-at t) write-tree.Post
 write-tree-below-requires-2 t c κs = search needs
 
-write-tree-below-requires-3 : (t : ℕ) → write-tree-lts.Need-below-requires-3 (
-  kind-reads.Asked,
-  kind-reads.Learnt,
-  node-word-reads.Asked,
-  node-word-reads.Learnt,
-  write-below-below t,
-  write-below.Post,
-  below-reads.Asked,
-  below-reads.Learnt,
-  add-node-reads.Asked,
-  add-node-reads.Learnt,
-) (write-tree-at t) write-tree.Post
+write-tree-below-requires-3 : (t : ℕ) → write-tree-lts.Need-below-requires-3 (write-tree-claims t) (write-tree-at t) write-tree.Post
 write-tree-below-requires-3 t c κs = search needs
 
-write-tree-add-node-requires-3 : (t : ℕ) → write-tree-lts.Need-add-node-requires-3 (
-  kind-reads.Asked,
-  kind-reads.Learnt,
-  node-word-reads.Asked,
-  node-word-reads.Learnt,
-  write-below-below t,
-  write-below.Post,
-  below-reads.Asked,
-  below-reads.Learnt,
-  add-node-reads.Asked,
-  add-node-reads.Learnt,
-) (write-tree-at t) write-tree.Post
+write-tree-add-node-requires-3 : (t : ℕ) → write-tree-lts.Need-add-node-requires-3 (write-tree-claims t) (write-tree-at t) write-tree.Post
 write-tree-add-node-requires-3 t c κs = (c .before .before .before .before .before .before .before .before .before .before .before .before .before .before .pre .1 .0, c .before .before .before .write-below3 .ensures .1)
 
-write-tree-returns-3 : (t : ℕ) → write-tree-lts.Need-returns-3 (
-  kind-reads.Asked,
-  kind-reads.Learnt,
-  node-word-reads.Asked,
-  node-word-reads.Learnt,
-  write-below-below t,
-  write-below.Post,
-  below-reads.Asked,
-  below-reads.Learnt,
-  add-node-reads.Asked,
-  add-node-reads.Learnt,
-) (write-tree-at t) write-tree.Post
+write-tree-returns-3 : (t : ℕ) → write-tree-lts.Need-returns-3 (write-tree-claims t) (write-tree-at t) write-tree.Post
 write-tree-returns-3 t c = (tree-infix _ _ _ _ _ _ (c .before .before .before .before .before .before .before .before .before .before .before .before .before .kind .ensures .0) (c .before .before .before .before .before .before .before .before .before .before .before .before .node-word .ensures) (c .before .before .before .before .before .before .before .before .before .before .before .if1 .left) (c .before .before .before .before .before .before .before .before .before .before .if2 .left) (c .before .before .before .before .before .before .before .before .before .node-word2 .ensures) (c .before .before .before .before .before .before .before .before .node-word3 .ensures) (c .before .before .before .before .before .before .write-below2 .ensures .0) (c .before .before .before .before .write-below3 .ensures .0) (c .before .before .below2 .ensures) (c .before .below3 .ensures) (c .add-node3 .ensures .0), c .add-node3 .ensures .1)
 
 pub +write-below+write-tree-spec : {M : Type 1} → statement M

@@ -25,20 +25,18 @@ abbrev power-count-below : ℕ → In 0 power-count-kinds.ps
 power-count-below t =
     and 0 power-count-kinds.ps (falls 0 power-count-kinds.ps _<_ μ-power-count t) power-count.Pre
 
-power-count-table-count-requires : (t : ℕ) → power-count-lts.Need-table-count-requires (
+abbrev power-count-claims : ℕ → power-count-lts.Claims
+power-count-claims t = (
   table-count-reads.Asked,
   table-count-reads.Learnt,
   power-count-below t,
   power-count.Post,
-) (power-count-at t) power-count.Post
+)
+
+power-count-table-count-requires : (t : ℕ) → power-count-lts.Need-table-count-requires (power-count-claims t) (power-count-at t) power-count.Post
 power-count-table-count-requires t c κs = (pos-of-ne-zero (c .before .if1 .left), c .if2 .taken)
 
-power-count-power-count-requires : (t : ℕ) → power-count-lts.Need-power-count-requires (
-  table-count-reads.Asked,
-  table-count-reads.Learnt,
-  power-count-below t,
-  power-count.Post,
-) (power-count-at t) power-count.Post
+power-count-power-count-requires : (t : ℕ) → power-count-lts.Need-power-count-requires (power-count-claims t) (power-count-at t) power-count.Post
 power-count-power-count-requires t c κs =
     let e : c .before .before .args .n ≡ t = c .before .before .pre .0 in (omega arith, tt)
 
@@ -46,44 +44,19 @@ power-count-power-count-requires t c κs =
 small : (t : ℕ) (c : power-count-lts.After-power-count (table-count-reads.Asked, table-count-reads.Learnt, power-count-below t, power-count.Post) (power-count-at t) power-count.Post) → c .power-count .result ≤ c .before .before .before .args .n / 2
 small t c = omega (arith, c .power-count .ensures, power-count-le (c .before .before .before .args .n / 2))
 
-power-count-add-result : (t : ℕ) → power-count-lts.Need-add-result (
-  table-count-reads.Asked,
-  table-count-reads.Learnt,
-  power-count-below t,
-  power-count.Post,
-) (power-count-at t) power-count.Post
+power-count-add-result : (t : ℕ) → power-count-lts.Need-add-result (power-count-claims t) (power-count-at t) power-count.Post
 power-count-add-result t c = omega (arith, small t c)
 
-power-count-add-result-2 : (t : ℕ) → power-count-lts.Need-add-result-2 (
-  table-count-reads.Asked,
-  table-count-reads.Learnt,
-  power-count-below t,
-  power-count.Post,
-) (power-count-at t) power-count.Post
+power-count-add-result-2 : (t : ℕ) → power-count-lts.Need-add-result-2 (power-count-claims t) (power-count-at t) power-count.Post
 power-count-add-result-2 t c = omega (arith, small t c)
 
-power-count-returns : (t : ℕ) → power-count-lts.Need-returns (
-  table-count-reads.Asked,
-  table-count-reads.Learnt,
-  power-count-below t,
-  power-count.Post,
-) (power-count-at t) power-count.Post
+power-count-returns : (t : ℕ) → power-count-lts.Need-returns (power-count-claims t) (power-count-at t) power-count.Post
 power-count-returns t c = sym (ap powerCount (c .if1 .taken) ∙ power-count-zero)
 
-power-count-returns-2 : (t : ℕ) → power-count-lts.Need-returns-2 (
-  table-count-reads.Asked,
-  table-count-reads.Learnt,
-  power-count-below t,
-  power-count.Post,
-) (power-count-at t) power-count.Post
+power-count-returns-2 : (t : ℕ) → power-count-lts.Need-returns-2 (power-count-claims t) (power-count-at t) power-count.Post
 power-count-returns-2 t c = c .table-count .ensures
 
-power-count-returns-3 : (t : ℕ) → power-count-lts.Need-returns-3 (
-  table-count-reads.Asked,
-  table-count-reads.Learnt,
-  power-count-below t,
-  power-count.Post,
-) (power-count-at t) power-count.Post
+power-count-returns-3 : (t : ℕ) → power-count-lts.Need-returns-3 (power-count-claims t) (power-count-at t) power-count.Post
 power-count-returns-3 t c = omega (arith, c .power-count .ensures, power-count-rule (c .before .before .before .args .n) (omega arith))
 
 pub +power-count-spec : {M : Type 1} → statement M

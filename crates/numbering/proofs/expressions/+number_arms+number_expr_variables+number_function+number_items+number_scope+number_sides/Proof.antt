@@ -133,1394 +133,369 @@ number-sides-below t =
     (falls 6 number-sides-kinds.ps _<_ μ-number-sides t)
     number-sides.Pre
 
-number-arms-node-at-requires : (t : ℕ) → number-arms-lts.Need-node-at-requires (
+abbrev number-arms-claims : ℕ → number-arms-lts.Claims
+number-arms-claims t = (
   node-at-reads.Asked,
   node-at-reads.Learnt,
   number-scope-below t,
   number-scope.Post,
   number-arms-below t,
   number-arms.Post,
-) (number-arms-at t) number-arms.Post
+)
+
+abbrev number-expr-variables-claims : ℕ → number-expr-variables-lts.Claims
+number-expr-variables-claims t = (
+  node-at-reads.Asked,
+  node-at-reads.Learnt,
+  number-sides-below t,
+  number-sides.Post,
+  number-expr-variables-below t,
+  number-expr-variables.Post,
+  number-variable-reads.Asked,
+  number-variable-reads.Learnt,
+  number-function-below t,
+  number-function.Post,
+  number-scope-below t,
+  number-scope.Post,
+  number-arms-below t,
+  number-arms.Post,
+  number-items-below t,
+  number-items.Post,
+)
+
+abbrev number-function-claims : ℕ → number-function-lts.Claims
+number-function-claims t = (
+  number-parameters-reads.Asked,
+  number-parameters-reads.Learnt,
+  number-expr-variables-below t,
+  number-expr-variables.Post,
+  unwind-reads.Asked,
+  unwind-reads.Learnt,
+)
+
+abbrev number-items-claims : ℕ → number-items-lts.Claims
+number-items-claims t = (
+  node-at-reads.Asked,
+  node-at-reads.Learnt,
+  number-expr-variables-below t,
+  number-expr-variables.Post,
+  number-items-below t,
+  number-items.Post,
+)
+
+abbrev number-scope-claims : ℕ → number-scope-lts.Claims
+number-scope-claims t = (
+  number-pattern-variables-reads.Asked,
+  number-pattern-variables-reads.Learnt,
+  number-expr-variables-below t,
+  number-expr-variables.Post,
+  unwind-reads.Asked,
+  unwind-reads.Learnt,
+)
+
+abbrev number-sides-claims : ℕ → number-sides-lts.Claims
+number-sides-claims t = (
+  number-expr-variables-below t,
+  number-expr-variables.Post,
+)
+
+number-arms-node-at-requires : (t : ℕ) → number-arms-lts.Need-node-at-requires (number-arms-claims t) (number-arms-at t) number-arms.Post
 number-arms-node-at-requires t c κs = omega (arith, c .before .pre .1 .0 .below, c .before .pre .1 .0 .walk .long)
 
-number-arms-enum-known-item : (t : ℕ) → number-arms-lts.Need-enum-known-item (
-  node-at-reads.Asked,
-  node-at-reads.Learnt,
-  number-scope-below t,
-  number-scope.Post,
-  number-arms-below t,
-  number-arms.Post,
-) (number-arms-at t) number-arms.Post
+number-arms-enum-known-item : (t : ℕ) → number-arms-lts.Need-enum-known-item (number-arms-claims t) (number-arms-at t) number-arms.Post
 number-arms-enum-known-item t c = search needs
 
-number-arms-number-scope-requires : (t : ℕ) → number-arms-lts.Need-number-scope-requires (
-  node-at-reads.Asked,
-  node-at-reads.Learnt,
-  number-scope-below t,
-  number-scope.Post,
-  number-arms-below t,
-  number-arms.Post,
-) (number-arms-at t) number-arms.Post
+number-arms-number-scope-requires : (t : ℕ) → number-arms-lts.Need-number-scope-requires (number-arms-claims t) (number-arms-at t) number-arms.Post
 number-arms-number-scope-requires t c κs = let w = arm-first _ _ _ _ (c .before .before .before .before .before .before .before .before .before .before .pre .1 .0) (sym (c .before .before .before .before .before .before .before .before .node-at .ensures) ∙ c .before .before .before .before .before .before .item .given .1) in (omega (arith, c .before .before .before .before .before .before .before .before .before .before .pre .0, w .0), (w .1, c .before .before .before .before .before .before .before .before .before .before .pre .1 .1))
 
-number-arms-returns : (t : ℕ) → number-arms-lts.Need-returns (
-  node-at-reads.Asked,
-  node-at-reads.Learnt,
-  number-scope-below t,
-  number-scope.Post,
-  number-arms-below t,
-  number-arms.Post,
-) (number-arms-at t) number-arms.Post
+number-arms-returns : (t : ℕ) → number-arms-lts.Need-returns (number-arms-claims t) (number-arms-at t) number-arms.Post
 number-arms-returns t c = arm-last-way _ _ _ _ (c .before .before .before .before .before .before .before .before .before .before .before .before .pre .1 .0) (sym (c .before .before .before .before .before .before .before .before .before .before .node-at .ensures) ∙ c .before .before .before .before .before .before .before .before .item .given .1) (c .if1 .taken) (c .before .number-scope .ensures)
 
-number-arms-number-arms-requires : (t : ℕ) → number-arms-lts.Need-number-arms-requires (
-  node-at-reads.Asked,
-  node-at-reads.Learnt,
-  number-scope-below t,
-  number-scope.Post,
-  number-arms-below t,
-  number-arms.Post,
-) (number-arms-at t) number-arms.Post
+number-arms-number-arms-requires : (t : ℕ) → number-arms-lts.Need-number-arms-requires (number-arms-claims t) (number-arms-at t) number-arms.Post
 number-arms-number-arms-requires t c κs = let w = arm-rest _ _ _ _ (c .before .before .before .before .before .before .before .before .before .before .before .before .before .before .before .before .before .pre .1 .0) (sym (c .before .before .before .before .before .before .before .before .before .before .before .before .before .before .before .node-at .ensures) ∙ c .before .before .before .before .before .before .before .before .before .before .before .before .before .item .given .1) _ (c .before .before .before .before .before .if1 .left) (c .before .before .before .before .before .before .number-scope .ensures .few) in (omega (arith, c .before .before .before .before .before .before .before .before .before .before .before .before .before .before .before .before .before .pre .0, w .0), (w .1, (c .before .before .before .before .before .before .number-scope .ensures .sizes, c .before .before .before .before .before .before .number-scope .ensures .row)))
 
-number-arms-enum-told : (t : ℕ) → number-arms-lts.Need-enum-told (
-  node-at-reads.Asked,
-  node-at-reads.Learnt,
-  number-scope-below t,
-  number-scope.Post,
-  number-arms-below t,
-  number-arms.Post,
-) (number-arms-at t) number-arms.Post
+number-arms-enum-told : (t : ℕ) → number-arms-lts.Need-enum-told (number-arms-claims t) (number-arms-at t) number-arms.Post
 number-arms-enum-told t c = search needs
 
-number-arms-enum-told-2 : (t : ℕ) → number-arms-lts.Need-enum-told-2 (
-  node-at-reads.Asked,
-  node-at-reads.Learnt,
-  number-scope-below t,
-  number-scope.Post,
-  number-arms-below t,
-  number-arms.Post,
-) (number-arms-at t) number-arms.Post
+number-arms-enum-told-2 : (t : ℕ) → number-arms-lts.Need-enum-told-2 (number-arms-claims t) (number-arms-at t) number-arms.Post
 number-arms-enum-told-2 t c = search needs
 
-number-arms-enum-told-3 : (t : ℕ) → number-arms-lts.Need-enum-told-3 (
-  node-at-reads.Asked,
-  node-at-reads.Learnt,
-  number-scope-below t,
-  number-scope.Post,
-  number-arms-below t,
-  number-arms.Post,
-) (number-arms-at t) number-arms.Post
+number-arms-enum-told-3 : (t : ℕ) → number-arms-lts.Need-enum-told-3 (number-arms-claims t) (number-arms-at t) number-arms.Post
 number-arms-enum-told-3 t c = search needs
 
-number-arms-returns-2 : (t : ℕ) → number-arms-lts.Need-returns-2 (
-  node-at-reads.Asked,
-  node-at-reads.Learnt,
-  number-scope-below t,
-  number-scope.Post,
-  number-arms-below t,
-  number-arms.Post,
-) (number-arms-at t) number-arms.Post
+number-arms-returns-2 : (t : ℕ) → number-arms-lts.Need-returns-2 (number-arms-claims t) (number-arms-at t) number-arms.Post
 number-arms-returns-2 t c = arm-more-way _ _ _ _ (c .before .before .before .before .before .before .before .before .before .before .before .before .before .before .before .before .before .before .pre .1 .0) (sym (c .before .before .before .before .before .before .before .before .before .before .before .before .before .before .before .before .node-at .ensures) ∙ c .before .before .before .before .before .before .before .before .before .before .before .before .before .before .item .given .1) (c .before .before .before .before .before .before .if1 .left) (c .before .before .before .before .before .before .before .number-scope .ensures) (c .number-arms .ensures)
 
-number-arms-returns-3 : (t : ℕ) → number-arms-lts.Need-returns-3 (
-  node-at-reads.Asked,
-  node-at-reads.Learnt,
-  number-scope-below t,
-  number-scope.Post,
-  number-arms-below t,
-  number-arms.Post,
-) (number-arms-at t) number-arms.Post
+number-arms-returns-3 : (t : ℕ) → number-arms-lts.Need-returns-3 (number-arms-claims t) (number-arms-at t) number-arms.Post
 number-arms-returns-3 t c = absurd (no-chain-expression _ _ _ _ (c .before .before .before .before .pre .1 .0 .chained) (sym (c .before .before .node-at .ensures) ∙ c .enum-told .given .1))
 
-number-arms-returns-4 : (t : ℕ) → number-arms-lts.Need-returns-4 (
-  node-at-reads.Asked,
-  node-at-reads.Learnt,
-  number-scope-below t,
-  number-scope.Post,
-  number-arms-below t,
-  number-arms.Post,
-) (number-arms-at t) number-arms.Post
+number-arms-returns-4 : (t : ℕ) → number-arms-lts.Need-returns-4 (number-arms-claims t) (number-arms-at t) number-arms.Post
 number-arms-returns-4 t c = absurd (no-chain-pattern _ _ _ _ (c .before .before .before .before .pre .1 .0 .chained) (sym (c .before .before .node-at .ensures) ∙ c .enum-told2 .given .1))
 
-number-arms-returns-5 : (t : ℕ) → number-arms-lts.Need-returns-5 (
-  node-at-reads.Asked,
-  node-at-reads.Learnt,
-  number-scope-below t,
-  number-scope.Post,
-  number-arms-below t,
-  number-arms.Post,
-) (number-arms-at t) number-arms.Post
+number-arms-returns-5 : (t : ℕ) → number-arms-lts.Need-returns-5 (number-arms-claims t) (number-arms-at t) number-arms.Post
 number-arms-returns-5 t c = absurd (no-chain-bad _ _ _ _ (c .before .before .before .before .pre .1 .0 .chained) (sym (c .before .before .node-at .ensures) ∙ c .enum-told3 .given .1))
 
-number-expr-variables-node-at-requires : (t : ℕ) → number-expr-variables-lts.Need-node-at-requires (
-  node-at-reads.Asked,
-  node-at-reads.Learnt,
-  number-sides-below t,
-  number-sides.Post,
-  number-expr-variables-below t,
-  number-expr-variables.Post,
-  number-variable-reads.Asked,
-  number-variable-reads.Learnt,
-  number-function-below t,
-  number-function.Post,
-  number-scope-below t,
-  number-scope.Post,
-  number-arms-below t,
-  number-arms.Post,
-  number-items-below t,
-  number-items.Post,
-) (number-expr-variables-at t) number-expr-variables.Post
+number-expr-variables-node-at-requires : (t : ℕ) → number-expr-variables-lts.Need-node-at-requires (number-expr-variables-claims t) (number-expr-variables-at t) number-expr-variables.Post
 number-expr-variables-node-at-requires t c κs = omega (arith, c .before .pre .1 .0 .below, c .before .pre .1 .0 .walk .long)
 
-number-expr-variables-enum-known-form : (t : ℕ) → number-expr-variables-lts.Need-enum-known-form (
-  node-at-reads.Asked,
-  node-at-reads.Learnt,
-  number-sides-below t,
-  number-sides.Post,
-  number-expr-variables-below t,
-  number-expr-variables.Post,
-  number-variable-reads.Asked,
-  number-variable-reads.Learnt,
-  number-function-below t,
-  number-function.Post,
-  number-scope-below t,
-  number-scope.Post,
-  number-arms-below t,
-  number-arms.Post,
-  number-items-below t,
-  number-items.Post,
-) (number-expr-variables-at t) number-expr-variables.Post
+number-expr-variables-enum-known-form : (t : ℕ) → number-expr-variables-lts.Need-enum-known-form (number-expr-variables-claims t) (number-expr-variables-at t) number-expr-variables.Post
 number-expr-variables-enum-known-form t c = search needs
 
 number-expr-variables-enum-known-form-2 :
-    (t : ℕ) → number-expr-variables-lts.Need-enum-known-form-2 (
-      node-at-reads.Asked,
-      node-at-reads.Learnt,
-      number-sides-below t,
-      number-sides.Post,
-      number-expr-variables-below t,
-      number-expr-variables.Post,
-      number-variable-reads.Asked,
-      number-variable-reads.Learnt,
-      number-function-below t,
-      number-function.Post,
-      number-scope-below t,
-      number-scope.Post,
-      number-arms-below t,
-      number-arms.Post,
-      number-items-below t,
-      number-items.Post,
-    ) (number-expr-variables-at t) number-expr-variables.Post
+    (t : ℕ) → number-expr-variables-lts.Need-enum-known-form-2 (number-expr-variables-claims t) (number-expr-variables-at t) number-expr-variables.Post
 number-expr-variables-enum-known-form-2 t c = search needs
 
 number-expr-variables-number-sides-requires :
-    (t : ℕ) → number-expr-variables-lts.Need-number-sides-requires (
-      node-at-reads.Asked,
-      node-at-reads.Learnt,
-      number-sides-below t,
-      number-sides.Post,
-      number-expr-variables-below t,
-      number-expr-variables.Post,
-      number-variable-reads.Asked,
-      number-variable-reads.Learnt,
-      number-function-below t,
-      number-function.Post,
-      number-scope-below t,
-      number-scope.Post,
-      number-arms-below t,
-      number-arms.Post,
-      number-items-below t,
-      number-items.Post,
-    ) (number-expr-variables-at t) number-expr-variables.Post
+    (t : ℕ) → number-expr-variables-lts.Need-number-sides-requires (number-expr-variables-claims t) (number-expr-variables-at t) number-expr-variables.Post
 number-expr-variables-number-sides-requires t c κs = (omega (arith, c .before .before .before .before .before .before .before .before .before .before .before .before .before .pre .0), (two-ready _ _ _ _ (c .before .before .before .before .before .before .before .before .before .before .before .before .before .pre .1 .0) (sym (c .before .before .before .before .before .before .before .before .before .before .before .node-at .ensures) ∙ c .before .before .before .before .before .before .before .before .before .form .given .1 ∙ ap Entry.Expression (c .before .before .before .before .before .before .form2 .given .1)) refl, c .before .before .before .before .before .before .before .before .before .before .before .before .before .pre .1 .1))
 
 number-expr-variables-enum-known-form-3 :
-    (t : ℕ) → number-expr-variables-lts.Need-enum-known-form-3 (
-      node-at-reads.Asked,
-      node-at-reads.Learnt,
-      number-sides-below t,
-      number-sides.Post,
-      number-expr-variables-below t,
-      number-expr-variables.Post,
-      number-variable-reads.Asked,
-      number-variable-reads.Learnt,
-      number-function-below t,
-      number-function.Post,
-      number-scope-below t,
-      number-scope.Post,
-      number-arms-below t,
-      number-arms.Post,
-      number-items-below t,
-      number-items.Post,
-    ) (number-expr-variables-at t) number-expr-variables.Post
+    (t : ℕ) → number-expr-variables-lts.Need-enum-known-form-3 (number-expr-variables-claims t) (number-expr-variables-at t) number-expr-variables.Post
 number-expr-variables-enum-known-form-3 t c = search needs
 
 number-expr-variables-number-sides-requires-2 :
-    (t : ℕ) → number-expr-variables-lts.Need-number-sides-requires-2 (
-      node-at-reads.Asked,
-      node-at-reads.Learnt,
-      number-sides-below t,
-      number-sides.Post,
-      number-expr-variables-below t,
-      number-expr-variables.Post,
-      number-variable-reads.Asked,
-      number-variable-reads.Learnt,
-      number-function-below t,
-      number-function.Post,
-      number-scope-below t,
-      number-scope.Post,
-      number-arms-below t,
-      number-arms.Post,
-      number-items-below t,
-      number-items.Post,
-    ) (number-expr-variables-at t) number-expr-variables.Post
+    (t : ℕ) → number-expr-variables-lts.Need-number-sides-requires-2 (number-expr-variables-claims t) (number-expr-variables-at t) number-expr-variables.Post
 number-expr-variables-number-sides-requires-2 t c κs = (omega (arith, c .before .before .before .before .before .before .before .before .before .before .before .before .before .pre .0), (two-ready _ _ _ _ (c .before .before .before .before .before .before .before .before .before .before .before .before .before .pre .1 .0) (sym (c .before .before .before .before .before .before .before .before .before .before .before .node-at .ensures) ∙ c .before .before .before .before .before .before .before .before .before .form .given .1 ∙ ap Entry.Expression (c .before .before .before .before .before .before .form3 .given .1)) refl, c .before .before .before .before .before .before .before .before .before .before .before .before .before .pre .1 .1))
 
 number-expr-variables-enum-known-form-4 :
-    (t : ℕ) → number-expr-variables-lts.Need-enum-known-form-4 (
-      node-at-reads.Asked,
-      node-at-reads.Learnt,
-      number-sides-below t,
-      number-sides.Post,
-      number-expr-variables-below t,
-      number-expr-variables.Post,
-      number-variable-reads.Asked,
-      number-variable-reads.Learnt,
-      number-function-below t,
-      number-function.Post,
-      number-scope-below t,
-      number-scope.Post,
-      number-arms-below t,
-      number-arms.Post,
-      number-items-below t,
-      number-items.Post,
-    ) (number-expr-variables-at t) number-expr-variables.Post
+    (t : ℕ) → number-expr-variables-lts.Need-enum-known-form-4 (number-expr-variables-claims t) (number-expr-variables-at t) number-expr-variables.Post
 number-expr-variables-enum-known-form-4 t c = search needs
 
 number-expr-variables-number-sides-requires-3 :
-    (t : ℕ) → number-expr-variables-lts.Need-number-sides-requires-3 (
-      node-at-reads.Asked,
-      node-at-reads.Learnt,
-      number-sides-below t,
-      number-sides.Post,
-      number-expr-variables-below t,
-      number-expr-variables.Post,
-      number-variable-reads.Asked,
-      number-variable-reads.Learnt,
-      number-function-below t,
-      number-function.Post,
-      number-scope-below t,
-      number-scope.Post,
-      number-arms-below t,
-      number-arms.Post,
-      number-items-below t,
-      number-items.Post,
-    ) (number-expr-variables-at t) number-expr-variables.Post
+    (t : ℕ) → number-expr-variables-lts.Need-number-sides-requires-3 (number-expr-variables-claims t) (number-expr-variables-at t) number-expr-variables.Post
 number-expr-variables-number-sides-requires-3 t c κs = (omega (arith, c .before .before .before .before .before .before .before .before .before .before .before .before .before .pre .0), (two-ready _ _ _ _ (c .before .before .before .before .before .before .before .before .before .before .before .before .before .pre .1 .0) (sym (c .before .before .before .before .before .before .before .before .before .before .before .node-at .ensures) ∙ c .before .before .before .before .before .before .before .before .before .form .given .1 ∙ ap Entry.Expression (c .before .before .before .before .before .before .form4 .given .1)) refl, c .before .before .before .before .before .before .before .before .before .before .before .before .before .pre .1 .1))
 
 number-expr-variables-enum-known-form-5 :
-    (t : ℕ) → number-expr-variables-lts.Need-enum-known-form-5 (
-      node-at-reads.Asked,
-      node-at-reads.Learnt,
-      number-sides-below t,
-      number-sides.Post,
-      number-expr-variables-below t,
-      number-expr-variables.Post,
-      number-variable-reads.Asked,
-      number-variable-reads.Learnt,
-      number-function-below t,
-      number-function.Post,
-      number-scope-below t,
-      number-scope.Post,
-      number-arms-below t,
-      number-arms.Post,
-      number-items-below t,
-      number-items.Post,
-    ) (number-expr-variables-at t) number-expr-variables.Post
+    (t : ℕ) → number-expr-variables-lts.Need-enum-known-form-5 (number-expr-variables-claims t) (number-expr-variables-at t) number-expr-variables.Post
 number-expr-variables-enum-known-form-5 t c = search needs
 
 number-expr-variables-number-sides-requires-4 :
-    (t : ℕ) → number-expr-variables-lts.Need-number-sides-requires-4 (
-      node-at-reads.Asked,
-      node-at-reads.Learnt,
-      number-sides-below t,
-      number-sides.Post,
-      number-expr-variables-below t,
-      number-expr-variables.Post,
-      number-variable-reads.Asked,
-      number-variable-reads.Learnt,
-      number-function-below t,
-      number-function.Post,
-      number-scope-below t,
-      number-scope.Post,
-      number-arms-below t,
-      number-arms.Post,
-      number-items-below t,
-      number-items.Post,
-    ) (number-expr-variables-at t) number-expr-variables.Post
+    (t : ℕ) → number-expr-variables-lts.Need-number-sides-requires-4 (number-expr-variables-claims t) (number-expr-variables-at t) number-expr-variables.Post
 number-expr-variables-number-sides-requires-4 t c κs = (omega (arith, c .before .before .before .before .before .before .before .before .before .before .before .before .before .pre .0), (two-ready _ _ _ _ (c .before .before .before .before .before .before .before .before .before .before .before .before .before .pre .1 .0) (sym (c .before .before .before .before .before .before .before .before .before .before .before .node-at .ensures) ∙ c .before .before .before .before .before .before .before .before .before .form .given .1 ∙ ap Entry.Expression (c .before .before .before .before .before .before .form5 .given .1)) refl, c .before .before .before .before .before .before .before .before .before .before .before .before .before .pre .1 .1))
 
 number-expr-variables-enum-known-form-6 :
-    (t : ℕ) → number-expr-variables-lts.Need-enum-known-form-6 (
-      node-at-reads.Asked,
-      node-at-reads.Learnt,
-      number-sides-below t,
-      number-sides.Post,
-      number-expr-variables-below t,
-      number-expr-variables.Post,
-      number-variable-reads.Asked,
-      number-variable-reads.Learnt,
-      number-function-below t,
-      number-function.Post,
-      number-scope-below t,
-      number-scope.Post,
-      number-arms-below t,
-      number-arms.Post,
-      number-items-below t,
-      number-items.Post,
-    ) (number-expr-variables-at t) number-expr-variables.Post
+    (t : ℕ) → number-expr-variables-lts.Need-enum-known-form-6 (number-expr-variables-claims t) (number-expr-variables-at t) number-expr-variables.Post
 number-expr-variables-enum-known-form-6 t c = search needs
 
 number-expr-variables-number-expr-variables-requires :
-    (t : ℕ) → number-expr-variables-lts.Need-number-expr-variables-requires (
-      node-at-reads.Asked,
-      node-at-reads.Learnt,
-      number-sides-below t,
-      number-sides.Post,
-      number-expr-variables-below t,
-      number-expr-variables.Post,
-      number-variable-reads.Asked,
-      number-variable-reads.Learnt,
-      number-function-below t,
-      number-function.Post,
-      number-scope-below t,
-      number-scope.Post,
-      number-arms-below t,
-      number-arms.Post,
-      number-items-below t,
-      number-items.Post,
-    ) (number-expr-variables-at t) number-expr-variables.Post
+    (t : ℕ) → number-expr-variables-lts.Need-number-expr-variables-requires (number-expr-variables-claims t) (number-expr-variables-at t) number-expr-variables.Post
 number-expr-variables-number-expr-variables-requires t c κs = let w = negate-ready _ _ _ _ (c .before .before .before .before .before .before .before .before .before .before .before .before .before .pre .1 .0) (sym (c .before .before .before .before .before .before .before .before .before .before .before .node-at .ensures) ∙ c .before .before .before .before .before .before .before .before .before .form .given .1 ∙ ap Entry.Expression (c .before .before .before .before .before .before .form6 .given .1)) in (omega (arith, c .before .before .before .before .before .before .before .before .before .before .before .before .before .pre .0, w .0), (w .1, c .before .before .before .before .before .before .before .before .before .before .before .before .before .pre .1 .1))
 
 number-expr-variables-enum-known-form-7 :
-    (t : ℕ) → number-expr-variables-lts.Need-enum-known-form-7 (
-      node-at-reads.Asked,
-      node-at-reads.Learnt,
-      number-sides-below t,
-      number-sides.Post,
-      number-expr-variables-below t,
-      number-expr-variables.Post,
-      number-variable-reads.Asked,
-      number-variable-reads.Learnt,
-      number-function-below t,
-      number-function.Post,
-      number-scope-below t,
-      number-scope.Post,
-      number-arms-below t,
-      number-arms.Post,
-      number-items-below t,
-      number-items.Post,
-    ) (number-expr-variables-at t) number-expr-variables.Post
+    (t : ℕ) → number-expr-variables-lts.Need-enum-known-form-7 (number-expr-variables-claims t) (number-expr-variables-at t) number-expr-variables.Post
 number-expr-variables-enum-known-form-7 t c = search needs
 
 number-expr-variables-number-variable-requires :
-    (t : ℕ) → number-expr-variables-lts.Need-number-variable-requires (
-      node-at-reads.Asked,
-      node-at-reads.Learnt,
-      number-sides-below t,
-      number-sides.Post,
-      number-expr-variables-below t,
-      number-expr-variables.Post,
-      number-variable-reads.Asked,
-      number-variable-reads.Learnt,
-      number-function-below t,
-      number-function.Post,
-      number-scope-below t,
-      number-scope.Post,
-      number-arms-below t,
-      number-arms.Post,
-      number-items-below t,
-      number-items.Post,
-    ) (number-expr-variables-at t) number-expr-variables.Post
+    (t : ℕ) → number-expr-variables-lts.Need-number-variable-requires (number-expr-variables-claims t) (number-expr-variables-at t) number-expr-variables.Post
 number-expr-variables-number-variable-requires t c κs = let w = variable-ready _ _ _ _ (c .before .before .before .before .before .before .before .before .before .before .pre .1 .0) (sym (c .before .before .before .before .before .before .before .before .node-at .ensures) ∙ c .before .before .before .before .before .before .form .given .1 ∙ ap Entry.Expression (c .before .before .before .form7 .given .1)) in (w .0, (w .1 .0, (c .before .before .before .before .before .before .before .before .before .before .pre .1 .1 .1)))
 
-number-expr-variables-mul-ids : (t : ℕ) → number-expr-variables-lts.Need-mul-ids (
-  node-at-reads.Asked,
-  node-at-reads.Learnt,
-  number-sides-below t,
-  number-sides.Post,
-  number-expr-variables-below t,
-  number-expr-variables.Post,
-  number-variable-reads.Asked,
-  number-variable-reads.Learnt,
-  number-function-below t,
-  number-function.Post,
-  number-scope-below t,
-  number-scope.Post,
-  number-arms-below t,
-  number-arms.Post,
-  number-items-below t,
-  number-items.Post,
-) (number-expr-variables-at t) number-expr-variables.Post
+number-expr-variables-mul-ids : (t : ℕ) → number-expr-variables-lts.Need-mul-ids (number-expr-variables-claims t) (number-expr-variables-at t) number-expr-variables.Post
 number-expr-variables-mul-ids t c = omega (arith, variable-ready _ _ _ _ (c .before .before .before .before .before .before .before .before .before .before .before .pre .1 .0) (sym (c .before .before .before .before .before .before .before .before .before .node-at .ensures) ∙ c .before .before .before .before .before .before .before .form .given .1 ∙ ap Entry.Expression (c .before .before .before .before .form7 .given .1)) .1 .1)
 
 number-expr-variables-element-write-ids :
-    (t : ℕ) → number-expr-variables-lts.Need-element-write-ids (
-      node-at-reads.Asked,
-      node-at-reads.Learnt,
-      number-sides-below t,
-      number-sides.Post,
-      number-expr-variables-below t,
-      number-expr-variables.Post,
-      number-variable-reads.Asked,
-      number-variable-reads.Learnt,
-      number-function-below t,
-      number-function.Post,
-      number-scope-below t,
-      number-scope.Post,
-      number-arms-below t,
-      number-arms.Post,
-      number-items-below t,
-      number-items.Post,
-    ) (number-expr-variables-at t) number-expr-variables.Post
+    (t : ℕ) → number-expr-variables-lts.Need-element-write-ids (number-expr-variables-claims t) (number-expr-variables-at t) number-expr-variables.Post
 number-expr-variables-element-write-ids t c = omega (arith, variable-ready _ _ _ _ (c .before .before .before .before .before .before .before .before .before .before .before .pre .1 .0) (sym (c .before .before .before .before .before .before .before .before .before .node-at .ensures) ∙ c .before .before .before .before .before .before .before .form .given .1 ∙ ap Entry.Expression (c .before .before .before .before .form7 .given .1)) .1 .1)
 
 number-expr-variables-enum-known-form-8 :
-    (t : ℕ) → number-expr-variables-lts.Need-enum-known-form-8 (
-      node-at-reads.Asked,
-      node-at-reads.Learnt,
-      number-sides-below t,
-      number-sides.Post,
-      number-expr-variables-below t,
-      number-expr-variables.Post,
-      number-variable-reads.Asked,
-      number-variable-reads.Learnt,
-      number-function-below t,
-      number-function.Post,
-      number-scope-below t,
-      number-scope.Post,
-      number-arms-below t,
-      number-arms.Post,
-      number-items-below t,
-      number-items.Post,
-    ) (number-expr-variables-at t) number-expr-variables.Post
+    (t : ℕ) → number-expr-variables-lts.Need-enum-known-form-8 (number-expr-variables-claims t) (number-expr-variables-at t) number-expr-variables.Post
 number-expr-variables-enum-known-form-8 t c = search needs
 
 number-expr-variables-number-function-requires :
-    (t : ℕ) → number-expr-variables-lts.Need-number-function-requires (
-      node-at-reads.Asked,
-      node-at-reads.Learnt,
-      number-sides-below t,
-      number-sides.Post,
-      number-expr-variables-below t,
-      number-expr-variables.Post,
-      number-variable-reads.Asked,
-      number-variable-reads.Learnt,
-      number-function-below t,
-      number-function.Post,
-      number-scope-below t,
-      number-scope.Post,
-      number-arms-below t,
-      number-arms.Post,
-      number-items-below t,
-      number-items.Post,
-    ) (number-expr-variables-at t) number-expr-variables.Post
+    (t : ℕ) → number-expr-variables-lts.Need-number-function-requires (number-expr-variables-claims t) (number-expr-variables-at t) number-expr-variables.Post
 number-expr-variables-number-function-requires t c κs = let w = function-ready _ _ _ _ (c .before .before .before .before .before .before .before .before .before .before .before .before .before .pre .1 .0) (sym (c .before .before .before .before .before .before .before .before .before .before .before .node-at .ensures) ∙ c .before .before .before .before .before .before .before .before .before .form .given .1 ∙ ap Entry.Expression (c .before .before .before .before .before .before .form8 .given .1)) in (omega (arith, c .before .before .before .before .before .before .before .before .before .before .before .before .before .pre .0, w .0 .1), (w .1, c .before .before .before .before .before .before .before .before .before .before .before .before .before .pre .1 .1))
 
 number-expr-variables-enum-known-form-9 :
-    (t : ℕ) → number-expr-variables-lts.Need-enum-known-form-9 (
-      node-at-reads.Asked,
-      node-at-reads.Learnt,
-      number-sides-below t,
-      number-sides.Post,
-      number-expr-variables-below t,
-      number-expr-variables.Post,
-      number-variable-reads.Asked,
-      number-variable-reads.Learnt,
-      number-function-below t,
-      number-function.Post,
-      number-scope-below t,
-      number-scope.Post,
-      number-arms-below t,
-      number-arms.Post,
-      number-items-below t,
-      number-items.Post,
-    ) (number-expr-variables-at t) number-expr-variables.Post
+    (t : ℕ) → number-expr-variables-lts.Need-enum-known-form-9 (number-expr-variables-claims t) (number-expr-variables-at t) number-expr-variables.Post
 number-expr-variables-enum-known-form-9 t c = search needs
 
 number-expr-variables-number-expr-variables-requires-2 :
-    (t : ℕ) → number-expr-variables-lts.Need-number-expr-variables-requires-2 (
-      node-at-reads.Asked,
-      node-at-reads.Learnt,
-      number-sides-below t,
-      number-sides.Post,
-      number-expr-variables-below t,
-      number-expr-variables.Post,
-      number-variable-reads.Asked,
-      number-variable-reads.Learnt,
-      number-function-below t,
-      number-function.Post,
-      number-scope-below t,
-      number-scope.Post,
-      number-arms-below t,
-      number-arms.Post,
-      number-items-below t,
-      number-items.Post,
-    ) (number-expr-variables-at t) number-expr-variables.Post
+    (t : ℕ) → number-expr-variables-lts.Need-number-expr-variables-requires-2 (number-expr-variables-claims t) (number-expr-variables-at t) number-expr-variables.Post
 number-expr-variables-number-expr-variables-requires-2 t c κs = let w = let-first _ _ _ _ (c .before .before .before .before .before .before .before .before .before .before .before .before .before .pre .1 .0) (sym (c .before .before .before .before .before .before .before .before .before .before .before .node-at .ensures) ∙ c .before .before .before .before .before .before .before .before .before .form .given .1 ∙ ap Entry.Expression (c .before .before .before .before .before .before .form9 .given .1)) in (omega (arith, c .before .before .before .before .before .before .before .before .before .before .before .before .before .pre .0, w .0), (w .1, c .before .before .before .before .before .before .before .before .before .before .before .before .before .pre .1 .1))
 
 number-expr-variables-number-scope-requires :
-    (t : ℕ) → number-expr-variables-lts.Need-number-scope-requires (
-      node-at-reads.Asked,
-      node-at-reads.Learnt,
-      number-sides-below t,
-      number-sides.Post,
-      number-expr-variables-below t,
-      number-expr-variables.Post,
-      number-variable-reads.Asked,
-      number-variable-reads.Learnt,
-      number-function-below t,
-      number-function.Post,
-      number-scope-below t,
-      number-scope.Post,
-      number-arms-below t,
-      number-arms.Post,
-      number-items-below t,
-      number-items.Post,
-    ) (number-expr-variables-at t) number-expr-variables.Post
+    (t : ℕ) → number-expr-variables-lts.Need-number-scope-requires (number-expr-variables-claims t) (number-expr-variables-at t) number-expr-variables.Post
 number-expr-variables-number-scope-requires t c κs = let w = let-second _ _ _ _ (c .before .before .before .before .before .before .before .before .before .before .before .before .before .before .before .before .before .before .before .pre .1 .0) _ (sym (c .before .before .before .before .before .before .before .before .before .before .before .before .before .before .before .before .before .node-at .ensures) ∙ c .before .before .before .before .before .before .before .before .before .before .before .before .before .before .before .form .given .1 ∙ ap Entry.Expression (c .before .before .before .before .before .before .before .before .before .before .before .before .form9 .given .1)) (c .before .before .before .before .before .number-expr-variables2 .ensures .few) in (omega (arith, c .before .before .before .before .before .before .before .before .before .before .before .before .before .before .before .before .before .before .before .pre .0, w .0 .1), (w .1, (c .before .before .before .before .before .number-expr-variables2 .ensures .sizes, c .before .before .before .before .before .number-expr-variables2 .ensures .row)))
 
 number-expr-variables-enum-known-form-10 :
-    (t : ℕ) → number-expr-variables-lts.Need-enum-known-form-10 (
-      node-at-reads.Asked,
-      node-at-reads.Learnt,
-      number-sides-below t,
-      number-sides.Post,
-      number-expr-variables-below t,
-      number-expr-variables.Post,
-      number-variable-reads.Asked,
-      number-variable-reads.Learnt,
-      number-function-below t,
-      number-function.Post,
-      number-scope-below t,
-      number-scope.Post,
-      number-arms-below t,
-      number-arms.Post,
-      number-items-below t,
-      number-items.Post,
-    ) (number-expr-variables-at t) number-expr-variables.Post
+    (t : ℕ) → number-expr-variables-lts.Need-enum-known-form-10 (number-expr-variables-claims t) (number-expr-variables-at t) number-expr-variables.Post
 number-expr-variables-enum-known-form-10 t c = search needs
 
 number-expr-variables-number-expr-variables-requires-3 :
-    (t : ℕ) → number-expr-variables-lts.Need-number-expr-variables-requires-3 (
-      node-at-reads.Asked,
-      node-at-reads.Learnt,
-      number-sides-below t,
-      number-sides.Post,
-      number-expr-variables-below t,
-      number-expr-variables.Post,
-      number-variable-reads.Asked,
-      number-variable-reads.Learnt,
-      number-function-below t,
-      number-function.Post,
-      number-scope-below t,
-      number-scope.Post,
-      number-arms-below t,
-      number-arms.Post,
-      number-items-below t,
-      number-items.Post,
-    ) (number-expr-variables-at t) number-expr-variables.Post
+    (t : ℕ) → number-expr-variables-lts.Need-number-expr-variables-requires-3 (number-expr-variables-claims t) (number-expr-variables-at t) number-expr-variables.Post
 number-expr-variables-number-expr-variables-requires-3 t c κs = let w = match-first _ _ _ _ (c .before .before .before .before .before .before .before .before .before .before .before .before .before .pre .1 .0) (sym (c .before .before .before .before .before .before .before .before .before .before .before .node-at .ensures) ∙ c .before .before .before .before .before .before .before .before .before .form .given .1 ∙ ap Entry.Expression (c .before .before .before .before .before .before .form10 .given .1)) in (omega (arith, c .before .before .before .before .before .before .before .before .before .before .before .before .before .pre .0, w .0), (w .1, c .before .before .before .before .before .before .before .before .before .before .before .before .before .pre .1 .1))
 
 number-expr-variables-number-arms-requires :
-    (t : ℕ) → number-expr-variables-lts.Need-number-arms-requires (
-      node-at-reads.Asked,
-      node-at-reads.Learnt,
-      number-sides-below t,
-      number-sides.Post,
-      number-expr-variables-below t,
-      number-expr-variables.Post,
-      number-variable-reads.Asked,
-      number-variable-reads.Learnt,
-      number-function-below t,
-      number-function.Post,
-      number-scope-below t,
-      number-scope.Post,
-      number-arms-below t,
-      number-arms.Post,
-      number-items-below t,
-      number-items.Post,
-    ) (number-expr-variables-at t) number-expr-variables.Post
+    (t : ℕ) → number-expr-variables-lts.Need-number-arms-requires (number-expr-variables-claims t) (number-expr-variables-at t) number-expr-variables.Post
 number-expr-variables-number-arms-requires t c κs = let w = match-second _ _ _ _ (c .before .before .before .before .before .before .before .before .before .before .before .before .before .before .before .before .before .before .before .pre .1 .0) _ (sym (c .before .before .before .before .before .before .before .before .before .before .before .before .before .before .before .before .before .node-at .ensures) ∙ c .before .before .before .before .before .before .before .before .before .before .before .before .before .before .before .form .given .1 ∙ ap Entry.Expression (c .before .before .before .before .before .before .before .before .before .before .before .before .form10 .given .1)) (c .before .before .before .before .before .number-expr-variables3 .ensures .few) in (omega (arith, c .before .before .before .before .before .before .before .before .before .before .before .before .before .before .before .before .before .before .before .pre .0, w .0), (w .1, (c .before .before .before .before .before .number-expr-variables3 .ensures .sizes, c .before .before .before .before .before .number-expr-variables3 .ensures .row)))
 
 number-expr-variables-enum-known-form-11 :
-    (t : ℕ) → number-expr-variables-lts.Need-enum-known-form-11 (
-      node-at-reads.Asked,
-      node-at-reads.Learnt,
-      number-sides-below t,
-      number-sides.Post,
-      number-expr-variables-below t,
-      number-expr-variables.Post,
-      number-variable-reads.Asked,
-      number-variable-reads.Learnt,
-      number-function-below t,
-      number-function.Post,
-      number-scope-below t,
-      number-scope.Post,
-      number-arms-below t,
-      number-arms.Post,
-      number-items-below t,
-      number-items.Post,
-    ) (number-expr-variables-at t) number-expr-variables.Post
+    (t : ℕ) → number-expr-variables-lts.Need-enum-known-form-11 (number-expr-variables-claims t) (number-expr-variables-at t) number-expr-variables.Post
 number-expr-variables-enum-known-form-11 t c = search needs
 
 number-expr-variables-number-items-requires :
-    (t : ℕ) → number-expr-variables-lts.Need-number-items-requires (
-      node-at-reads.Asked,
-      node-at-reads.Learnt,
-      number-sides-below t,
-      number-sides.Post,
-      number-expr-variables-below t,
-      number-expr-variables.Post,
-      number-variable-reads.Asked,
-      number-variable-reads.Learnt,
-      number-function-below t,
-      number-function.Post,
-      number-scope-below t,
-      number-scope.Post,
-      number-arms-below t,
-      number-arms.Post,
-      number-items-below t,
-      number-items.Post,
-    ) (number-expr-variables-at t) number-expr-variables.Post
+    (t : ℕ) → number-expr-variables-lts.Need-number-items-requires (number-expr-variables-claims t) (number-expr-variables-at t) number-expr-variables.Post
 number-expr-variables-number-items-requires t c κs = let w = sequence-ready _ _ _ _ (c .before .before .before .before .before .before .before .before .before .before .before .before .before .pre .1 .0) (sym (c .before .before .before .before .before .before .before .before .before .before .before .node-at .ensures) ∙ c .before .before .before .before .before .before .before .before .before .form .given .1 ∙ ap Entry.Expression (c .before .before .before .before .before .before .form11 .given .1)) in (omega (arith, c .before .before .before .before .before .before .before .before .before .before .before .before .before .pre .0, w .0), (w .1, c .before .before .before .before .before .before .before .before .before .before .before .before .before .pre .1 .1))
 
-number-expr-variables-enum-told : (t : ℕ) → number-expr-variables-lts.Need-enum-told (
-  node-at-reads.Asked,
-  node-at-reads.Learnt,
-  number-sides-below t,
-  number-sides.Post,
-  number-expr-variables-below t,
-  number-expr-variables.Post,
-  number-variable-reads.Asked,
-  number-variable-reads.Learnt,
-  number-function-below t,
-  number-function.Post,
-  number-scope-below t,
-  number-scope.Post,
-  number-arms-below t,
-  number-arms.Post,
-  number-items-below t,
-  number-items.Post,
-) (number-expr-variables-at t) number-expr-variables.Post
+number-expr-variables-enum-told : (t : ℕ) → number-expr-variables-lts.Need-enum-told (number-expr-variables-claims t) (number-expr-variables-at t) number-expr-variables.Post
 number-expr-variables-enum-told t c = search needs
 
-number-expr-variables-enum-told-2 : (t : ℕ) → number-expr-variables-lts.Need-enum-told-2 (
-  node-at-reads.Asked,
-  node-at-reads.Learnt,
-  number-sides-below t,
-  number-sides.Post,
-  number-expr-variables-below t,
-  number-expr-variables.Post,
-  number-variable-reads.Asked,
-  number-variable-reads.Learnt,
-  number-function-below t,
-  number-function.Post,
-  number-scope-below t,
-  number-scope.Post,
-  number-arms-below t,
-  number-arms.Post,
-  number-items-below t,
-  number-items.Post,
-) (number-expr-variables-at t) number-expr-variables.Post
+number-expr-variables-enum-told-2 : (t : ℕ) → number-expr-variables-lts.Need-enum-told-2 (number-expr-variables-claims t) (number-expr-variables-at t) number-expr-variables.Post
 number-expr-variables-enum-told-2 t c = search needs
 
-number-expr-variables-enum-told-3 : (t : ℕ) → number-expr-variables-lts.Need-enum-told-3 (
-  node-at-reads.Asked,
-  node-at-reads.Learnt,
-  number-sides-below t,
-  number-sides.Post,
-  number-expr-variables-below t,
-  number-expr-variables.Post,
-  number-variable-reads.Asked,
-  number-variable-reads.Learnt,
-  number-function-below t,
-  number-function.Post,
-  number-scope-below t,
-  number-scope.Post,
-  number-arms-below t,
-  number-arms.Post,
-  number-items-below t,
-  number-items.Post,
-) (number-expr-variables-at t) number-expr-variables.Post
+number-expr-variables-enum-told-3 : (t : ℕ) → number-expr-variables-lts.Need-enum-told-3 (number-expr-variables-claims t) (number-expr-variables-at t) number-expr-variables.Post
 number-expr-variables-enum-told-3 t c = search needs
 
-number-expr-variables-enum-told-4 : (t : ℕ) → number-expr-variables-lts.Need-enum-told-4 (
-  node-at-reads.Asked,
-  node-at-reads.Learnt,
-  number-sides-below t,
-  number-sides.Post,
-  number-expr-variables-below t,
-  number-expr-variables.Post,
-  number-variable-reads.Asked,
-  number-variable-reads.Learnt,
-  number-function-below t,
-  number-function.Post,
-  number-scope-below t,
-  number-scope.Post,
-  number-arms-below t,
-  number-arms.Post,
-  number-items-below t,
-  number-items.Post,
-) (number-expr-variables-at t) number-expr-variables.Post
+number-expr-variables-enum-told-4 : (t : ℕ) → number-expr-variables-lts.Need-enum-told-4 (number-expr-variables-claims t) (number-expr-variables-at t) number-expr-variables.Post
 number-expr-variables-enum-told-4 t c = search needs
 
-number-expr-variables-enum-told-5 : (t : ℕ) → number-expr-variables-lts.Need-enum-told-5 (
-  node-at-reads.Asked,
-  node-at-reads.Learnt,
-  number-sides-below t,
-  number-sides.Post,
-  number-expr-variables-below t,
-  number-expr-variables.Post,
-  number-variable-reads.Asked,
-  number-variable-reads.Learnt,
-  number-function-below t,
-  number-function.Post,
-  number-scope-below t,
-  number-scope.Post,
-  number-arms-below t,
-  number-arms.Post,
-  number-items-below t,
-  number-items.Post,
-) (number-expr-variables-at t) number-expr-variables.Post
+number-expr-variables-enum-told-5 : (t : ℕ) → number-expr-variables-lts.Need-enum-told-5 (number-expr-variables-claims t) (number-expr-variables-at t) number-expr-variables.Post
 number-expr-variables-enum-told-5 t c = search needs
 
-number-expr-variables-enum-told-6 : (t : ℕ) → number-expr-variables-lts.Need-enum-told-6 (
-  node-at-reads.Asked,
-  node-at-reads.Learnt,
-  number-sides-below t,
-  number-sides.Post,
-  number-expr-variables-below t,
-  number-expr-variables.Post,
-  number-variable-reads.Asked,
-  number-variable-reads.Learnt,
-  number-function-below t,
-  number-function.Post,
-  number-scope-below t,
-  number-scope.Post,
-  number-arms-below t,
-  number-arms.Post,
-  number-items-below t,
-  number-items.Post,
-) (number-expr-variables-at t) number-expr-variables.Post
+number-expr-variables-enum-told-6 : (t : ℕ) → number-expr-variables-lts.Need-enum-told-6 (number-expr-variables-claims t) (number-expr-variables-at t) number-expr-variables.Post
 number-expr-variables-enum-told-6 t c = search needs
 
-number-expr-variables-returns : (t : ℕ) → number-expr-variables-lts.Need-returns (
-  node-at-reads.Asked,
-  node-at-reads.Learnt,
-  number-sides-below t,
-  number-sides.Post,
-  number-expr-variables-below t,
-  number-expr-variables.Post,
-  number-variable-reads.Asked,
-  number-variable-reads.Learnt,
-  number-function-below t,
-  number-function.Post,
-  number-scope-below t,
-  number-scope.Post,
-  number-arms-below t,
-  number-arms.Post,
-  number-items-below t,
-  number-items.Post,
-) (number-expr-variables-at t) number-expr-variables.Post
+number-expr-variables-returns : (t : ℕ) → number-expr-variables-lts.Need-returns (number-expr-variables-claims t) (number-expr-variables-at t) number-expr-variables.Post
 number-expr-variables-returns t c = product-way _ _ _ _ (c .before .before .before .before .before .before .before .before .before .before .before .before .before .before .pre .1 .0) (sym (c .before .before .before .before .before .before .before .before .before .before .before .before .node-at .ensures) ∙ c .before .before .before .before .before .before .before .before .before .before .form .given .1 ∙ ap Entry.Expression (c .before .before .before .before .before .before .before .form2 .given .1)) (c .number-sides .ensures)
 
-number-expr-variables-returns-2 : (t : ℕ) → number-expr-variables-lts.Need-returns-2 (
-  node-at-reads.Asked,
-  node-at-reads.Learnt,
-  number-sides-below t,
-  number-sides.Post,
-  number-expr-variables-below t,
-  number-expr-variables.Post,
-  number-variable-reads.Asked,
-  number-variable-reads.Learnt,
-  number-function-below t,
-  number-function.Post,
-  number-scope-below t,
-  number-scope.Post,
-  number-arms-below t,
-  number-arms.Post,
-  number-items-below t,
-  number-items.Post,
-) (number-expr-variables-at t) number-expr-variables.Post
+number-expr-variables-returns-2 : (t : ℕ) → number-expr-variables-lts.Need-returns-2 (number-expr-variables-claims t) (number-expr-variables-at t) number-expr-variables.Post
 number-expr-variables-returns-2 t c = cons-way _ _ _ _ (c .before .before .before .before .before .before .before .before .before .before .before .before .before .before .pre .1 .0) (sym (c .before .before .before .before .before .before .before .before .before .before .before .before .node-at .ensures) ∙ c .before .before .before .before .before .before .before .before .before .before .form .given .1 ∙ ap Entry.Expression (c .before .before .before .before .before .before .before .form3 .given .1)) (c .number-sides2 .ensures)
 
-number-expr-variables-returns-3 : (t : ℕ) → number-expr-variables-lts.Need-returns-3 (
-  node-at-reads.Asked,
-  node-at-reads.Learnt,
-  number-sides-below t,
-  number-sides.Post,
-  number-expr-variables-below t,
-  number-expr-variables.Post,
-  number-variable-reads.Asked,
-  number-variable-reads.Learnt,
-  number-function-below t,
-  number-function.Post,
-  number-scope-below t,
-  number-scope.Post,
-  number-arms-below t,
-  number-arms.Post,
-  number-items-below t,
-  number-items.Post,
-) (number-expr-variables-at t) number-expr-variables.Post
+number-expr-variables-returns-3 : (t : ℕ) → number-expr-variables-lts.Need-returns-3 (number-expr-variables-claims t) (number-expr-variables-at t) number-expr-variables.Post
 number-expr-variables-returns-3 t c = infix-way _ _ _ _ (c .before .before .before .before .before .before .before .before .before .before .before .before .before .before .pre .1 .0) (sym (c .before .before .before .before .before .before .before .before .before .before .before .before .node-at .ensures) ∙ c .before .before .before .before .before .before .before .before .before .before .form .given .1 ∙ ap Entry.Expression (c .before .before .before .before .before .before .before .form4 .given .1)) (c .number-sides3 .ensures)
 
-number-expr-variables-returns-4 : (t : ℕ) → number-expr-variables-lts.Need-returns-4 (
-  node-at-reads.Asked,
-  node-at-reads.Learnt,
-  number-sides-below t,
-  number-sides.Post,
-  number-expr-variables-below t,
-  number-expr-variables.Post,
-  number-variable-reads.Asked,
-  number-variable-reads.Learnt,
-  number-function-below t,
-  number-function.Post,
-  number-scope-below t,
-  number-scope.Post,
-  number-arms-below t,
-  number-arms.Post,
-  number-items-below t,
-  number-items.Post,
-) (number-expr-variables-at t) number-expr-variables.Post
+number-expr-variables-returns-4 : (t : ℕ) → number-expr-variables-lts.Need-returns-4 (number-expr-variables-claims t) (number-expr-variables-at t) number-expr-variables.Post
 number-expr-variables-returns-4 t c = application-way _ _ _ _ (c .before .before .before .before .before .before .before .before .before .before .before .before .before .before .pre .1 .0) (sym (c .before .before .before .before .before .before .before .before .before .before .before .before .node-at .ensures) ∙ c .before .before .before .before .before .before .before .before .before .before .form .given .1 ∙ ap Entry.Expression (c .before .before .before .before .before .before .before .form5 .given .1)) (c .number-sides4 .ensures)
 
-number-expr-variables-returns-5 : (t : ℕ) → number-expr-variables-lts.Need-returns-5 (
-  node-at-reads.Asked,
-  node-at-reads.Learnt,
-  number-sides-below t,
-  number-sides.Post,
-  number-expr-variables-below t,
-  number-expr-variables.Post,
-  number-variable-reads.Asked,
-  number-variable-reads.Learnt,
-  number-function-below t,
-  number-function.Post,
-  number-scope-below t,
-  number-scope.Post,
-  number-arms-below t,
-  number-arms.Post,
-  number-items-below t,
-  number-items.Post,
-) (number-expr-variables-at t) number-expr-variables.Post
+number-expr-variables-returns-5 : (t : ℕ) → number-expr-variables-lts.Need-returns-5 (number-expr-variables-claims t) (number-expr-variables-at t) number-expr-variables.Post
 number-expr-variables-returns-5 t c = negate-way _ _ _ _ (c .before .before .before .before .before .before .before .before .before .before .before .before .before .before .pre .1 .0) (sym (c .before .before .before .before .before .before .before .before .before .before .before .before .node-at .ensures) ∙ c .before .before .before .before .before .before .before .before .before .before .form .given .1 ∙ ap Entry.Expression (c .before .before .before .before .before .before .before .form6 .given .1)) (c .number-expr-variables .ensures)
 
-number-expr-variables-returns-6 : (t : ℕ) → number-expr-variables-lts.Need-returns-6 (
-  node-at-reads.Asked,
-  node-at-reads.Learnt,
-  number-sides-below t,
-  number-sides.Post,
-  number-expr-variables-below t,
-  number-expr-variables.Post,
-  number-variable-reads.Asked,
-  number-variable-reads.Learnt,
-  number-function-below t,
-  number-function.Post,
-  number-scope-below t,
-  number-scope.Post,
-  number-arms-below t,
-  number-arms.Post,
-  number-items-below t,
-  number-items.Post,
-) (number-expr-variables-at t) number-expr-variables.Post
+number-expr-variables-returns-6 : (t : ℕ) → number-expr-variables-lts.Need-returns-6 (number-expr-variables-claims t) (number-expr-variables-at t) number-expr-variables.Post
 number-expr-variables-returns-6 t c = variable-way _ _ _ _ (c .before .before .before .before .before .before .before .before .before .before .before .pre .1 .0) (sym (c .before .before .before .before .before .before .before .before .before .node-at .ensures) ∙ c .before .before .before .before .before .before .before .form .given .1 ∙ ap Entry.Expression (c .before .before .before .before .form7 .given .1)) (c .before .before .before .before .before .before .before .before .before .before .before .pre .1 .1 .0) (c .number-variable .ensures)
 
-number-expr-variables-returns-7 : (t : ℕ) → number-expr-variables-lts.Need-returns-7 (
-  node-at-reads.Asked,
-  node-at-reads.Learnt,
-  number-sides-below t,
-  number-sides.Post,
-  number-expr-variables-below t,
-  number-expr-variables.Post,
-  number-variable-reads.Asked,
-  number-variable-reads.Learnt,
-  number-function-below t,
-  number-function.Post,
-  number-scope-below t,
-  number-scope.Post,
-  number-arms-below t,
-  number-arms.Post,
-  number-items-below t,
-  number-items.Post,
-) (number-expr-variables-at t) number-expr-variables.Post
+number-expr-variables-returns-7 : (t : ℕ) → number-expr-variables-lts.Need-returns-7 (number-expr-variables-claims t) (number-expr-variables-at t) number-expr-variables.Post
 number-expr-variables-returns-7 t c = function-way _ _ _ _ (c .before .before .before .before .before .before .before .before .before .before .before .before .before .before .pre .1 .0) (sym (c .before .before .before .before .before .before .before .before .before .before .before .before .node-at .ensures) ∙ c .before .before .before .before .before .before .before .before .before .before .form .given .1 ∙ ap Entry.Expression (c .before .before .before .before .before .before .before .form8 .given .1)) (c .number-function .ensures)
 
-number-expr-variables-returns-8 : (t : ℕ) → number-expr-variables-lts.Need-returns-8 (
-  node-at-reads.Asked,
-  node-at-reads.Learnt,
-  number-sides-below t,
-  number-sides.Post,
-  number-expr-variables-below t,
-  number-expr-variables.Post,
-  number-variable-reads.Asked,
-  number-variable-reads.Learnt,
-  number-function-below t,
-  number-function.Post,
-  number-scope-below t,
-  number-scope.Post,
-  number-arms-below t,
-  number-arms.Post,
-  number-items-below t,
-  number-items.Post,
-) (number-expr-variables-at t) number-expr-variables.Post
+number-expr-variables-returns-8 : (t : ℕ) → number-expr-variables-lts.Need-returns-8 (number-expr-variables-claims t) (number-expr-variables-at t) number-expr-variables.Post
 number-expr-variables-returns-8 t c = let-way _ _ _ _ (c .before .before .before .before .before .before .before .before .before .before .before .before .before .before .before .before .before .before .before .before .pre .1 .0) (sym (c .before .before .before .before .before .before .before .before .before .before .before .before .before .before .before .before .before .before .node-at .ensures) ∙ c .before .before .before .before .before .before .before .before .before .before .before .before .before .before .before .before .form .given .1 ∙ ap Entry.Expression (c .before .before .before .before .before .before .before .before .before .before .before .before .before .form9 .given .1)) (c .before .before .before .before .before .before .number-expr-variables2 .ensures) (c .number-scope .ensures)
 
-number-expr-variables-returns-9 : (t : ℕ) → number-expr-variables-lts.Need-returns-9 (
-  node-at-reads.Asked,
-  node-at-reads.Learnt,
-  number-sides-below t,
-  number-sides.Post,
-  number-expr-variables-below t,
-  number-expr-variables.Post,
-  number-variable-reads.Asked,
-  number-variable-reads.Learnt,
-  number-function-below t,
-  number-function.Post,
-  number-scope-below t,
-  number-scope.Post,
-  number-arms-below t,
-  number-arms.Post,
-  number-items-below t,
-  number-items.Post,
-) (number-expr-variables-at t) number-expr-variables.Post
+number-expr-variables-returns-9 : (t : ℕ) → number-expr-variables-lts.Need-returns-9 (number-expr-variables-claims t) (number-expr-variables-at t) number-expr-variables.Post
 number-expr-variables-returns-9 t c = match-way _ _ _ _ (c .before .before .before .before .before .before .before .before .before .before .before .before .before .before .before .before .before .before .before .before .pre .1 .0) (sym (c .before .before .before .before .before .before .before .before .before .before .before .before .before .before .before .before .before .before .node-at .ensures) ∙ c .before .before .before .before .before .before .before .before .before .before .before .before .before .before .before .before .form .given .1 ∙ ap Entry.Expression (c .before .before .before .before .before .before .before .before .before .before .before .before .before .form10 .given .1)) (c .before .before .before .before .before .before .number-expr-variables3 .ensures) (c .number-arms .ensures)
 
-number-expr-variables-returns-10 : (t : ℕ) → number-expr-variables-lts.Need-returns-10 (
-  node-at-reads.Asked,
-  node-at-reads.Learnt,
-  number-sides-below t,
-  number-sides.Post,
-  number-expr-variables-below t,
-  number-expr-variables.Post,
-  number-variable-reads.Asked,
-  number-variable-reads.Learnt,
-  number-function-below t,
-  number-function.Post,
-  number-scope-below t,
-  number-scope.Post,
-  number-arms-below t,
-  number-arms.Post,
-  number-items-below t,
-  number-items.Post,
-) (number-expr-variables-at t) number-expr-variables.Post
+number-expr-variables-returns-10 : (t : ℕ) → number-expr-variables-lts.Need-returns-10 (number-expr-variables-claims t) (number-expr-variables-at t) number-expr-variables.Post
 number-expr-variables-returns-10 t c = sequence-way _ _ _ _ (c .before .before .before .before .before .before .before .before .before .before .before .before .before .before .pre .1 .0) (sym (c .before .before .before .before .before .before .before .before .before .before .before .before .node-at .ensures) ∙ c .before .before .before .before .before .before .before .before .before .before .form .given .1 ∙ ap Entry.Expression (c .before .before .before .before .before .before .before .form11 .given .1)) (c .number-items .ensures)
 
-number-expr-variables-returns-11 : (t : ℕ) → number-expr-variables-lts.Need-returns-11 (
-  node-at-reads.Asked,
-  node-at-reads.Learnt,
-  number-sides-below t,
-  number-sides.Post,
-  number-expr-variables-below t,
-  number-expr-variables.Post,
-  number-variable-reads.Asked,
-  number-variable-reads.Learnt,
-  number-function-below t,
-  number-function.Post,
-  number-scope-below t,
-  number-scope.Post,
-  number-arms-below t,
-  number-arms.Post,
-  number-items-below t,
-  number-items.Post,
-) (number-expr-variables-at t) number-expr-variables.Post
+number-expr-variables-returns-11 : (t : ℕ) → number-expr-variables-lts.Need-returns-11 (number-expr-variables-claims t) (number-expr-variables-at t) number-expr-variables.Post
 number-expr-variables-returns-11 t c = constant-way _ _ _ _ (c .before .before .before .before .before .before .before .pre .1 .0) (c .before .before .before .before .before .before .before .pre .1 .1 .0) (c .before .before .before .before .before .before .before .pre .1 .1 .1) (sym (c .before .before .before .before .before .node-at .ensures) ∙ c .before .before .before .form .given .1 ∙ ap Entry.Expression (c .enum-told .given .1))
 
-number-expr-variables-returns-12 : (t : ℕ) → number-expr-variables-lts.Need-returns-12 (
-  node-at-reads.Asked,
-  node-at-reads.Learnt,
-  number-sides-below t,
-  number-sides.Post,
-  number-expr-variables-below t,
-  number-expr-variables.Post,
-  number-variable-reads.Asked,
-  number-variable-reads.Learnt,
-  number-function-below t,
-  number-function.Post,
-  number-scope-below t,
-  number-scope.Post,
-  number-arms-below t,
-  number-arms.Post,
-  number-items-below t,
-  number-items.Post,
-) (number-expr-variables-at t) number-expr-variables.Post
+number-expr-variables-returns-12 : (t : ℕ) → number-expr-variables-lts.Need-returns-12 (number-expr-variables-claims t) (number-expr-variables-at t) number-expr-variables.Post
 number-expr-variables-returns-12 t c = unit-way _ _ _ _ (c .before .before .before .before .before .before .before .pre .1 .0) (c .before .before .before .before .before .before .before .pre .1 .1 .0) (c .before .before .before .before .before .before .before .pre .1 .1 .1) (sym (c .before .before .before .before .before .node-at .ensures) ∙ c .before .before .before .form .given .1 ∙ ap Entry.Expression (c .enum-told2 .given .1))
 
-number-expr-variables-returns-13 : (t : ℕ) → number-expr-variables-lts.Need-returns-13 (
-  node-at-reads.Asked,
-  node-at-reads.Learnt,
-  number-sides-below t,
-  number-sides.Post,
-  number-expr-variables-below t,
-  number-expr-variables.Post,
-  number-variable-reads.Asked,
-  number-variable-reads.Learnt,
-  number-function-below t,
-  number-function.Post,
-  number-scope-below t,
-  number-scope.Post,
-  number-arms-below t,
-  number-arms.Post,
-  number-items-below t,
-  number-items.Post,
-) (number-expr-variables-at t) number-expr-variables.Post
+number-expr-variables-returns-13 : (t : ℕ) → number-expr-variables-lts.Need-returns-13 (number-expr-variables-claims t) (number-expr-variables-at t) number-expr-variables.Post
 number-expr-variables-returns-13 t c = nil-way _ _ _ _ (c .before .before .before .before .before .before .before .pre .1 .0) (c .before .before .before .before .before .before .before .pre .1 .1 .0) (c .before .before .before .before .before .before .before .pre .1 .1 .1) (sym (c .before .before .before .before .before .node-at .ensures) ∙ c .before .before .before .form .given .1 ∙ ap Entry.Expression (c .enum-told3 .given .1))
 
-number-expr-variables-returns-14 : (t : ℕ) → number-expr-variables-lts.Need-returns-14 (
-  node-at-reads.Asked,
-  node-at-reads.Learnt,
-  number-sides-below t,
-  number-sides.Post,
-  number-expr-variables-below t,
-  number-expr-variables.Post,
-  number-variable-reads.Asked,
-  number-variable-reads.Learnt,
-  number-function-below t,
-  number-function.Post,
-  number-scope-below t,
-  number-scope.Post,
-  number-arms-below t,
-  number-arms.Post,
-  number-items-below t,
-  number-items.Post,
-) (number-expr-variables-at t) number-expr-variables.Post
+number-expr-variables-returns-14 : (t : ℕ) → number-expr-variables-lts.Need-returns-14 (number-expr-variables-claims t) (number-expr-variables-at t) number-expr-variables.Post
 number-expr-variables-returns-14 t c = absurd (no-expression-pattern _ _ _ (c .before .before .before .before .pre .1 .0 .sorted) (sym (c .before .before .node-at .ensures) ∙ c .enum-told4 .given .1))
 
-number-expr-variables-returns-15 : (t : ℕ) → number-expr-variables-lts.Need-returns-15 (
-  node-at-reads.Asked,
-  node-at-reads.Learnt,
-  number-sides-below t,
-  number-sides.Post,
-  number-expr-variables-below t,
-  number-expr-variables.Post,
-  number-variable-reads.Asked,
-  number-variable-reads.Learnt,
-  number-function-below t,
-  number-function.Post,
-  number-scope-below t,
-  number-scope.Post,
-  number-arms-below t,
-  number-arms.Post,
-  number-items-below t,
-  number-items.Post,
-) (number-expr-variables-at t) number-expr-variables.Post
+number-expr-variables-returns-15 : (t : ℕ) → number-expr-variables-lts.Need-returns-15 (number-expr-variables-claims t) (number-expr-variables-at t) number-expr-variables.Post
 number-expr-variables-returns-15 t c = absurd (no-expression-link _ _ _ (c .before .before .before .before .pre .1 .0 .sorted) (sym (c .before .before .node-at .ensures) ∙ c .enum-told5 .given .1))
 
-number-expr-variables-returns-16 : (t : ℕ) → number-expr-variables-lts.Need-returns-16 (
-  node-at-reads.Asked,
-  node-at-reads.Learnt,
-  number-sides-below t,
-  number-sides.Post,
-  number-expr-variables-below t,
-  number-expr-variables.Post,
-  number-variable-reads.Asked,
-  number-variable-reads.Learnt,
-  number-function-below t,
-  number-function.Post,
-  number-scope-below t,
-  number-scope.Post,
-  number-arms-below t,
-  number-arms.Post,
-  number-items-below t,
-  number-items.Post,
-) (number-expr-variables-at t) number-expr-variables.Post
+number-expr-variables-returns-16 : (t : ℕ) → number-expr-variables-lts.Need-returns-16 (number-expr-variables-claims t) (number-expr-variables-at t) number-expr-variables.Post
 number-expr-variables-returns-16 t c = absurd (no-expression-bad _ _ _ (c .before .before .before .before .pre .1 .0 .sorted) (sym (c .before .before .node-at .ensures) ∙ c .enum-told6 .given .1))
 
 number-function-number-parameters-requires :
-    (t : ℕ) → number-function-lts.Need-number-parameters-requires (
-      number-parameters-reads.Asked,
-      number-parameters-reads.Learnt,
-      number-expr-variables-below t,
-      number-expr-variables.Post,
-      unwind-reads.Asked,
-      unwind-reads.Learnt,
-    ) (number-function-at t) number-function.Post
+    (t : ℕ) → number-function-lts.Need-number-parameters-requires (number-function-claims t) (number-function-at t) number-function.Post
 number-function-number-parameters-requires t c κs = (body-first _ _ _ _ _ (c .before .before .before .before .before .pre .1 .0), (c .before .before .before .before .before .pre .1 .1 .0))
 
 number-function-sub-number-expr-variables :
-    (t : ℕ) → number-function-lts.Need-sub-number-expr-variables (
-      number-parameters-reads.Asked,
-      number-parameters-reads.Learnt,
-      number-expr-variables-below t,
-      number-expr-variables.Post,
-      unwind-reads.Asked,
-      unwind-reads.Learnt,
-    ) (number-function-at t) number-function.Post
+    (t : ℕ) → number-function-lts.Need-sub-number-expr-variables (number-function-claims t) (number-function-at t) number-function.Post
 number-function-sub-number-expr-variables t c = omega (arith, c .before .before .before .before .before .number-parameters .ensures .more, body-second _ _ _ _ _ (c .before .before .before .before .before .before .before .before .before .before .before .pre .1 .0) _ (c .before .before .before .before .before .number-parameters .ensures .more) (c .before .before .before .before .before .number-parameters .ensures .few) .room .entries)
 
 number-function-add-number-expr-variables :
-    (t : ℕ) → number-function-lts.Need-add-number-expr-variables (
-      number-parameters-reads.Asked,
-      number-parameters-reads.Learnt,
-      number-expr-variables-below t,
-      number-expr-variables.Post,
-      unwind-reads.Asked,
-      unwind-reads.Learnt,
-    ) (number-function-at t) number-function.Post
+    (t : ℕ) → number-function-lts.Need-add-number-expr-variables (number-function-claims t) (number-function-at t) number-function.Post
 number-function-add-number-expr-variables t c = omega (arith, c .before .before .before .before .before .number-parameters .ensures .more, body-second _ _ _ _ _ (c .before .before .before .before .before .before .before .before .before .before .before .pre .1 .0) _ (c .before .before .before .before .before .number-parameters .ensures .more) (c .before .before .before .before .before .number-parameters .ensures .few) .room .entries)
 
 number-function-number-expr-variables-requires :
-    (t : ℕ) → number-function-lts.Need-number-expr-variables-requires (
-      number-parameters-reads.Asked,
-      number-parameters-reads.Learnt,
-      number-expr-variables-below t,
-      number-expr-variables.Post,
-      unwind-reads.Asked,
-      unwind-reads.Learnt,
-    ) (number-function-at t) number-function.Post
+    (t : ℕ) → number-function-lts.Need-number-expr-variables-requires (number-function-claims t) (number-function-at t) number-function.Post
 number-function-number-expr-variables-requires t c κs = (omega (arith, c .before .before .before .before .before .before .before .before .before .before .before .pre .0), (body-second _ _ _ _ _ (c .before .before .before .before .before .before .before .before .before .before .before .pre .1 .0) _ (c .before .before .before .before .before .number-parameters .ensures .more) (c .before .before .before .before .before .number-parameters .ensures .few), (c .before .before .before .before .before .number-parameters .ensures .sizes, (c .before .before .before .before .before .before .before .before .before .before .before .pre .1 .1 .1))))
 
-number-function-sub-unwind : (t : ℕ) → number-function-lts.Need-sub-unwind (
-  number-parameters-reads.Asked,
-  number-parameters-reads.Learnt,
-  number-expr-variables-below t,
-  number-expr-variables.Post,
-  unwind-reads.Asked,
-  unwind-reads.Learnt,
-) (number-function-at t) number-function.Post
+number-function-sub-unwind : (t : ℕ) → number-function-lts.Need-sub-unwind (number-function-claims t) (number-function-at t) number-function.Post
 number-function-sub-unwind t c = omega (arith, c .before .before .before .before .before .before .before .before .before .number-parameters .ensures .more)
 
-number-function-unwind-requires : (t : ℕ) → number-function-lts.Need-unwind-requires (
-  number-parameters-reads.Asked,
-  number-parameters-reads.Learnt,
-  number-expr-variables-below t,
-  number-expr-variables.Post,
-  unwind-reads.Asked,
-  unwind-reads.Learnt,
-) (number-function-at t) number-function.Post
+number-function-unwind-requires : (t : ℕ) → number-function-lts.Need-unwind-requires (number-function-claims t) (number-function-at t) number-function.Post
 number-function-unwind-requires t c κs = body-end _ _ _ _ _ (c .before .before .before .before .before .before .before .before .before .before .before .before .before .before .before .pre .1 .0) (c .before .before .before .before .before .before .before .before .before .number-parameters .ensures) (c .before .before .before .number-expr-variables .ensures)
 
-number-function-returns : (t : ℕ) → number-function-lts.Need-returns (
-  number-parameters-reads.Asked,
-  number-parameters-reads.Learnt,
-  number-expr-variables-below t,
-  number-expr-variables.Post,
-  unwind-reads.Asked,
-  unwind-reads.Learnt,
-) (number-function-at t) number-function.Post
+number-function-returns : (t : ℕ) → number-function-lts.Need-returns (number-function-claims t) (number-function-at t) number-function.Post
 number-function-returns t c = body-way _ _ _ _ _ (c .before .before .before .before .before .before .before .before .before .before .before .before .before .before .before .before .pre .1 .0) (c .before .before .before .before .before .before .before .before .before .before .number-parameters .ensures) (c .before .before .before .before .number-expr-variables .ensures) (c .before .before .before .before .before .before .before .before .before .before .before .before .before .before .before .before .pre .1 .1 .0 .rows) (c .unwind .ensures)
 
-number-items-node-at-requires : (t : ℕ) → number-items-lts.Need-node-at-requires (
-  node-at-reads.Asked,
-  node-at-reads.Learnt,
-  number-expr-variables-below t,
-  number-expr-variables.Post,
-  number-items-below t,
-  number-items.Post,
-) (number-items-at t) number-items.Post
+number-items-node-at-requires : (t : ℕ) → number-items-lts.Need-node-at-requires (number-items-claims t) (number-items-at t) number-items.Post
 number-items-node-at-requires t c κs = omega (arith, c .before .pre .1 .0 .below, c .before .pre .1 .0 .walk .long)
 
-number-items-enum-known-item : (t : ℕ) → number-items-lts.Need-enum-known-item (
-  node-at-reads.Asked,
-  node-at-reads.Learnt,
-  number-expr-variables-below t,
-  number-expr-variables.Post,
-  number-items-below t,
-  number-items.Post,
-) (number-items-at t) number-items.Post
+number-items-enum-known-item : (t : ℕ) → number-items-lts.Need-enum-known-item (number-items-claims t) (number-items-at t) number-items.Post
 number-items-enum-known-item t c = search needs
 
 number-items-number-expr-variables-requires :
-    (t : ℕ) → number-items-lts.Need-number-expr-variables-requires (
-      node-at-reads.Asked,
-      node-at-reads.Learnt,
-      number-expr-variables-below t,
-      number-expr-variables.Post,
-      number-items-below t,
-      number-items.Post,
-    ) (number-items-at t) number-items.Post
+    (t : ℕ) → number-items-lts.Need-number-expr-variables-requires (number-items-claims t) (number-items-at t) number-items.Post
 number-items-number-expr-variables-requires t c κs = let w = item-first _ _ _ _ (c .before .before .before .before .before .before .before .before .before .before .pre .1 .0) (sym (c .before .before .before .before .before .before .before .before .node-at .ensures) ∙ c .before .before .before .before .before .before .item .given .1) in (omega (arith, c .before .before .before .before .before .before .before .before .before .before .pre .0, w .0), (w .1, c .before .before .before .before .before .before .before .before .before .before .pre .1 .1))
 
-number-items-returns : (t : ℕ) → number-items-lts.Need-returns (
-  node-at-reads.Asked,
-  node-at-reads.Learnt,
-  number-expr-variables-below t,
-  number-expr-variables.Post,
-  number-items-below t,
-  number-items.Post,
-) (number-items-at t) number-items.Post
+number-items-returns : (t : ℕ) → number-items-lts.Need-returns (number-items-claims t) (number-items-at t) number-items.Post
 number-items-returns t c = item-last-way _ _ _ _ (c .before .before .before .before .before .before .before .before .before .before .before .before .pre .1 .0) (sym (c .before .before .before .before .before .before .before .before .before .before .node-at .ensures) ∙ c .before .before .before .before .before .before .before .before .item .given .1) (c .if1 .taken) (c .before .number-expr-variables .ensures)
 
-number-items-number-items-requires : (t : ℕ) → number-items-lts.Need-number-items-requires (
-  node-at-reads.Asked,
-  node-at-reads.Learnt,
-  number-expr-variables-below t,
-  number-expr-variables.Post,
-  number-items-below t,
-  number-items.Post,
-) (number-items-at t) number-items.Post
+number-items-number-items-requires : (t : ℕ) → number-items-lts.Need-number-items-requires (number-items-claims t) (number-items-at t) number-items.Post
 number-items-number-items-requires t c κs = let w = item-rest _ _ _ _ (c .before .before .before .before .before .before .before .before .before .before .before .before .before .before .before .before .before .pre .1 .0) (sym (c .before .before .before .before .before .before .before .before .before .before .before .before .before .before .before .node-at .ensures) ∙ c .before .before .before .before .before .before .before .before .before .before .before .before .before .item .given .1) _ (c .before .before .before .before .before .if1 .left) (c .before .before .before .before .before .before .number-expr-variables .ensures .few) in (omega (arith, c .before .before .before .before .before .before .before .before .before .before .before .before .before .before .before .before .before .pre .0, w .0), (w .1, (c .before .before .before .before .before .before .number-expr-variables .ensures .sizes, c .before .before .before .before .before .before .number-expr-variables .ensures .row)))
 
-number-items-enum-told : (t : ℕ) → number-items-lts.Need-enum-told (
-  node-at-reads.Asked,
-  node-at-reads.Learnt,
-  number-expr-variables-below t,
-  number-expr-variables.Post,
-  number-items-below t,
-  number-items.Post,
-) (number-items-at t) number-items.Post
+number-items-enum-told : (t : ℕ) → number-items-lts.Need-enum-told (number-items-claims t) (number-items-at t) number-items.Post
 number-items-enum-told t c = search needs
 
-number-items-enum-told-2 : (t : ℕ) → number-items-lts.Need-enum-told-2 (
-  node-at-reads.Asked,
-  node-at-reads.Learnt,
-  number-expr-variables-below t,
-  number-expr-variables.Post,
-  number-items-below t,
-  number-items.Post,
-) (number-items-at t) number-items.Post
+number-items-enum-told-2 : (t : ℕ) → number-items-lts.Need-enum-told-2 (number-items-claims t) (number-items-at t) number-items.Post
 number-items-enum-told-2 t c = search needs
 
-number-items-enum-told-3 : (t : ℕ) → number-items-lts.Need-enum-told-3 (
-  node-at-reads.Asked,
-  node-at-reads.Learnt,
-  number-expr-variables-below t,
-  number-expr-variables.Post,
-  number-items-below t,
-  number-items.Post,
-) (number-items-at t) number-items.Post
+number-items-enum-told-3 : (t : ℕ) → number-items-lts.Need-enum-told-3 (number-items-claims t) (number-items-at t) number-items.Post
 number-items-enum-told-3 t c = search needs
 
-number-items-returns-2 : (t : ℕ) → number-items-lts.Need-returns-2 (
-  node-at-reads.Asked,
-  node-at-reads.Learnt,
-  number-expr-variables-below t,
-  number-expr-variables.Post,
-  number-items-below t,
-  number-items.Post,
-) (number-items-at t) number-items.Post
+number-items-returns-2 : (t : ℕ) → number-items-lts.Need-returns-2 (number-items-claims t) (number-items-at t) number-items.Post
 number-items-returns-2 t c = item-more-way _ _ _ _ (c .before .before .before .before .before .before .before .before .before .before .before .before .before .before .before .before .before .before .pre .1 .0) (sym (c .before .before .before .before .before .before .before .before .before .before .before .before .before .before .before .before .node-at .ensures) ∙ c .before .before .before .before .before .before .before .before .before .before .before .before .before .before .item .given .1) (c .before .before .before .before .before .before .if1 .left) (c .before .before .before .before .before .before .before .number-expr-variables .ensures) (c .number-items .ensures)
 
-number-items-returns-3 : (t : ℕ) → number-items-lts.Need-returns-3 (
-  node-at-reads.Asked,
-  node-at-reads.Learnt,
-  number-expr-variables-below t,
-  number-expr-variables.Post,
-  number-items-below t,
-  number-items.Post,
-) (number-items-at t) number-items.Post
+number-items-returns-3 : (t : ℕ) → number-items-lts.Need-returns-3 (number-items-claims t) (number-items-at t) number-items.Post
 number-items-returns-3 t c = absurd (no-chain-expression _ _ _ _ (c .before .before .before .before .pre .1 .0 .chained) (sym (c .before .before .node-at .ensures) ∙ c .enum-told .given .1))
 
-number-items-returns-4 : (t : ℕ) → number-items-lts.Need-returns-4 (
-  node-at-reads.Asked,
-  node-at-reads.Learnt,
-  number-expr-variables-below t,
-  number-expr-variables.Post,
-  number-items-below t,
-  number-items.Post,
-) (number-items-at t) number-items.Post
+number-items-returns-4 : (t : ℕ) → number-items-lts.Need-returns-4 (number-items-claims t) (number-items-at t) number-items.Post
 number-items-returns-4 t c = absurd (no-chain-pattern _ _ _ _ (c .before .before .before .before .pre .1 .0 .chained) (sym (c .before .before .node-at .ensures) ∙ c .enum-told2 .given .1))
 
-number-items-returns-5 : (t : ℕ) → number-items-lts.Need-returns-5 (
-  node-at-reads.Asked,
-  node-at-reads.Learnt,
-  number-expr-variables-below t,
-  number-expr-variables.Post,
-  number-items-below t,
-  number-items.Post,
-) (number-items-at t) number-items.Post
+number-items-returns-5 : (t : ℕ) → number-items-lts.Need-returns-5 (number-items-claims t) (number-items-at t) number-items.Post
 number-items-returns-5 t c = absurd (no-chain-bad _ _ _ _ (c .before .before .before .before .pre .1 .0 .chained) (sym (c .before .before .node-at .ensures) ∙ c .enum-told3 .given .1))
 
 number-scope-number-pattern-variables-requires :
-    (t : ℕ) → number-scope-lts.Need-number-pattern-variables-requires (
-      number-pattern-variables-reads.Asked,
-      number-pattern-variables-reads.Learnt,
-      number-expr-variables-below t,
-      number-expr-variables.Post,
-      unwind-reads.Asked,
-      unwind-reads.Learnt,
-    ) (number-scope-at t) number-scope.Post
+    (t : ℕ) → number-scope-lts.Need-number-pattern-variables-requires (number-scope-claims t) (number-scope-at t) number-scope.Post
 number-scope-number-pattern-variables-requires t c κs = (scope-first _ _ _ _ _ (c .before .before .before .before .before .pre .1 .0), (c .before .before .before .before .before .pre .1 .1 .0))
 
-number-scope-sub-number-expr-variables : (t : ℕ) → number-scope-lts.Need-sub-number-expr-variables (
-  number-pattern-variables-reads.Asked,
-  number-pattern-variables-reads.Learnt,
-  number-expr-variables-below t,
-  number-expr-variables.Post,
-  unwind-reads.Asked,
-  unwind-reads.Learnt,
-) (number-scope-at t) number-scope.Post
+number-scope-sub-number-expr-variables : (t : ℕ) → number-scope-lts.Need-sub-number-expr-variables (number-scope-claims t) (number-scope-at t) number-scope.Post
 number-scope-sub-number-expr-variables t c = omega (arith, c .before .before .before .before .before .number-pattern-variables .ensures .more, scope-second _ _ _ _ _ (c .before .before .before .before .before .before .before .before .before .before .before .pre .1 .0) _ (c .before .before .before .before .before .number-pattern-variables .ensures .more) (c .before .before .before .before .before .number-pattern-variables .ensures .few) .room .entries)
 
-number-scope-add-number-expr-variables : (t : ℕ) → number-scope-lts.Need-add-number-expr-variables (
-  number-pattern-variables-reads.Asked,
-  number-pattern-variables-reads.Learnt,
-  number-expr-variables-below t,
-  number-expr-variables.Post,
-  unwind-reads.Asked,
-  unwind-reads.Learnt,
-) (number-scope-at t) number-scope.Post
+number-scope-add-number-expr-variables : (t : ℕ) → number-scope-lts.Need-add-number-expr-variables (number-scope-claims t) (number-scope-at t) number-scope.Post
 number-scope-add-number-expr-variables t c = omega (arith, c .before .before .before .before .before .number-pattern-variables .ensures .more, scope-second _ _ _ _ _ (c .before .before .before .before .before .before .before .before .before .before .before .pre .1 .0) _ (c .before .before .before .before .before .number-pattern-variables .ensures .more) (c .before .before .before .before .before .number-pattern-variables .ensures .few) .room .entries)
 
 number-scope-number-expr-variables-requires :
-    (t : ℕ) → number-scope-lts.Need-number-expr-variables-requires (
-      number-pattern-variables-reads.Asked,
-      number-pattern-variables-reads.Learnt,
-      number-expr-variables-below t,
-      number-expr-variables.Post,
-      unwind-reads.Asked,
-      unwind-reads.Learnt,
-    ) (number-scope-at t) number-scope.Post
+    (t : ℕ) → number-scope-lts.Need-number-expr-variables-requires (number-scope-claims t) (number-scope-at t) number-scope.Post
 number-scope-number-expr-variables-requires t c κs = (omega (arith, c .before .before .before .before .before .before .before .before .before .before .before .pre .0), (scope-second _ _ _ _ _ (c .before .before .before .before .before .before .before .before .before .before .before .pre .1 .0) _ (c .before .before .before .before .before .number-pattern-variables .ensures .more) (c .before .before .before .before .before .number-pattern-variables .ensures .few), (c .before .before .before .before .before .number-pattern-variables .ensures .sizes, (c .before .before .before .before .before .before .before .before .before .before .before .pre .1 .1 .1))))
 
-number-scope-sub-unwind : (t : ℕ) → number-scope-lts.Need-sub-unwind (
-  number-pattern-variables-reads.Asked,
-  number-pattern-variables-reads.Learnt,
-  number-expr-variables-below t,
-  number-expr-variables.Post,
-  unwind-reads.Asked,
-  unwind-reads.Learnt,
-) (number-scope-at t) number-scope.Post
+number-scope-sub-unwind : (t : ℕ) → number-scope-lts.Need-sub-unwind (number-scope-claims t) (number-scope-at t) number-scope.Post
 number-scope-sub-unwind t c = omega (arith, c .before .before .before .before .before .before .before .before .before .number-pattern-variables .ensures .more)
 
-number-scope-unwind-requires : (t : ℕ) → number-scope-lts.Need-unwind-requires (
-  number-pattern-variables-reads.Asked,
-  number-pattern-variables-reads.Learnt,
-  number-expr-variables-below t,
-  number-expr-variables.Post,
-  unwind-reads.Asked,
-  unwind-reads.Learnt,
-) (number-scope-at t) number-scope.Post
+number-scope-unwind-requires : (t : ℕ) → number-scope-lts.Need-unwind-requires (number-scope-claims t) (number-scope-at t) number-scope.Post
 number-scope-unwind-requires t c κs = scope-end _ _ _ _ _ (c .before .before .before .before .before .before .before .before .before .before .before .before .before .before .before .pre .1 .0) (c .before .before .before .before .before .before .before .before .before .number-pattern-variables .ensures) (c .before .before .before .number-expr-variables .ensures)
 
-number-scope-returns : (t : ℕ) → number-scope-lts.Need-returns (
-  number-pattern-variables-reads.Asked,
-  number-pattern-variables-reads.Learnt,
-  number-expr-variables-below t,
-  number-expr-variables.Post,
-  unwind-reads.Asked,
-  unwind-reads.Learnt,
-) (number-scope-at t) number-scope.Post
+number-scope-returns : (t : ℕ) → number-scope-lts.Need-returns (number-scope-claims t) (number-scope-at t) number-scope.Post
 number-scope-returns t c = scope-way _ _ _ _ _ (c .before .before .before .before .before .before .before .before .before .before .before .before .before .before .before .before .pre .1 .0) (c .before .before .before .before .before .before .before .before .before .before .number-pattern-variables .ensures) (c .before .before .before .before .number-expr-variables .ensures) (c .before .before .before .before .before .before .before .before .before .before .before .before .before .before .before .before .pre .1 .1 .0 .rows) (c .unwind .ensures)
 
 number-sides-number-expr-variables-requires :
-    (t : ℕ) → number-sides-lts.Need-number-expr-variables-requires (
-      number-expr-variables-below t,
-      number-expr-variables.Post,
-    ) (number-sides-at t) number-sides.Post
+    (t : ℕ) → number-sides-lts.Need-number-expr-variables-requires (number-sides-claims t) (number-sides-at t) number-sides.Post
 number-sides-number-expr-variables-requires t c κs = let w = sides-first _ _ _ _ _ _ (c .before .before .before .before .before .before .pre .1 .0) in (omega (arith, c .before .before .before .before .before .before .pre .0, w .0), (w .1, c .before .before .before .before .before .before .pre .1 .1))
 
 number-sides-number-expr-variables-requires-2 :
-    (t : ℕ) → number-sides-lts.Need-number-expr-variables-requires-2 (
-      number-expr-variables-below t,
-      number-expr-variables.Post,
-    ) (number-sides-at t) number-sides.Post
+    (t : ℕ) → number-sides-lts.Need-number-expr-variables-requires-2 (number-sides-claims t) (number-sides-at t) number-sides.Post
 number-sides-number-expr-variables-requires-2 t c κs = let w = sides-second _ _ _ _ _ _ (c .before .before .before .before .before .before .before .before .before .before .before .before .pre .1 .0) _ (c .before .before .before .before .before .number-expr-variables .ensures .few) in (omega (arith, c .before .before .before .before .before .before .before .before .before .before .before .before .pre .0, w .0), (w .1, (c .before .before .before .before .before .number-expr-variables .ensures .sizes, c .before .before .before .before .before .number-expr-variables .ensures .row)))
 
-number-sides-returns : (t : ℕ) → number-sides-lts.Need-returns (
-  number-expr-variables-below t,
-  number-expr-variables.Post,
-) (number-sides-at t) number-sides.Post
+number-sides-returns : (t : ℕ) → number-sides-lts.Need-returns (number-sides-claims t) (number-sides-at t) number-sides.Post
 number-sides-returns t c = sides-way _ _ _ _ _ _ (c .before .before .before .before .before .before .before .before .before .before .before .before .before .pre .1 .0) (c .before .before .before .before .before .before .number-expr-variables .ensures) (c .number-expr-variables2 .ensures)
 
 pub +number-arms+number-expr-variables+number-function+number-items+number-scope+number-sides-spec :

@@ -35,148 +35,60 @@ number-parameters-below t =
     (falls 5 number-parameters-kinds.ps _<_ μ-number-parameters t)
     number-parameters.Pre
 
-number-parameters-node-at-requires : (t : ℕ) → number-parameters-lts.Need-node-at-requires (
+abbrev number-parameters-claims : ℕ → number-parameters-lts.Claims
+number-parameters-claims t = (
   node-at-reads.Asked,
   node-at-reads.Learnt,
   number-pattern-variables-reads.Asked,
   number-pattern-variables-reads.Learnt,
   number-parameters-below t,
   number-parameters.Post,
-) (number-parameters-at t) number-parameters.Post
+)
+
+number-parameters-node-at-requires : (t : ℕ) → number-parameters-lts.Need-node-at-requires (number-parameters-claims t) (number-parameters-at t) number-parameters.Post
 number-parameters-node-at-requires t c κs = omega (arith, c .before .pre .1 .0 .below, c .before .pre .1 .0 .walk .long)
 
-number-parameters-enum-known-item : (t : ℕ) → number-parameters-lts.Need-enum-known-item (
-  node-at-reads.Asked,
-  node-at-reads.Learnt,
-  number-pattern-variables-reads.Asked,
-  number-pattern-variables-reads.Learnt,
-  number-parameters-below t,
-  number-parameters.Post,
-) (number-parameters-at t) number-parameters.Post
+number-parameters-enum-known-item : (t : ℕ) → number-parameters-lts.Need-enum-known-item (number-parameters-claims t) (number-parameters-at t) number-parameters.Post
 number-parameters-enum-known-item t c = search needs
 
 number-parameters-number-pattern-variables-requires :
-    (t : ℕ) → number-parameters-lts.Need-number-pattern-variables-requires (
-      node-at-reads.Asked,
-      node-at-reads.Learnt,
-      number-pattern-variables-reads.Asked,
-      number-pattern-variables-reads.Learnt,
-      number-parameters-below t,
-      number-parameters.Post,
-    ) (number-parameters-at t) number-parameters.Post
+    (t : ℕ) → number-parameters-lts.Need-number-pattern-variables-requires (number-parameters-claims t) (number-parameters-at t) number-parameters.Post
 number-parameters-number-pattern-variables-requires t c κs = (parameter-first _ _ _ _ (c .before .before .before .before .before .before .before .before .before .pre .1 .0) (sym (c .before .before .before .before .before .before .before .node-at .ensures) ∙ c .before .before .before .before .before .item .given .1) .1, (c .before .before .before .before .before .before .before .before .before .pre .1 .1))
 
-number-parameters-returns : (t : ℕ) → number-parameters-lts.Need-returns (
-  node-at-reads.Asked,
-  node-at-reads.Learnt,
-  number-pattern-variables-reads.Asked,
-  number-pattern-variables-reads.Learnt,
-  number-parameters-below t,
-  number-parameters.Post,
-) (number-parameters-at t) number-parameters.Post
+number-parameters-returns : (t : ℕ) → number-parameters-lts.Need-returns (number-parameters-claims t) (number-parameters-at t) number-parameters.Post
 number-parameters-returns t c = parameter-last-way _ _ _ _ (c .before .before .before .before .before .before .before .before .before .before .before .pre .1 .0) (sym (c .before .before .before .before .before .before .before .before .before .node-at .ensures) ∙ c .before .before .before .before .before .before .before .item .given .1) (c .if1 .taken) (c .before .number-pattern-variables .ensures)
 
 number-parameters-sub-number-parameters :
-    (t : ℕ) → number-parameters-lts.Need-sub-number-parameters (
-      node-at-reads.Asked,
-      node-at-reads.Learnt,
-      number-pattern-variables-reads.Asked,
-      number-pattern-variables-reads.Learnt,
-      number-parameters-below t,
-      number-parameters.Post,
-    ) (number-parameters-at t) number-parameters.Post
+    (t : ℕ) → number-parameters-lts.Need-sub-number-parameters (number-parameters-claims t) (number-parameters-at t) number-parameters.Post
 number-parameters-sub-number-parameters t c = omega (arith, c .before .before .before .before .before .number-pattern-variables .ensures .more, parameter-room _ _ _ _ (c .before .before .before .before .before .before .before .before .before .before .before .before .before .before .before .pre .1 .0) (sym (c .before .before .before .before .before .before .before .before .before .before .before .before .before .node-at .ensures) ∙ c .before .before .before .before .before .before .before .before .before .before .before .item .given .1) _ (c .before .before .before .before .before .number-pattern-variables .ensures .more) (c .before .before .before .before .before .number-pattern-variables .ensures .few))
 
 number-parameters-add-number-parameters :
-    (t : ℕ) → number-parameters-lts.Need-add-number-parameters (
-      node-at-reads.Asked,
-      node-at-reads.Learnt,
-      number-pattern-variables-reads.Asked,
-      number-pattern-variables-reads.Learnt,
-      number-parameters-below t,
-      number-parameters.Post,
-    ) (number-parameters-at t) number-parameters.Post
+    (t : ℕ) → number-parameters-lts.Need-add-number-parameters (number-parameters-claims t) (number-parameters-at t) number-parameters.Post
 number-parameters-add-number-parameters t c = omega (arith, c .before .before .before .before .before .number-pattern-variables .ensures .more, parameter-room _ _ _ _ (c .before .before .before .before .before .before .before .before .before .before .before .before .before .before .before .pre .1 .0) (sym (c .before .before .before .before .before .before .before .before .before .before .before .before .before .node-at .ensures) ∙ c .before .before .before .before .before .before .before .before .before .before .before .item .given .1) _ (c .before .before .before .before .before .number-pattern-variables .ensures .more) (c .before .before .before .before .before .number-pattern-variables .ensures .few))
 
 number-parameters-number-parameters-requires :
-    (t : ℕ) → number-parameters-lts.Need-number-parameters-requires (
-      node-at-reads.Asked,
-      node-at-reads.Learnt,
-      number-pattern-variables-reads.Asked,
-      number-pattern-variables-reads.Learnt,
-      number-parameters-below t,
-      number-parameters.Post,
-    ) (number-parameters-at t) number-parameters.Post
+    (t : ℕ) → number-parameters-lts.Need-number-parameters-requires (number-parameters-claims t) (number-parameters-at t) number-parameters.Post
 number-parameters-number-parameters-requires t c κs = let w = parameter-rest _ _ _ _ (c .before .before .before .before .before .before .before .before .before .before .before .before .before .before .before .pre .1 .0) (sym (c .before .before .before .before .before .before .before .before .before .before .before .before .before .node-at .ensures) ∙ c .before .before .before .before .before .before .before .before .before .before .before .item .given .1) _ (c .before .before .before .before .if1 .left) (c .before .before .before .before .before .number-pattern-variables .ensures .more) (c .before .before .before .before .before .number-pattern-variables .ensures .few) in (omega (arith, c .before .before .before .before .before .before .before .before .before .before .before .before .before .before .before .pre .0, w .0), (w .1, c .before .before .before .before .before .number-pattern-variables .ensures .sizes))
 
-number-parameters-enum-told : (t : ℕ) → number-parameters-lts.Need-enum-told (
-  node-at-reads.Asked,
-  node-at-reads.Learnt,
-  number-pattern-variables-reads.Asked,
-  number-pattern-variables-reads.Learnt,
-  number-parameters-below t,
-  number-parameters.Post,
-) (number-parameters-at t) number-parameters.Post
+number-parameters-enum-told : (t : ℕ) → number-parameters-lts.Need-enum-told (number-parameters-claims t) (number-parameters-at t) number-parameters.Post
 number-parameters-enum-told t c = search needs
 
-number-parameters-enum-told-2 : (t : ℕ) → number-parameters-lts.Need-enum-told-2 (
-  node-at-reads.Asked,
-  node-at-reads.Learnt,
-  number-pattern-variables-reads.Asked,
-  number-pattern-variables-reads.Learnt,
-  number-parameters-below t,
-  number-parameters.Post,
-) (number-parameters-at t) number-parameters.Post
+number-parameters-enum-told-2 : (t : ℕ) → number-parameters-lts.Need-enum-told-2 (number-parameters-claims t) (number-parameters-at t) number-parameters.Post
 number-parameters-enum-told-2 t c = search needs
 
-number-parameters-enum-told-3 : (t : ℕ) → number-parameters-lts.Need-enum-told-3 (
-  node-at-reads.Asked,
-  node-at-reads.Learnt,
-  number-pattern-variables-reads.Asked,
-  number-pattern-variables-reads.Learnt,
-  number-parameters-below t,
-  number-parameters.Post,
-) (number-parameters-at t) number-parameters.Post
+number-parameters-enum-told-3 : (t : ℕ) → number-parameters-lts.Need-enum-told-3 (number-parameters-claims t) (number-parameters-at t) number-parameters.Post
 number-parameters-enum-told-3 t c = search needs
 
-number-parameters-returns-2 : (t : ℕ) → number-parameters-lts.Need-returns-2 (
-  node-at-reads.Asked,
-  node-at-reads.Learnt,
-  number-pattern-variables-reads.Asked,
-  number-pattern-variables-reads.Learnt,
-  number-parameters-below t,
-  number-parameters.Post,
-) (number-parameters-at t) number-parameters.Post
+number-parameters-returns-2 : (t : ℕ) → number-parameters-lts.Need-returns-2 (number-parameters-claims t) (number-parameters-at t) number-parameters.Post
 number-parameters-returns-2 t c = parameter-more-way _ _ _ _ (c .before .before .before .before .before .before .before .before .before .before .before .before .before .before .before .before .pre .1 .0) (sym (c .before .before .before .before .before .before .before .before .before .before .before .before .before .before .node-at .ensures) ∙ c .before .before .before .before .before .before .before .before .before .before .before .before .item .given .1) (c .before .before .before .before .before .if1 .left) (c .before .before .before .before .before .before .number-pattern-variables .ensures) (c .number-parameters .ensures)
 
-number-parameters-returns-3 : (t : ℕ) → number-parameters-lts.Need-returns-3 (
-  node-at-reads.Asked,
-  node-at-reads.Learnt,
-  number-pattern-variables-reads.Asked,
-  number-pattern-variables-reads.Learnt,
-  number-parameters-below t,
-  number-parameters.Post,
-) (number-parameters-at t) number-parameters.Post
+number-parameters-returns-3 : (t : ℕ) → number-parameters-lts.Need-returns-3 (number-parameters-claims t) (number-parameters-at t) number-parameters.Post
 number-parameters-returns-3 t c = absurd (no-chain-expression _ _ _ _ (c .before .before .before .before .pre .1 .0 .chained) (sym (c .before .before .node-at .ensures) ∙ c .enum-told .given .1))
 
-number-parameters-returns-4 : (t : ℕ) → number-parameters-lts.Need-returns-4 (
-  node-at-reads.Asked,
-  node-at-reads.Learnt,
-  number-pattern-variables-reads.Asked,
-  number-pattern-variables-reads.Learnt,
-  number-parameters-below t,
-  number-parameters.Post,
-) (number-parameters-at t) number-parameters.Post
+number-parameters-returns-4 : (t : ℕ) → number-parameters-lts.Need-returns-4 (number-parameters-claims t) (number-parameters-at t) number-parameters.Post
 number-parameters-returns-4 t c = absurd (no-chain-pattern _ _ _ _ (c .before .before .before .before .pre .1 .0 .chained) (sym (c .before .before .node-at .ensures) ∙ c .enum-told2 .given .1))
 
-number-parameters-returns-5 : (t : ℕ) → number-parameters-lts.Need-returns-5 (
-  node-at-reads.Asked,
-  node-at-reads.Learnt,
-  number-pattern-variables-reads.Asked,
-  number-pattern-variables-reads.Learnt,
-  number-parameters-below t,
-  number-parameters.Post,
-) (number-parameters-at t) number-parameters.Post
+number-parameters-returns-5 : (t : ℕ) → number-parameters-lts.Need-returns-5 (number-parameters-claims t) (number-parameters-at t) number-parameters.Post
 number-parameters-returns-5 t c = absurd (no-chain-bad _ _ _ _ (c .before .before .before .before .pre .1 .0 .chained) (sym (c .before .before .node-at .ensures) ∙ c .enum-told3 .given .1))
 
 pub +number-parameters-spec : {M : Type 1} → statement M

@@ -36,370 +36,135 @@ number-pattern-variables-below t =
     (falls 5 number-pattern-variables-kinds.ps _<_ μ-number-pattern-variables t)
     number-pattern-variables.Pre
 
+abbrev number-pattern-variables-claims : ℕ → number-pattern-variables-lts.Claims
+number-pattern-variables-claims t = (
+  node-at-reads.Asked,
+  node-at-reads.Learnt,
+  number-pattern-variables-below t,
+  number-pattern-variables.Post,
+  bind-reads.Asked,
+  bind-reads.Learnt,
+)
+
 number-pattern-variables-node-at-requires :
-    (t : ℕ) → number-pattern-variables-lts.Need-node-at-requires (
-      node-at-reads.Asked,
-      node-at-reads.Learnt,
-      number-pattern-variables-below t,
-      number-pattern-variables.Post,
-      bind-reads.Asked,
-      bind-reads.Learnt,
-    ) (number-pattern-variables-at t) number-pattern-variables.Post
+    (t : ℕ) → number-pattern-variables-lts.Need-node-at-requires (number-pattern-variables-claims t) (number-pattern-variables-at t) number-pattern-variables.Post
 number-pattern-variables-node-at-requires t c κs = omega (arith, c .before .pre .1 .0 .below, c .before .pre .1 .0 .walk .long)
 
 number-pattern-variables-enum-known-shape :
-    (t : ℕ) → number-pattern-variables-lts.Need-enum-known-shape (
-      node-at-reads.Asked,
-      node-at-reads.Learnt,
-      number-pattern-variables-below t,
-      number-pattern-variables.Post,
-      bind-reads.Asked,
-      bind-reads.Learnt,
-    ) (number-pattern-variables-at t) number-pattern-variables.Post
+    (t : ℕ) → number-pattern-variables-lts.Need-enum-known-shape (number-pattern-variables-claims t) (number-pattern-variables-at t) number-pattern-variables.Post
 number-pattern-variables-enum-known-shape t c = search needs
 
 number-pattern-variables-enum-known-shape-2 :
-    (t : ℕ) → number-pattern-variables-lts.Need-enum-known-shape-2 (
-      node-at-reads.Asked,
-      node-at-reads.Learnt,
-      number-pattern-variables-below t,
-      number-pattern-variables.Post,
-      bind-reads.Asked,
-      bind-reads.Learnt,
-    ) (number-pattern-variables-at t) number-pattern-variables.Post
+    (t : ℕ) → number-pattern-variables-lts.Need-enum-known-shape-2 (number-pattern-variables-claims t) (number-pattern-variables-at t) number-pattern-variables.Post
 number-pattern-variables-enum-known-shape-2 t c = search needs
 
 number-pattern-variables-number-pattern-variables-requires :
-    (t : ℕ) → number-pattern-variables-lts.Need-number-pattern-variables-requires (
-      node-at-reads.Asked,
-      node-at-reads.Learnt,
-      number-pattern-variables-below t,
-      number-pattern-variables.Post,
-      bind-reads.Asked,
-      bind-reads.Learnt,
-    ) (number-pattern-variables-at t) number-pattern-variables.Post
+    (t : ℕ) → number-pattern-variables-lts.Need-number-pattern-variables-requires (number-pattern-variables-claims t) (number-pattern-variables-at t) number-pattern-variables.Post
 number-pattern-variables-number-pattern-variables-requires t c κs = let w = as-first _ _ _ _ (c .before .before .before .before .before .before .before .before .before .before .before .before .pre .1 .0) (sym (c .before .before .before .before .before .before .before .before .before .before .node-at .ensures) ∙ c .before .before .before .before .before .before .before .before .shape .given .1 ∙ ap Entry.Pattern (c .before .before .before .before .before .shape2 .given .1)) in (omega (arith, c .before .before .before .before .before .before .before .before .before .before .before .before .pre .0, w .0), (w .1, (c .before .before .before .before .before .before .before .before .before .before .before .before .pre .1 .1)))
 
-number-pattern-variables-sub-bind : (t : ℕ) → number-pattern-variables-lts.Need-sub-bind (
-  node-at-reads.Asked,
-  node-at-reads.Learnt,
-  number-pattern-variables-below t,
-  number-pattern-variables.Post,
-  bind-reads.Asked,
-  bind-reads.Learnt,
-) (number-pattern-variables-at t) number-pattern-variables.Post
+number-pattern-variables-sub-bind : (t : ℕ) → number-pattern-variables-lts.Need-sub-bind (number-pattern-variables-claims t) (number-pattern-variables-at t) number-pattern-variables.Post
 number-pattern-variables-sub-bind t c = omega (arith, c .before .before .before .before .number-pattern-variables .ensures .more, as-bind _ _ _ _ (c .before .before .before .before .before .before .before .before .before .before .before .before .before .before .before .before .before .pre .1 .0) _ (sym (c .before .before .before .before .before .before .before .before .before .before .before .before .before .before .before .node-at .ensures) ∙ c .before .before .before .before .before .before .before .before .before .before .before .before .before .shape .given .1 ∙ ap Entry.Pattern (c .before .before .before .before .before .before .before .before .before .before .shape2 .given .1)) (c .before .before .before .before .number-pattern-variables .ensures .more) (c .before .before .before .before .number-pattern-variables .ensures .few) .1 .1)
 
-number-pattern-variables-add-bind : (t : ℕ) → number-pattern-variables-lts.Need-add-bind (
-  node-at-reads.Asked,
-  node-at-reads.Learnt,
-  number-pattern-variables-below t,
-  number-pattern-variables.Post,
-  bind-reads.Asked,
-  bind-reads.Learnt,
-) (number-pattern-variables-at t) number-pattern-variables.Post
+number-pattern-variables-add-bind : (t : ℕ) → number-pattern-variables-lts.Need-add-bind (number-pattern-variables-claims t) (number-pattern-variables-at t) number-pattern-variables.Post
 number-pattern-variables-add-bind t c = omega (arith, c .before .before .before .before .number-pattern-variables .ensures .more, as-bind _ _ _ _ (c .before .before .before .before .before .before .before .before .before .before .before .before .before .before .before .before .before .pre .1 .0) _ (sym (c .before .before .before .before .before .before .before .before .before .before .before .before .before .before .before .node-at .ensures) ∙ c .before .before .before .before .before .before .before .before .before .before .before .before .before .shape .given .1 ∙ ap Entry.Pattern (c .before .before .before .before .before .before .before .before .before .before .shape2 .given .1)) (c .before .before .before .before .number-pattern-variables .ensures .more) (c .before .before .before .before .number-pattern-variables .ensures .few) .1 .1)
 
-number-pattern-variables-bind-requires : (t : ℕ) → number-pattern-variables-lts.Need-bind-requires (
-  node-at-reads.Asked,
-  node-at-reads.Learnt,
-  number-pattern-variables-below t,
-  number-pattern-variables.Post,
-  bind-reads.Asked,
-  bind-reads.Learnt,
-) (number-pattern-variables-at t) number-pattern-variables.Post
+number-pattern-variables-bind-requires : (t : ℕ) → number-pattern-variables-lts.Need-bind-requires (number-pattern-variables-claims t) (number-pattern-variables-at t) number-pattern-variables.Post
 number-pattern-variables-bind-requires t c κs = as-bind _ _ _ _ (c .before .before .before .before .before .before .before .before .before .before .before .before .before .before .before .before .before .pre .1 .0) _ (sym (c .before .before .before .before .before .before .before .before .before .before .before .before .before .before .before .node-at .ensures) ∙ c .before .before .before .before .before .before .before .before .before .before .before .before .before .shape .given .1 ∙ ap Entry.Pattern (c .before .before .before .before .before .before .before .before .before .before .shape2 .given .1)) (c .before .before .before .before .number-pattern-variables .ensures .more) (c .before .before .before .before .number-pattern-variables .ensures .few)
 
 number-pattern-variables-enum-known-shape-3 :
-    (t : ℕ) → number-pattern-variables-lts.Need-enum-known-shape-3 (
-      node-at-reads.Asked,
-      node-at-reads.Learnt,
-      number-pattern-variables-below t,
-      number-pattern-variables.Post,
-      bind-reads.Asked,
-      bind-reads.Learnt,
-    ) (number-pattern-variables-at t) number-pattern-variables.Post
+    (t : ℕ) → number-pattern-variables-lts.Need-enum-known-shape-3 (number-pattern-variables-claims t) (number-pattern-variables-at t) number-pattern-variables.Post
 number-pattern-variables-enum-known-shape-3 t c = search needs
 
 number-pattern-variables-number-pattern-variables-requires-2 :
-    (t : ℕ) → number-pattern-variables-lts.Need-number-pattern-variables-requires-2 (
-      node-at-reads.Asked,
-      node-at-reads.Learnt,
-      number-pattern-variables-below t,
-      number-pattern-variables.Post,
-      bind-reads.Asked,
-      bind-reads.Learnt,
-    ) (number-pattern-variables-at t) number-pattern-variables.Post
+    (t : ℕ) → number-pattern-variables-lts.Need-number-pattern-variables-requires-2 (number-pattern-variables-claims t) (number-pattern-variables-at t) number-pattern-variables.Post
 number-pattern-variables-number-pattern-variables-requires-2 t c κs = let w = pair-first _ _ _ _ (c .before .before .before .before .before .before .before .before .before .before .before .before .pre .1 .0) (sym (c .before .before .before .before .before .before .before .before .before .before .node-at .ensures) ∙ c .before .before .before .before .before .before .before .before .shape .given .1 ∙ ap Entry.Pattern (c .before .before .before .before .before .shape3 .given .1)) refl in (omega (arith, c .before .before .before .before .before .before .before .before .before .before .before .before .pre .0, w .0), (w .1, (c .before .before .before .before .before .before .before .before .before .before .before .before .pre .1 .1)))
 
 number-pattern-variables-sub-number-pattern-variables :
-    (t : ℕ) → number-pattern-variables-lts.Need-sub-number-pattern-variables (
-      node-at-reads.Asked,
-      node-at-reads.Learnt,
-      number-pattern-variables-below t,
-      number-pattern-variables.Post,
-      bind-reads.Asked,
-      bind-reads.Learnt,
-    ) (number-pattern-variables-at t) number-pattern-variables.Post
+    (t : ℕ) → number-pattern-variables-lts.Need-sub-number-pattern-variables (number-pattern-variables-claims t) (number-pattern-variables-at t) number-pattern-variables.Post
 number-pattern-variables-sub-number-pattern-variables t c = omega (arith, c .before .before .before .before .number-pattern-variables2 .ensures .more, pair-second _ _ _ _ (c .before .before .before .before .before .before .before .before .before .before .before .before .before .before .before .before .before .pre .1 .0) _ (sym (c .before .before .before .before .before .before .before .before .before .before .before .before .before .before .before .node-at .ensures) ∙ c .before .before .before .before .before .before .before .before .before .before .before .before .before .shape .given .1 ∙ ap Entry.Pattern (c .before .before .before .before .before .before .before .before .before .before .shape3 .given .1)) refl (c .before .before .before .before .number-pattern-variables2 .ensures .more) (c .before .before .before .before .number-pattern-variables2 .ensures .few) .1 .room .entries)
 
 number-pattern-variables-add-number-pattern-variables :
-    (t : ℕ) → number-pattern-variables-lts.Need-add-number-pattern-variables (
-      node-at-reads.Asked,
-      node-at-reads.Learnt,
-      number-pattern-variables-below t,
-      number-pattern-variables.Post,
-      bind-reads.Asked,
-      bind-reads.Learnt,
-    ) (number-pattern-variables-at t) number-pattern-variables.Post
+    (t : ℕ) → number-pattern-variables-lts.Need-add-number-pattern-variables (number-pattern-variables-claims t) (number-pattern-variables-at t) number-pattern-variables.Post
 number-pattern-variables-add-number-pattern-variables t c = omega (arith, c .before .before .before .before .number-pattern-variables2 .ensures .more, pair-second _ _ _ _ (c .before .before .before .before .before .before .before .before .before .before .before .before .before .before .before .before .before .pre .1 .0) _ (sym (c .before .before .before .before .before .before .before .before .before .before .before .before .before .before .before .node-at .ensures) ∙ c .before .before .before .before .before .before .before .before .before .before .before .before .before .shape .given .1 ∙ ap Entry.Pattern (c .before .before .before .before .before .before .before .before .before .before .shape3 .given .1)) refl (c .before .before .before .before .number-pattern-variables2 .ensures .more) (c .before .before .before .before .number-pattern-variables2 .ensures .few) .1 .room .entries)
 
 number-pattern-variables-number-pattern-variables-requires-3 :
-    (t : ℕ) → number-pattern-variables-lts.Need-number-pattern-variables-requires-3 (
-      node-at-reads.Asked,
-      node-at-reads.Learnt,
-      number-pattern-variables-below t,
-      number-pattern-variables.Post,
-      bind-reads.Asked,
-      bind-reads.Learnt,
-    ) (number-pattern-variables-at t) number-pattern-variables.Post
+    (t : ℕ) → number-pattern-variables-lts.Need-number-pattern-variables-requires-3 (number-pattern-variables-claims t) (number-pattern-variables-at t) number-pattern-variables.Post
 number-pattern-variables-number-pattern-variables-requires-3 t c κs = let w = pair-second _ _ _ _ (c .before .before .before .before .before .before .before .before .before .before .before .before .before .before .before .before .before .pre .1 .0) _ (sym (c .before .before .before .before .before .before .before .before .before .before .before .before .before .before .before .node-at .ensures) ∙ c .before .before .before .before .before .before .before .before .before .before .before .before .before .shape .given .1 ∙ ap Entry.Pattern (c .before .before .before .before .before .before .before .before .before .before .shape3 .given .1)) refl (c .before .before .before .before .number-pattern-variables2 .ensures .more) (c .before .before .before .before .number-pattern-variables2 .ensures .few) in (omega (arith, c .before .before .before .before .before .before .before .before .before .before .before .before .before .before .before .before .before .pre .0, w .0), (w .1, c .before .before .before .before .number-pattern-variables2 .ensures .sizes))
 
 number-pattern-variables-enum-known-shape-4 :
-    (t : ℕ) → number-pattern-variables-lts.Need-enum-known-shape-4 (
-      node-at-reads.Asked,
-      node-at-reads.Learnt,
-      number-pattern-variables-below t,
-      number-pattern-variables.Post,
-      bind-reads.Asked,
-      bind-reads.Learnt,
-    ) (number-pattern-variables-at t) number-pattern-variables.Post
+    (t : ℕ) → number-pattern-variables-lts.Need-enum-known-shape-4 (number-pattern-variables-claims t) (number-pattern-variables-at t) number-pattern-variables.Post
 number-pattern-variables-enum-known-shape-4 t c = search needs
 
 number-pattern-variables-number-pattern-variables-requires-4 :
-    (t : ℕ) → number-pattern-variables-lts.Need-number-pattern-variables-requires-4 (
-      node-at-reads.Asked,
-      node-at-reads.Learnt,
-      number-pattern-variables-below t,
-      number-pattern-variables.Post,
-      bind-reads.Asked,
-      bind-reads.Learnt,
-    ) (number-pattern-variables-at t) number-pattern-variables.Post
+    (t : ℕ) → number-pattern-variables-lts.Need-number-pattern-variables-requires-4 (number-pattern-variables-claims t) (number-pattern-variables-at t) number-pattern-variables.Post
 number-pattern-variables-number-pattern-variables-requires-4 t c κs = let w = pair-first _ _ _ _ (c .before .before .before .before .before .before .before .before .before .before .before .before .pre .1 .0) (sym (c .before .before .before .before .before .before .before .before .before .before .node-at .ensures) ∙ c .before .before .before .before .before .before .before .before .shape .given .1 ∙ ap Entry.Pattern (c .before .before .before .before .before .shape4 .given .1)) refl in (omega (arith, c .before .before .before .before .before .before .before .before .before .before .before .before .pre .0, w .0), (w .1, (c .before .before .before .before .before .before .before .before .before .before .before .before .pre .1 .1)))
 
 number-pattern-variables-sub-number-pattern-variables-2 :
-    (t : ℕ) → number-pattern-variables-lts.Need-sub-number-pattern-variables-2 (
-      node-at-reads.Asked,
-      node-at-reads.Learnt,
-      number-pattern-variables-below t,
-      number-pattern-variables.Post,
-      bind-reads.Asked,
-      bind-reads.Learnt,
-    ) (number-pattern-variables-at t) number-pattern-variables.Post
+    (t : ℕ) → number-pattern-variables-lts.Need-sub-number-pattern-variables-2 (number-pattern-variables-claims t) (number-pattern-variables-at t) number-pattern-variables.Post
 number-pattern-variables-sub-number-pattern-variables-2 t c = omega (arith, c .before .before .before .before .number-pattern-variables4 .ensures .more, pair-second _ _ _ _ (c .before .before .before .before .before .before .before .before .before .before .before .before .before .before .before .before .before .pre .1 .0) _ (sym (c .before .before .before .before .before .before .before .before .before .before .before .before .before .before .before .node-at .ensures) ∙ c .before .before .before .before .before .before .before .before .before .before .before .before .before .shape .given .1 ∙ ap Entry.Pattern (c .before .before .before .before .before .before .before .before .before .before .shape4 .given .1)) refl (c .before .before .before .before .number-pattern-variables4 .ensures .more) (c .before .before .before .before .number-pattern-variables4 .ensures .few) .1 .room .entries)
 
 number-pattern-variables-add-number-pattern-variables-2 :
-    (t : ℕ) → number-pattern-variables-lts.Need-add-number-pattern-variables-2 (
-      node-at-reads.Asked,
-      node-at-reads.Learnt,
-      number-pattern-variables-below t,
-      number-pattern-variables.Post,
-      bind-reads.Asked,
-      bind-reads.Learnt,
-    ) (number-pattern-variables-at t) number-pattern-variables.Post
+    (t : ℕ) → number-pattern-variables-lts.Need-add-number-pattern-variables-2 (number-pattern-variables-claims t) (number-pattern-variables-at t) number-pattern-variables.Post
 number-pattern-variables-add-number-pattern-variables-2 t c = omega (arith, c .before .before .before .before .number-pattern-variables4 .ensures .more, pair-second _ _ _ _ (c .before .before .before .before .before .before .before .before .before .before .before .before .before .before .before .before .before .pre .1 .0) _ (sym (c .before .before .before .before .before .before .before .before .before .before .before .before .before .before .before .node-at .ensures) ∙ c .before .before .before .before .before .before .before .before .before .before .before .before .before .shape .given .1 ∙ ap Entry.Pattern (c .before .before .before .before .before .before .before .before .before .before .shape4 .given .1)) refl (c .before .before .before .before .number-pattern-variables4 .ensures .more) (c .before .before .before .before .number-pattern-variables4 .ensures .few) .1 .room .entries)
 
 number-pattern-variables-number-pattern-variables-requires-5 :
-    (t : ℕ) → number-pattern-variables-lts.Need-number-pattern-variables-requires-5 (
-      node-at-reads.Asked,
-      node-at-reads.Learnt,
-      number-pattern-variables-below t,
-      number-pattern-variables.Post,
-      bind-reads.Asked,
-      bind-reads.Learnt,
-    ) (number-pattern-variables-at t) number-pattern-variables.Post
+    (t : ℕ) → number-pattern-variables-lts.Need-number-pattern-variables-requires-5 (number-pattern-variables-claims t) (number-pattern-variables-at t) number-pattern-variables.Post
 number-pattern-variables-number-pattern-variables-requires-5 t c κs = let w = pair-second _ _ _ _ (c .before .before .before .before .before .before .before .before .before .before .before .before .before .before .before .before .before .pre .1 .0) _ (sym (c .before .before .before .before .before .before .before .before .before .before .before .before .before .before .before .node-at .ensures) ∙ c .before .before .before .before .before .before .before .before .before .before .before .before .before .shape .given .1 ∙ ap Entry.Pattern (c .before .before .before .before .before .before .before .before .before .before .shape4 .given .1)) refl (c .before .before .before .before .number-pattern-variables4 .ensures .more) (c .before .before .before .before .number-pattern-variables4 .ensures .few) in (omega (arith, c .before .before .before .before .before .before .before .before .before .before .before .before .before .before .before .before .before .pre .0, w .0), (w .1, c .before .before .before .before .number-pattern-variables4 .ensures .sizes))
 
 number-pattern-variables-enum-known-shape-5 :
-    (t : ℕ) → number-pattern-variables-lts.Need-enum-known-shape-5 (
-      node-at-reads.Asked,
-      node-at-reads.Learnt,
-      number-pattern-variables-below t,
-      number-pattern-variables.Post,
-      bind-reads.Asked,
-      bind-reads.Learnt,
-    ) (number-pattern-variables-at t) number-pattern-variables.Post
+    (t : ℕ) → number-pattern-variables-lts.Need-enum-known-shape-5 (number-pattern-variables-claims t) (number-pattern-variables-at t) number-pattern-variables.Post
 number-pattern-variables-enum-known-shape-5 t c = search needs
 
 number-pattern-variables-bind-requires-2 :
-    (t : ℕ) → number-pattern-variables-lts.Need-bind-requires-2 (
-      node-at-reads.Asked,
-      node-at-reads.Learnt,
-      number-pattern-variables-below t,
-      number-pattern-variables.Post,
-      bind-reads.Asked,
-      bind-reads.Learnt,
-    ) (number-pattern-variables-at t) number-pattern-variables.Post
+    (t : ℕ) → number-pattern-variables-lts.Need-bind-requires-2 (number-pattern-variables-claims t) (number-pattern-variables-at t) number-pattern-variables.Post
 number-pattern-variables-bind-requires-2 t c κs = variable-bind _ _ _ _ (c .before .before .before .before .before .before .before .before .before .before .before .before .pre .1 .0) (sym (c .before .before .before .before .before .before .before .before .before .before .node-at .ensures) ∙ c .before .before .before .before .before .before .before .before .shape .given .1 ∙ ap Entry.Pattern (c .before .before .before .before .before .shape5 .given .1))
 
-number-pattern-variables-enum-told : (t : ℕ) → number-pattern-variables-lts.Need-enum-told (
-  node-at-reads.Asked,
-  node-at-reads.Learnt,
-  number-pattern-variables-below t,
-  number-pattern-variables.Post,
-  bind-reads.Asked,
-  bind-reads.Learnt,
-) (number-pattern-variables-at t) number-pattern-variables.Post
+number-pattern-variables-enum-told : (t : ℕ) → number-pattern-variables-lts.Need-enum-told (number-pattern-variables-claims t) (number-pattern-variables-at t) number-pattern-variables.Post
 number-pattern-variables-enum-told t c = search needs
 
-number-pattern-variables-enum-told-2 : (t : ℕ) → number-pattern-variables-lts.Need-enum-told-2 (
-  node-at-reads.Asked,
-  node-at-reads.Learnt,
-  number-pattern-variables-below t,
-  number-pattern-variables.Post,
-  bind-reads.Asked,
-  bind-reads.Learnt,
-) (number-pattern-variables-at t) number-pattern-variables.Post
+number-pattern-variables-enum-told-2 : (t : ℕ) → number-pattern-variables-lts.Need-enum-told-2 (number-pattern-variables-claims t) (number-pattern-variables-at t) number-pattern-variables.Post
 number-pattern-variables-enum-told-2 t c = search needs
 
-number-pattern-variables-enum-told-3 : (t : ℕ) → number-pattern-variables-lts.Need-enum-told-3 (
-  node-at-reads.Asked,
-  node-at-reads.Learnt,
-  number-pattern-variables-below t,
-  number-pattern-variables.Post,
-  bind-reads.Asked,
-  bind-reads.Learnt,
-) (number-pattern-variables-at t) number-pattern-variables.Post
+number-pattern-variables-enum-told-3 : (t : ℕ) → number-pattern-variables-lts.Need-enum-told-3 (number-pattern-variables-claims t) (number-pattern-variables-at t) number-pattern-variables.Post
 number-pattern-variables-enum-told-3 t c = search needs
 
-number-pattern-variables-enum-told-4 : (t : ℕ) → number-pattern-variables-lts.Need-enum-told-4 (
-  node-at-reads.Asked,
-  node-at-reads.Learnt,
-  number-pattern-variables-below t,
-  number-pattern-variables.Post,
-  bind-reads.Asked,
-  bind-reads.Learnt,
-) (number-pattern-variables-at t) number-pattern-variables.Post
+number-pattern-variables-enum-told-4 : (t : ℕ) → number-pattern-variables-lts.Need-enum-told-4 (number-pattern-variables-claims t) (number-pattern-variables-at t) number-pattern-variables.Post
 number-pattern-variables-enum-told-4 t c = search needs
 
-number-pattern-variables-enum-told-5 : (t : ℕ) → number-pattern-variables-lts.Need-enum-told-5 (
-  node-at-reads.Asked,
-  node-at-reads.Learnt,
-  number-pattern-variables-below t,
-  number-pattern-variables.Post,
-  bind-reads.Asked,
-  bind-reads.Learnt,
-) (number-pattern-variables-at t) number-pattern-variables.Post
+number-pattern-variables-enum-told-5 : (t : ℕ) → number-pattern-variables-lts.Need-enum-told-5 (number-pattern-variables-claims t) (number-pattern-variables-at t) number-pattern-variables.Post
 number-pattern-variables-enum-told-5 t c = search needs
 
-number-pattern-variables-enum-told-6 : (t : ℕ) → number-pattern-variables-lts.Need-enum-told-6 (
-  node-at-reads.Asked,
-  node-at-reads.Learnt,
-  number-pattern-variables-below t,
-  number-pattern-variables.Post,
-  bind-reads.Asked,
-  bind-reads.Learnt,
-) (number-pattern-variables-at t) number-pattern-variables.Post
+number-pattern-variables-enum-told-6 : (t : ℕ) → number-pattern-variables-lts.Need-enum-told-6 (number-pattern-variables-claims t) (number-pattern-variables-at t) number-pattern-variables.Post
 number-pattern-variables-enum-told-6 t c = search needs
 
-number-pattern-variables-returns : (t : ℕ) → number-pattern-variables-lts.Need-returns (
-  node-at-reads.Asked,
-  node-at-reads.Learnt,
-  number-pattern-variables-below t,
-  number-pattern-variables.Post,
-  bind-reads.Asked,
-  bind-reads.Learnt,
-) (number-pattern-variables-at t) number-pattern-variables.Post
+number-pattern-variables-returns : (t : ℕ) → number-pattern-variables-lts.Need-returns (number-pattern-variables-claims t) (number-pattern-variables-at t) number-pattern-variables.Post
 number-pattern-variables-returns t c = as-way _ _ _ _ (c .before .before .before .before .before .before .before .before .before .before .before .before .before .before .before .before .before .before .pre .1 .0) (sym (c .before .before .before .before .before .before .before .before .before .before .before .before .before .before .before .before .node-at .ensures) ∙ c .before .before .before .before .before .before .before .before .before .before .before .before .before .before .shape .given .1 ∙ ap Entry.Pattern (c .before .before .before .before .before .before .before .before .before .before .before .shape2 .given .1)) (c .before .before .before .before .before .number-pattern-variables .ensures) (c .bind .ensures)
 
-number-pattern-variables-returns-2 : (t : ℕ) → number-pattern-variables-lts.Need-returns-2 (
-  node-at-reads.Asked,
-  node-at-reads.Learnt,
-  number-pattern-variables-below t,
-  number-pattern-variables.Post,
-  bind-reads.Asked,
-  bind-reads.Learnt,
-) (number-pattern-variables-at t) number-pattern-variables.Post
+number-pattern-variables-returns-2 : (t : ℕ) → number-pattern-variables-lts.Need-returns-2 (number-pattern-variables-claims t) (number-pattern-variables-at t) number-pattern-variables.Post
 number-pattern-variables-returns-2 t c = product-way _ _ _ _ (c .before .before .before .before .before .before .before .before .before .before .before .before .before .before .before .before .before .before .pre .1 .0) (sym (c .before .before .before .before .before .before .before .before .before .before .before .before .before .before .before .before .node-at .ensures) ∙ c .before .before .before .before .before .before .before .before .before .before .before .before .before .before .shape .given .1 ∙ ap Entry.Pattern (c .before .before .before .before .before .before .before .before .before .before .before .shape3 .given .1)) (c .before .before .before .before .before .number-pattern-variables2 .ensures) (c .number-pattern-variables3 .ensures)
 
-number-pattern-variables-returns-3 : (t : ℕ) → number-pattern-variables-lts.Need-returns-3 (
-  node-at-reads.Asked,
-  node-at-reads.Learnt,
-  number-pattern-variables-below t,
-  number-pattern-variables.Post,
-  bind-reads.Asked,
-  bind-reads.Learnt,
-) (number-pattern-variables-at t) number-pattern-variables.Post
+number-pattern-variables-returns-3 : (t : ℕ) → number-pattern-variables-lts.Need-returns-3 (number-pattern-variables-claims t) (number-pattern-variables-at t) number-pattern-variables.Post
 number-pattern-variables-returns-3 t c = cons-way _ _ _ _ (c .before .before .before .before .before .before .before .before .before .before .before .before .before .before .before .before .before .before .pre .1 .0) (sym (c .before .before .before .before .before .before .before .before .before .before .before .before .before .before .before .before .node-at .ensures) ∙ c .before .before .before .before .before .before .before .before .before .before .before .before .before .before .shape .given .1 ∙ ap Entry.Pattern (c .before .before .before .before .before .before .before .before .before .before .before .shape4 .given .1)) (c .before .before .before .before .before .number-pattern-variables4 .ensures) (c .number-pattern-variables5 .ensures)
 
-number-pattern-variables-returns-4 : (t : ℕ) → number-pattern-variables-lts.Need-returns-4 (
-  node-at-reads.Asked,
-  node-at-reads.Learnt,
-  number-pattern-variables-below t,
-  number-pattern-variables.Post,
-  bind-reads.Asked,
-  bind-reads.Learnt,
-) (number-pattern-variables-at t) number-pattern-variables.Post
+number-pattern-variables-returns-4 : (t : ℕ) → number-pattern-variables-lts.Need-returns-4 (number-pattern-variables-claims t) (number-pattern-variables-at t) number-pattern-variables.Post
 number-pattern-variables-returns-4 t c = variable-way _ _ _ _ (c .before .before .before .before .before .before .before .before .before .before .before .before .before .pre .1 .0) (c .before .before .before .before .before .before .before .before .before .before .before .before .before .pre .1 .1) (sym (c .before .before .before .before .before .before .before .before .before .before .before .node-at .ensures) ∙ c .before .before .before .before .before .before .before .before .before .shape .given .1 ∙ ap Entry.Pattern (c .before .before .before .before .before .before .shape5 .given .1)) (c .bind2 .ensures)
 
-number-pattern-variables-returns-5 : (t : ℕ) → number-pattern-variables-lts.Need-returns-5 (
-  node-at-reads.Asked,
-  node-at-reads.Learnt,
-  number-pattern-variables-below t,
-  number-pattern-variables.Post,
-  bind-reads.Asked,
-  bind-reads.Learnt,
-) (number-pattern-variables-at t) number-pattern-variables.Post
+number-pattern-variables-returns-5 : (t : ℕ) → number-pattern-variables-lts.Need-returns-5 (number-pattern-variables-claims t) (number-pattern-variables-at t) number-pattern-variables.Post
 number-pattern-variables-returns-5 t c = constant-way _ _ _ _ (c .before .before .before .before .before .before .before .pre .1 .0) (c .before .before .before .before .before .before .before .pre .1 .1) (sym (c .before .before .before .before .before .node-at .ensures) ∙ c .before .before .before .shape .given .1 ∙ ap Entry.Pattern (c .enum-told .given .1))
 
-number-pattern-variables-returns-6 : (t : ℕ) → number-pattern-variables-lts.Need-returns-6 (
-  node-at-reads.Asked,
-  node-at-reads.Learnt,
-  number-pattern-variables-below t,
-  number-pattern-variables.Post,
-  bind-reads.Asked,
-  bind-reads.Learnt,
-) (number-pattern-variables-at t) number-pattern-variables.Post
+number-pattern-variables-returns-6 : (t : ℕ) → number-pattern-variables-lts.Need-returns-6 (number-pattern-variables-claims t) (number-pattern-variables-at t) number-pattern-variables.Post
 number-pattern-variables-returns-6 t c = unit-way _ _ _ _ (c .before .before .before .before .before .before .before .pre .1 .0) (c .before .before .before .before .before .before .before .pre .1 .1) (sym (c .before .before .before .before .before .node-at .ensures) ∙ c .before .before .before .shape .given .1 ∙ ap Entry.Pattern (c .enum-told2 .given .1))
 
-number-pattern-variables-returns-7 : (t : ℕ) → number-pattern-variables-lts.Need-returns-7 (
-  node-at-reads.Asked,
-  node-at-reads.Learnt,
-  number-pattern-variables-below t,
-  number-pattern-variables.Post,
-  bind-reads.Asked,
-  bind-reads.Learnt,
-) (number-pattern-variables-at t) number-pattern-variables.Post
+number-pattern-variables-returns-7 : (t : ℕ) → number-pattern-variables-lts.Need-returns-7 (number-pattern-variables-claims t) (number-pattern-variables-at t) number-pattern-variables.Post
 number-pattern-variables-returns-7 t c = nil-way _ _ _ _ (c .before .before .before .before .before .before .before .pre .1 .0) (c .before .before .before .before .before .before .before .pre .1 .1) (sym (c .before .before .before .before .before .node-at .ensures) ∙ c .before .before .before .shape .given .1 ∙ ap Entry.Pattern (c .enum-told3 .given .1))
 
-number-pattern-variables-returns-8 : (t : ℕ) → number-pattern-variables-lts.Need-returns-8 (
-  node-at-reads.Asked,
-  node-at-reads.Learnt,
-  number-pattern-variables-below t,
-  number-pattern-variables.Post,
-  bind-reads.Asked,
-  bind-reads.Learnt,
-) (number-pattern-variables-at t) number-pattern-variables.Post
+number-pattern-variables-returns-8 : (t : ℕ) → number-pattern-variables-lts.Need-returns-8 (number-pattern-variables-claims t) (number-pattern-variables-at t) number-pattern-variables.Post
 number-pattern-variables-returns-8 t c = absurd (no-pattern-expression _ _ _ (c .before .before .before .before .pre .1 .0 .sorted) (sym (c .before .before .node-at .ensures) ∙ c .enum-told4 .given .1))
 
-number-pattern-variables-returns-9 : (t : ℕ) → number-pattern-variables-lts.Need-returns-9 (
-  node-at-reads.Asked,
-  node-at-reads.Learnt,
-  number-pattern-variables-below t,
-  number-pattern-variables.Post,
-  bind-reads.Asked,
-  bind-reads.Learnt,
-) (number-pattern-variables-at t) number-pattern-variables.Post
+number-pattern-variables-returns-9 : (t : ℕ) → number-pattern-variables-lts.Need-returns-9 (number-pattern-variables-claims t) (number-pattern-variables-at t) number-pattern-variables.Post
 number-pattern-variables-returns-9 t c = absurd (no-pattern-link _ _ _ (c .before .before .before .before .pre .1 .0 .sorted) (sym (c .before .before .node-at .ensures) ∙ c .enum-told5 .given .1))
 
-number-pattern-variables-returns-10 : (t : ℕ) → number-pattern-variables-lts.Need-returns-10 (
-  node-at-reads.Asked,
-  node-at-reads.Learnt,
-  number-pattern-variables-below t,
-  number-pattern-variables.Post,
-  bind-reads.Asked,
-  bind-reads.Learnt,
-) (number-pattern-variables-at t) number-pattern-variables.Post
+number-pattern-variables-returns-10 : (t : ℕ) → number-pattern-variables-lts.Need-returns-10 (number-pattern-variables-claims t) (number-pattern-variables-at t) number-pattern-variables.Post
 number-pattern-variables-returns-10 t c = absurd (no-pattern-bad _ _ _ (c .before .before .before .before .pre .1 .0 .sorted) (sym (c .before .before .node-at .ensures) ∙ c .enum-told6 .given .1))
 
 pub +number-pattern-variables-spec : {M : Type 1} → statement M
