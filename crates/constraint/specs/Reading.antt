@@ -11,14 +11,14 @@ use Rattle.flat.specs.Rules.{All}
 use Rattle.flat.specs.Record.{rows, pick, operatorOf, definitionAt}
 use Rattle.constraint.specs.declared.Term.{Term}
 use Rattle.constraint.specs.Trees.{Side, Equality, ConstraintModule}
-use Rattle.constraint.specs.Record.{constraintBytes}
+use Rattle.constraint.specs.Record.{constraintBytes, COPY, NEGATE}
 
 -- the term at word i; the right side of an operation's number and two terms; the equality k of those from word `at` on
 unfoldable pub termAt : List ℕ → ℕ → Term
 termAt b i = pick (eqb (wordAt b i) 0) (Term.Variable (wordAt b (i + 1))) (Term.Constant (toZ w32 (wordAt b (i + 1))))
 
 unfoldable pub sideFor : ℕ → Term → Term → Side
-sideFor n x y = pick (eqb n 9) (Side.negate x) (pick (eqb n 10) (Side.copy x) (Side.infixed (operatorOf n) x y))
+sideFor n x y = pick (eqb n NEGATE) (Side.negate x) (pick (eqb n COPY) (Side.copy x) (Side.infixed (operatorOf n) x y))
 
 unfoldable pub equalityAt : List ℕ → ℕ → ℕ → Equality
 equalityAt b at k =

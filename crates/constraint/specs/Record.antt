@@ -12,6 +12,16 @@ use Rattle.constraint.specs.declared.Operation.{Operation}
 use Rattle.constraint.specs.declared.Equality.{Equality as Written}
 use Rattle.constraint.specs.declared.Term.{Term}
 use Rattle.constraint.specs.Trees.{Equality, ConstraintModule, written}
+use Rattle.records.specs.Kinds as Kinds
+use Rattle.records.specs.Kinds.{CONSTANT, INFIX, VARIABLE}
+use Rattle.records.specs.Operators.{ADD, DIVIDE, DIVIDE-Z, EQUAL, EXPONENTIATE, INT-DIVIDE, MODULO, MULTIPLY, SUBTRACT}
+
+-- the operations that are no operators
+abbrev pub NEGATE : ℕ
+NEGATE = 9
+
+abbrev pub COPY : ℕ
+COPY = 10
 
 -- a number's 32 bits
 unfoldable pub numberWord : ℤ → ℕ
@@ -24,21 +34,21 @@ termWords (Term.Constant c) = 1 ∷ numberWord c ∷ []
 
 -- "operators 0 to 8 in the order of `InfixOp`"
 unfoldable pub operatorWord : InfixOp → ℕ
-operatorWord InfixOp.Divide = 0
-operatorWord InfixOp.DivideZ = 1
-operatorWord InfixOp.Multiply = 2
-operatorWord InfixOp.Add = 3
-operatorWord InfixOp.Subtract = 4
-operatorWord InfixOp.Equal = 5
-operatorWord InfixOp.Exponentiate = 6
-operatorWord InfixOp.IntDivide = 7
-operatorWord InfixOp.Modulo = 8
+operatorWord InfixOp.Divide = DIVIDE
+operatorWord InfixOp.DivideZ = DIVIDE-Z
+operatorWord InfixOp.Multiply = MULTIPLY
+operatorWord InfixOp.Add = ADD
+operatorWord InfixOp.Subtract = SUBTRACT
+operatorWord InfixOp.Equal = EQUAL
+operatorWord InfixOp.Exponentiate = EXPONENTIATE
+operatorWord InfixOp.IntDivide = INT-DIVIDE
+operatorWord InfixOp.Modulo = MODULO
 
 -- "operation (0 to 8, 9 negate, 10 copy)"
 unfoldable pub operationWord : Operation → ℕ
 operationWord (Operation.Infix o) = operatorWord o
-operationWord Operation.Negate = 9
-operationWord Operation.Copy = 10
+operationWord Operation.Negate = NEGATE
+operationWord Operation.Copy = COPY
 
 -- "an equality is seven words: left term, operation, two terms"
 unfoldable pub writtenWords : Written → List ℕ
@@ -63,10 +73,10 @@ unfoldable pub nodeWords : ℕ → ℕ → ℕ → ℕ → List ℕ
 nodeWords kind a b c = kind ∷ a ∷ b ∷ c ∷ []
 
 unfoldable pub nodesFrom : ℕ → Flat → List ℕ
-nodesFrom base (Flat.infixed o a b) = nodesFrom base a ++ (nodesFrom (nextFrom base a) b ++ nodeWords 4 (rootFrom base a) (rootFrom (nextFrom base a) b) (operatorWord o))
-nodesFrom base (Flat.negate a) = nodesFrom base a ++ nodeWords 5 (rootFrom base a) 0 0
-nodesFrom base (Flat.constant c) = nodeWords 7 (numberWord c) 0 0
-nodesFrom base (Flat.variable v) = nodeWords 8 v 0 0
+nodesFrom base (Flat.infixed o a b) = nodesFrom base a ++ (nodesFrom (nextFrom base a) b ++ nodeWords INFIX (rootFrom base a) (rootFrom (nextFrom base a) b) (operatorWord o))
+nodesFrom base (Flat.negate a) = nodesFrom base a ++ nodeWords Kinds.NEGATE (rootFrom base a) 0 0
+nodesFrom base (Flat.constant c) = nodeWords CONSTANT (numberWord c) 0 0
+nodesFrom base (Flat.variable v) = nodeWords VARIABLE v 0 0
 
 -- kept definitions (id, node), "in definition order", and their nodes
 unfoldable pub definitionWords : ℕ → ℕ → List ℕ

@@ -1,5 +1,14 @@
 // The constraint record: its parts, and how each is written. Places are counted in words.
 use field::InfixOp;
+use records::operators::ADD;
+use records::operators::DIVIDE;
+use records::operators::DIVIDE_Z;
+use records::operators::EQUAL;
+use records::operators::EXPONENTIATE;
+use records::operators::INT_DIVIDE;
+use records::operators::MODULO;
+use records::operators::MULTIPLY;
+use records::operators::SUBTRACT;
 use words::put_word;
 use words::unsigned;
 ghost use mathlib.Core.Path.{_≡_};
@@ -7,6 +16,14 @@ ghost use Prim.Native.Nat.{_+_, _*_, _≤_};
 ghost use lib.ListN.{length};
 ghost use Rattle.words.specs.Words.{setWords};
 ghost use Rattle.constraint.specs.Record.{termWords, operatorWord, operationWord, writtenWords, nodeWords, definitionWords, headerWords};
+
+// Words of the record's header.
+pub const HEADER: usize = 6;
+
+// The operations that are no operators.
+pub const NEGATE: u32 = 9;
+
+pub const COPY: u32 = 10;
 
 // "A term is either a variable or a constant."
 pub enum Term {
@@ -34,15 +51,15 @@ pub fn operator_number(op: InfixOp) -> u32
     ensures { λ r. ⌜ r ≡ operatorWord op ⌝ }
 {
     match op {
-        InfixOp::Divide => 0,
-        InfixOp::DivideZ => 1,
-        InfixOp::Multiply => 2,
-        InfixOp::Add => 3,
-        InfixOp::Subtract => 4,
-        InfixOp::Equal => 5,
-        InfixOp::Exponentiate => 6,
-        InfixOp::IntDivide => 7,
-        InfixOp::Modulo => 8,
+        InfixOp::Divide => DIVIDE,
+        InfixOp::DivideZ => DIVIDE_Z,
+        InfixOp::Multiply => MULTIPLY,
+        InfixOp::Add => ADD,
+        InfixOp::Subtract => SUBTRACT,
+        InfixOp::Equal => EQUAL,
+        InfixOp::Exponentiate => EXPONENTIATE,
+        InfixOp::IntDivide => INT_DIVIDE,
+        InfixOp::Modulo => MODULO,
     }
 }
 
@@ -52,8 +69,8 @@ fn operation_number(operation: Operation) -> u32
 {
     match operation {
         Operation::Infix(op) => operator_number(op),
-        Operation::Negate => 9,
-        Operation::Copy => 10,
+        Operation::Negate => NEGATE,
+        Operation::Copy => COPY,
     }
 }
 

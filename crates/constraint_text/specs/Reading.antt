@@ -12,10 +12,12 @@ use Rattle.constraint.specs.declared.Term.{Term}
 use Rattle.constraint.specs.declared.Operation.{Operation}
 use Rattle.constraint.specs.declared.Equality.{Equality as Written}
 use Rattle.constraint_text.specs.Text.{equalityText, nextText}
+use Rattle.constraint.specs.Record.{NEGATE}
+use Rattle.records.specs.Operators.{MODULO}
 
 -- "operation (0 to 8, 9 negate, 10 copy)"
 unfoldable pub operationOf : ℕ → Operation
-operationOf n = pick (leb n 8) (Operation.Infix (operatorOf n)) (pick (eqb n 9) Operation.Negate Operation.Copy)
+operationOf n = pick (leb n MODULO) (Operation.Infix (operatorOf n)) (pick (eqb n NEGATE) Operation.Negate Operation.Copy)
 
 -- "0 and an id, or 1 and a number"
 unfoldable pub termOf : ℕ → ℕ → Term

@@ -3,6 +3,8 @@
 mod line;
 mod reading;
 
+use constraint::HEADER;
+pub use line::LINE;
 pub use line::equality_line;
 pub use line::next_line;
 pub use line::refused_line;
@@ -15,6 +17,8 @@ ghost use Rattle.io.specs.Counts.{Counts};
 ghost use Rattle.constraint_text.specs.Text.{setBytes, refusedText};
 ghost use Rattle.constraint_text.specs.Reading.{firstEquality, lines, lineAt};
 
+const HEADER_BYTES: usize = 4 * HEADER;
+
 // The bound, 6 and twice the largest word, is what keeps the sums below from wrapping.
 fn first_equality(s: &[u8]) -> usize
     requires { ⌜ 24 ≤ length (now s) ⌝ }
@@ -23,14 +27,14 @@ fn first_equality(s: &[u8]) -> usize
 {
     let publics = word_at(s, 1) as usize;
     let provers = word_at(s, 2) as usize;
-    6 + publics + provers
+    HEADER + publics + provers
 }
 
 // The counts of a record are any words, so lines are counted only as far as its bytes go.
 fn line_count(s: &[u8]) -> usize
     ensures { λ r. ⌜ r ≡ lines (now (s .entry)) ⌝ }
 {
-    if s.len() < 24 {
+    if s.len() < HEADER_BYTES {
         return 0;
     }
     let first = first_equality(s);
@@ -47,7 +51,7 @@ fn line_count(s: &[u8]) -> usize
 }
 
 // Line k of the text of a record, at the front of the bytes; of no bytes behind the last line.
-pub fn line_at(s: &[u8], k: usize, out: &mut [u8; 80]) -> usize
+pub fn line_at(s: &[u8], k: usize, out: &mut [u8; LINE]) -> usize
     ensures { λ r. ⌜ (r ≡ length (lineAt (now (s .entry)) k)) × (now (out .exit) ≡ setBytes (now (out .entry)) 0 (lineAt (now (s .entry)) k)) ⌝ }
     ensures { λ r. ⌜ Counts r (now (out .exit)) ⌝ }
 {
@@ -64,7 +68,7 @@ pub fn line_at(s: &[u8], k: usize, out: &mut [u8; 80]) -> usize
 fn print_line(s: &[u8], k: usize) -> usize
     ensures { λ r. ⌜ r ≡ length (lineAt (now (s .entry)) k) ⌝ }
 {
-    let mut line = [0u8; 80];
+    let mut line = [0u8; LINE];
     let n = line_at(s, k, &mut line);
     io::write_all(1, &line[..n]);
     n
@@ -85,7 +89,7 @@ pub fn print_equalities(s: &[u8]) -> usize
 pub fn print_refused(number: u32) -> usize
     ensures { λ r. ⌜ r ≡ length (refusedText number) ⌝ }
 {
-    let mut line = [0u8; 80];
+    let mut line = [0u8; LINE];
     let n = refused_line(number, &mut line);
     io::write_all(1, &line[..n]);
     n

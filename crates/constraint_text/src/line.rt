@@ -11,6 +11,11 @@ ghost use lib.Signed.{mag};
 ghost use Rattle.io.specs.Counts.{Counts};
 ghost use Rattle.constraint_text.specs.Text.{setBytes, decimal, numberText, termText, signOf, between, sideText, equalityText, lineText, nextText, refusedText};
 
+// Room for every line, and for the digits of every 64-bit number.
+pub const LINE: usize = 80;
+
+const DIGITS: usize = 20;
+
 fn put_byte(out: &mut [u8], at: usize, byte: u8) -> usize
     requires { ⌜ at + 1 ≤ length (now out) ⌝ }
     ensures { λ r. ⌜ (r ≡ at + 1) × (now (out .exit) ≡ setBytes (now (out .entry)) at (byte ∷ [])) ⌝ }
@@ -36,7 +41,7 @@ fn put_decimal(out: &mut [u8], at: usize, n: u64) -> usize
     ensures { λ r. ⌜ (r ≡ at + length (decimal n)) × (now (out .exit) ≡ setBytes (now (out .entry)) at (decimal n)) ⌝ }
     ensures { λ r. ⌜ r ≤ at + 20 ⌝ }
 {
-    let mut digits = [0u8; 20];
+    let mut digits = [0u8; DIGITS];
     let k = io::decimal(n, &mut digits);
     put_text(out, at, &digits[..k])
 }
@@ -122,7 +127,7 @@ fn put_side(out: &mut [u8], at: usize, operation: Operation, first: Term, second
 }
 
 // The line of an equality, at the front of the bytes.
-pub fn equality_line(equality: Equality, out: &mut [u8; 80]) -> usize
+pub fn equality_line(equality: Equality, out: &mut [u8; LINE]) -> usize
     ensures { λ r. ⌜ (r ≡ length (equalityText equality)) × (now (out .exit) ≡ setBytes (now (out .entry)) 0 (equalityText equality)) ⌝ }
     ensures { λ r. ⌜ Counts r (now (out .exit)) ⌝ }
 {
@@ -137,7 +142,7 @@ pub fn equality_line(equality: Equality, out: &mut [u8; 80]) -> usize
 }
 
 // A word and a number, at the front of the bytes.
-fn put_line(out: &mut [u8; 80], word: &[u8], n: u64) -> usize
+fn put_line(out: &mut [u8; LINE], word: &[u8], n: u64) -> usize
     requires { ⌜ length (now word) ≤ 20 ⌝ }
     ensures { λ r. ⌜ (r ≡ length (lineText (now (word .entry)) n)) × (now (out .exit) ≡ setBytes (now (out .entry)) 0 (lineText (now (word .entry)) n)) ⌝ }
     ensures { λ r. ⌜ Counts r (now (out .exit)) ⌝ }
@@ -148,7 +153,7 @@ fn put_line(out: &mut [u8; 80], word: &[u8], n: u64) -> usize
 }
 
 // "next" and the next free id.
-pub fn next_line(next: u32, out: &mut [u8; 80]) -> usize
+pub fn next_line(next: u32, out: &mut [u8; LINE]) -> usize
     ensures { λ r. ⌜ (r ≡ length (nextText next)) × (now (out .exit) ≡ setBytes (now (out .entry)) 0 (nextText next)) ⌝ }
     ensures { λ r. ⌜ Counts r (now (out .exit)) ⌝ }
 {
@@ -156,7 +161,7 @@ pub fn next_line(next: u32, out: &mut [u8; 80]) -> usize
 }
 
 // "refused" and the number.
-pub fn refused_line(number: u32, out: &mut [u8; 80]) -> usize
+pub fn refused_line(number: u32, out: &mut [u8; LINE]) -> usize
     ensures { λ r. ⌜ (r ≡ length (refusedText number)) × (now (out .exit) ≡ setBytes (now (out .entry)) 0 (refusedText number)) ⌝ }
     ensures { λ r. ⌜ Counts r (now (out .exit)) ⌝ }
 {

@@ -1,8 +1,10 @@
 // An equality, read from the seven words of a constraint record.
 use constraint::Equality;
+use constraint::NEGATE;
 use constraint::Operation;
 use constraint::Term;
 use flat::operator;
+use records::operators::MODULO;
 use words::signed;
 use words::word_at;
 ghost use mathlib.Core.Path.{_≡_};
@@ -13,11 +15,11 @@ ghost use Rattle.constraint_text.specs.Reading.{operationOf, termOf, equ
 fn operation_of(number: u32) -> Operation
     ensures { λ r. ⌜ r ≡ operationOf number ⌝ }
 {
-    if number <= 8 {
+    if number <= MODULO {
         let op = operator(number);
         return Operation::Infix(op);
     }
-    if number == 9 {
+    if number == NEGATE {
         return Operation::Negate;
     }
     Operation::Copy

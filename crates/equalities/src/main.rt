@@ -20,14 +20,14 @@ fn print_answer(answer: Answer, out: &[u8]) {
 
 fn main() {
     // One byte more than is lent: "a longer record is refused 20".
-    let mut record = [0u8; 65537];
+    let mut record = [0u8; LENT + 1];
     let n = io::read_full(0, &mut record);
     if LENT < n {
         constraint_text::print_refused(20);
         return;
     }
-    let mut store = [0u8; 65536];
-    let mut out = [0u8; 65536];
+    let mut store = [0u8; LENT];
+    let mut out = [0u8; LENT];
     let answer = pass_entry::cut(&record[..n], &mut store, &mut out);
     print_answer(answer, &out);
 }

@@ -1,16 +1,25 @@
 // The nodes of the flat lists.
+use crate::FlatBytes;
+use eval_memory::Fixed;
 use eval_memory::nodes::below;
 use eval_memory::nodes::kind;
 use eval_memory::nodes::node_word;
+use records::NODE_WORDS;
+use records::flat_record::NODES;
+use records::kinds::INFIX;
+use records::kinds::NEGATE;
 use words::put_word;
 ghost use mathlib.Core.Path.{_≡_};
 ghost use Prim.Native.Nat.{_≤_, _<_};
 ghost use Rattle.words.specs.Words.{setWord};
 ghost use Rattle.eval_memory.specs.Fall.{upto};
 ghost use Rattle.eval_write.specs.Written.{written, addNode, writeBody, writeTree};
+ghost use Rattle.records.specs.FlatRecord.{NODES};
+
+const LAST_NODE: u32 = NODES as u32 - 1;
 
 // Word i becomes w.
-pub fn put(out: &mut [u8; 344344], i: usize, w: u32)
+pub fn put(out: &mut FlatBytes, i: usize, w: u32)
     requires { ⌜ i < 86086 ⌝ }
     ensures { λ _. ⌜ now (out .exit) ≡ setWord (now (out .entry)) i w ⌝ }
 {
@@ -18,14 +27,14 @@ pub fn put(out: &mut [u8; 344344], i: usize, w: u32)
 }
 
 // One more node, of at most 16,384: how many there are then.
-fn add_node(out: &mut [u8; 344344], at: usize, k: u32, kind: u32, x: u32, y: u32, z: u32) -> u32
-    requires { ⌜ (at ≤ 20550) × (k ≤ 16384) ⌝ }
-    ensures { λ r. ⌜ (written r (now (out .exit)) ≡ addNode at kind x y z (written k (now (out .entry)))) × (r ≤ 16384) ⌝ }
+fn add_node(out: &mut FlatBytes, at: usize, k: u32, kind: u32, x: u32, y: u32, z: u32) -> u32
+    requires { ⌜ (at ≤ 20550) × (k ≤ NODES) ⌝ }
+    ensures { λ r. ⌜ (written r (now (out .exit)) ≡ addNode at kind x y z (written k (now (out .entry)))) × (r ≤ NODES) ⌝ }
 {
-    if 16383 < k {
+    if LAST_NODE < k {
         return k;
     }
-    let base = at + 4 * (k as usize);
+    let base = at + NODE_WORDS * (k as usize);
     put(out, base, kind);
     put(out, base + 1, x);
     put(out, base + 2, y);
@@ -35,16 +44,16 @@ fn add_node(out: &mut [u8; 344344], at: usize, k: u32, kind: u32, x: u32, y: u32
 
 // Of a node below n.
 fn write_below(
-    fixed: &[u32; 8216],
+    fixed: &Fixed,
     store: &[u8],
-    out: &mut [u8; 344344],
+    out: &mut FlatBytes,
     at: usize,
     n: u32,
     c: u32,
     k: u32,
 ) -> u32
-    requires { ⌜ (at ≤ 20550) × (k ≤ 16384) ⌝ }
-    ensures { λ r. ⌜ (written r (now (out .exit)) ≡ upto (λ w. w) (writeBody (now (fixed .entry)) (now (store .entry)) at) n c (written k (now (out .entry)))) × (r ≤ 16384) ⌝ }
+    requires { ⌜ (at ≤ 20550) × (k ≤ NODES) ⌝ }
+    ensures { λ r. ⌜ (written r (now (out .exit)) ≡ upto (λ w. w) (writeBody (now (fixed .entry)) (now (store .entry)) at) n c (written k (now (out .entry)))) × (r ≤ NODES) ⌝ }
 {
     if n <= c {
         return k;
@@ -54,28 +63,28 @@ fn write_below(
 
 // The nodes of a number's tree, children first, behind k nodes: how many there are then.
 pub fn write_tree(
-    fixed: &[u32; 8216],
+    fixed: &Fixed,
     store: &[u8],
-    out: &mut [u8; 344344],
+    out: &mut FlatBytes,
     at: usize,
     n: u32,
     k: u32,
 ) -> u32
-    requires { ⌜ (at ≤ 20550) × (k ≤ 16384) ⌝ }
-    ensures { λ r. ⌜ (written r (now (out .exit)) ≡ writeTree (now (fixed .entry)) (now (store .entry)) at n (written k (now (out .entry)))) × (r ≤ 16384) ⌝ }
+    requires { ⌜ (at ≤ 20550) × (k ≤ NODES) ⌝ }
+    ensures { λ r. ⌜ (written r (now (out .exit)) ≡ writeTree (now (fixed .entry)) (now (store .entry)) at n (written k (now (out .entry)))) × (r ≤ NODES) ⌝ }
 {
     let sort = kind(fixed, store, n);
     let a = node_word(fixed, store, n, 1);
-    if sort == 5 {
+    if sort == NEGATE {
         let one = write_below(fixed, store, out, at, n, a, k);
-        return add_node(out, at, one, 5, below(one), 0, 0);
+        return add_node(out, at, one, NEGATE, below(one), 0, 0);
     }
-    if sort != 4 {
+    if sort != INFIX {
         return add_node(out, at, k, sort, a, 0, 0);
     }
     let b = node_word(fixed, store, n, 2);
     let c = node_word(fixed, store, n, 3);
     let one = write_below(fixed, store, out, at, n, a, k);
     let two = write_below(fixed, store, out, at, n, b, one);
-    add_node(out, at, two, 4, below(one), below(two), c)
+    add_node(out, at, two, INFIX, below(one), below(two), c)
 }

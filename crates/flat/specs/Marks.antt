@@ -6,6 +6,7 @@ use mathlib.Core.Bool.{not}
 use lib.ListN.{length, getD, replicate}
 use lib.Dec.{eqb}
 use Rattle.flat.specs.Trees.{Definition, defines}
+use Rattle.records.specs.FlatRecord.{IDS, NODES}
 
 -- a mark is 0, 1, or 2 for more uses
 unfoldable pub capped : ℕ → ℕ
@@ -32,7 +33,7 @@ Later m ds = (v : ℕ) → eqb (getD m v 0) 0 ≡ not (defines ds v)
 
 -- no marks
 unfoldable pub noMarks : List ℕ
-noMarks = replicate 16384 0
+noMarks = replicate NODES 0
 
 unfoldable pub noLater : List ℕ
-noLater = replicate 65536 0
+noLater = replicate IDS 0

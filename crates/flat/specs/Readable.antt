@@ -6,16 +6,17 @@ use mathlib.Core.Bool.{true}
 use Prim.Native.Nat.{ℕ, _*_, _≤_, _<_}
 use lib.ListN.{length}
 use Rattle.flat.specs.Record.{next, publics, provers, definitions, equations, nodes, proversAt, definitionsAt, equationsAt, nodesAt, size, allBelow, rising, definitionsFit, nodesFit}
+use Rattle.records.specs.FlatRecord.{HEADER, IDS, LISTED, NODES, PUBLICS}
 
 pub record Readable (b : List ℕ) : Type 0 where
   pub long : length b ≡ 4 * size b
-  pub publics-few : publics b ≤ 64
-  pub provers-few : provers b ≤ 4096
-  pub definitions-few : definitions b ≤ 4096
-  pub equations-few : equations b ≤ 4096
-  pub nodes-few : nodes b ≤ 16384
-  pub next-small : next b ≤ 65536
-  pub publics-below : allBelow b 6 (publics b) (next b) ≡ true
+  pub publics-few : publics b ≤ PUBLICS
+  pub provers-few : provers b ≤ LISTED
+  pub definitions-few : definitions b ≤ LISTED
+  pub equations-few : equations b ≤ LISTED
+  pub nodes-few : nodes b ≤ NODES
+  pub next-small : next b ≤ IDS
+  pub publics-below : allBelow b HEADER (publics b) (next b) ≡ true
   pub provers-below : allBelow b (proversAt b) (provers b) (next b) ≡ true
   pub provers-rise : rising b (proversAt b) (provers b) ≡ true
   pub definitions-fit : definitionsFit b (definitionsAt b) (definitions b) (next b) (nodes b) ≡ true

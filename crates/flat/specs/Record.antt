@@ -16,6 +16,9 @@ use Rattle.flat.specs.declared.Node.the-variants.{Infix, Negate, Constan
 use Rattle.flat.specs.declared.Layout.{Layout}
 use Rattle.flat.specs.declared.Checked.{Checked}
 use Rattle.flat.specs.declared.Checked.the-variants.{Accepted, Refused}
+use Rattle.records.specs.FlatRecord.{HEADER, IDS, LISTED, NODES, PUBLICS}
+use Rattle.records.specs.Kinds.{CONSTANT, INFIX, NEGATE, NODE-WORDS, VARIABLE}
+use Rattle.records.specs.Operators.{ADD, DIVIDE, DIVIDE-Z, EQUAL, EXPONENTIATE, INT-DIVIDE, MODULO, MULTIPLY, SUBTRACT}
 
 -- ---- for all indices below a count: a test, a sum; and the values at n indices from one on
 
@@ -59,7 +62,7 @@ module _ (b : List ℕ) where
 
   -- where each list starts, in words, and where the record ends; the public ids start at word 6
   abbrev pub proversAt : ℕ
-  proversAt = 6 + publics
+  proversAt = HEADER + publics
 
   abbrev pub definitionsAt : ℕ
   definitionsAt = proversAt + provers
@@ -71,7 +74,7 @@ module _ (b : List ℕ) where
   nodesAt = equationsAt + 2 * equations
 
   abbrev pub size : ℕ
-  size = nodesAt + 4 * nodes
+  size = nodesAt + NODE-WORDS * nodes
 
 -- the header's numbers and the places of the lists, as the code has them
 unfoldable pub layoutOf : List ℕ → Layout
@@ -93,37 +96,37 @@ layoutOf b = record {
 unfoldable pub measured : List ℕ → Bool
 measured b =
     leb 24 (length b)
-    && (leb (publics b) 64
-    && (leb (provers b) 4096
-    && (leb (definitions b) 4096
-    && (leb (equations b) 4096
-    && (leb (nodes b) 16384
+    && (leb (publics b) PUBLICS
+    && (leb (provers b) LISTED
+    && (leb (definitions b) LISTED
+    && (leb (equations b) LISTED
+    && (leb (nodes b) NODES
     && eqb (length b) (4 * size b))))))
 
 -- ---- nodes
 
 -- what a function makes of the four words of node k of the nodes that start at word `at`: kind, a, b, c
 unfoldable pub nodeAt : {A : Type 0} → List ℕ → ℕ → ℕ → (ℕ → ℕ → ℕ → ℕ → A) → A
-nodeAt b at k f = f (wordAt b (at + 4 * k)) (wordAt b (at + 4 * k + 1)) (wordAt b (at + 4 * k + 2)) (wordAt b (at + 4 * k + 3))
+nodeAt b at k f = f (wordAt b (at + NODE-WORDS * k)) (wordAt b (at + NODE-WORDS * k + 1)) (wordAt b (at + NODE-WORDS * k + 2)) (wordAt b (at + NODE-WORDS * k + 3))
 
 -- "Operators 0 to 8 in the order of `InfixOp`"
 unfoldable pub operatorOf : ℕ → InfixOp
 operatorOf c =
-    pick (eqb c 0) Divide
-    (pick (eqb c 1) DivideZ
-    (pick (eqb c 2) Multiply
-    (pick (eqb c 3) Add
-    (pick (eqb c 4) Subtract
-    (pick (eqb c 5) Equal
-    (pick (eqb c 6) Exponentiate
-    (pick (eqb c 7) IntDivide Modulo)))))))
+    pick (eqb c DIVIDE) Divide
+    (pick (eqb c DIVIDE-Z) DivideZ
+    (pick (eqb c MULTIPLY) Multiply
+    (pick (eqb c ADD) Add
+    (pick (eqb c SUBTRACT) Subtract
+    (pick (eqb c EQUAL) Equal
+    (pick (eqb c EXPONENTIATE) Exponentiate
+    (pick (eqb c INT-DIVIDE) IntDivide Modulo)))))))
 
 -- "4 infix(a, b, operator c), 5 negate(a), 7 constant a, 8 variable"; constants are signed. What is no node of a flat record reads as a variable
 unfoldable pub nodeFor : ℕ → ℕ → ℕ → ℕ → Node
 nodeFor kind x y z =
-    pick (eqb kind 4) (Infix (operatorOf z) x y)
-    (pick (eqb kind 5) (Negate x)
-    (pick (eqb kind 7) (Constant (toZ w32 x))
+    pick (eqb kind INFIX) (Infix (operatorOf z) x y)
+    (pick (eqb kind NEGATE) (Negate x)
+    (pick (eqb kind CONSTANT) (Constant (toZ w32 x))
     (Variable x)))
 
 unfoldable pub nodeOf : List ℕ → ℕ → ℕ → Node
@@ -151,7 +154,7 @@ equationAt b at treesAt count j = record { left = tree b treesAt count (wordAt b
 unfoldable pub moduleOf : List ℕ → FlatModule
 moduleOf b = record {
   next = next b;
-  publics = rows (publics b) 0 (λ k. wordAt b (6 + k));
+  publics = rows (publics b) 0 (λ k. wordAt b (HEADER + k));
   provers = rows (provers b) 0 (λ k. wordAt b (proversAt b + k));
   definitions = rows (definitions b) 0 (definitionAt b (definitionsAt b) (nodesAt b) (nodes b));
   equations = rows (equations b) 0 (equationAt b (equationsAt b) (nodesAt b) (nodes b));
@@ -174,10 +177,10 @@ definitionsFit b at n limit count = every n (λ k. ltb (wordAt b (at + 2 * k)) l
 -- a node: "its nodes follow their children", "its ids lie below its next id", "unused words are 0", operators 0 to 8
 unfoldable pub nodeFits : ℕ → ℕ → ℕ → ℕ → ℕ → ℕ → Bool
 nodeFits limit k kind x y z =
-    pick (eqb kind 4) (ltb x k && (ltb y k && leb z 8))
-    (pick (eqb kind 5) (ltb x k && (eqb y 0 && eqb z 0))
-    (pick (eqb kind 7) (eqb y 0 && eqb z 0)
-    (pick (eqb kind 8) (ltb x limit && (eqb y 0 && eqb z 0))
+    pick (eqb kind INFIX) (ltb x k && (ltb y k && leb z MODULO))
+    (pick (eqb kind NEGATE) (ltb x k && (eqb y 0 && eqb z 0))
+    (pick (eqb kind CONSTANT) (eqb y 0 && eqb z 0)
+    (pick (eqb kind VARIABLE) (ltb x limit && (eqb y 0 && eqb z 0))
     false)))
 
 unfoldable pub nodesFit : List ℕ → ℕ → ℕ → ℕ → Bool
@@ -188,7 +191,7 @@ unfoldable pub same : ℕ → ℕ → ℕ
 same x k = pick (eqb x k) 1 0
 
 unfoldable pub usedBy : ℕ → ℕ → ℕ → ℕ → ℕ → ℕ
-usedBy k kind x y z = pick (eqb kind 4) (same x k + same y k) (pick (eqb kind 5) (same x k) 0)
+usedBy k kind x y z = pick (eqb kind INFIX) (same x k + same y k) (pick (eqb kind NEGATE) (same x k) 0)
 
 unfoldable pub byNodes : List ℕ → ℕ → ℕ → ℕ → ℕ
 byNodes b at n k = total n (λ j. nodeAt b at j (usedBy k))
@@ -220,12 +223,12 @@ ordered (d ∷ ds) = not (defines ds (d .id)) && (everyId (λ v. not (defines (d
 -- not 21: the rules of a record with these numbers in its header
 unfoldable pub rulesOf : List ℕ → ℕ → ℕ → ℕ → ℕ → ℕ → ℕ → Bool
 rulesOf b next publics provers definitions equations nodes =
-    let proversAt = 6 + publics in
+    let proversAt = HEADER + publics in
     let definitionsAt = proversAt + provers in
     let equationsAt = definitionsAt + 2 * definitions in
     let nodesAt = equationsAt + 2 * equations in
-    leb next 65536
-    && (allBelow b 6 publics next
+    leb next IDS
+    && (allBelow b HEADER publics next
     && (allBelow b proversAt provers next
     && (rising b proversAt provers
     && (treesHold b next definitionsAt definitions equationsAt (2 * equations) nodesAt nodes

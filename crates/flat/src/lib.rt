@@ -8,11 +8,31 @@ use lists::all_below;
 use lists::count;
 use lists::rises;
 use ordering::in_order;
+use records::NODE_WORDS;
+use records::flat_record::HEADER;
+use records::flat_record::ID_COUNT;
+use records::flat_record::LISTED;
+use records::flat_record::NODES;
+use records::flat_record::PUBLICS;
+use records::kinds::CONSTANT;
+use records::kinds::INFIX;
+use records::kinds::NEGATE;
+use records::operators::ADD;
+use records::operators::DIVIDE;
+use records::operators::DIVIDE_Z;
+use records::operators::EQUAL;
+use records::operators::EXPONENTIATE;
+use records::operators::INT_DIVIDE;
+use records::operators::MULTIPLY;
+use records::operators::SUBTRACT;
 use uses::trees_hold;
 ghost use mathlib.Core.Path.{_≡_};
 ghost use Prim.Native.Nat.{_+_, _*_, _≤_};
 ghost use lib.ListN.{length};
 ghost use Rattle.flat.specs.Record.{operatorOf, nodeOf, layoutOf, measured, rulesOf, flatOf, checked};
+ghost use Rattle.records.specs.FlatRecord.{HEADER, NODES};
+
+const HEADER_BYTES: usize = 4 * HEADER;
 
 // What the check of a lent record answers.
 pub enum Checked {
@@ -48,14 +68,14 @@ pub fn operator(c: u32) -> InfixOp
     ensures { λ r. ⌜ r ≡ operatorOf c ⌝ }
 {
     match c {
-        0 => InfixOp::Divide,
-        1 => InfixOp::DivideZ,
-        2 => InfixOp::Multiply,
-        3 => InfixOp::Add,
-        4 => InfixOp::Subtract,
-        5 => InfixOp::Equal,
-        6 => InfixOp::Exponentiate,
-        7 => InfixOp::IntDivide,
+        DIVIDE => InfixOp::Divide,
+        DIVIDE_Z => InfixOp::DivideZ,
+        MULTIPLY => InfixOp::Multiply,
+        ADD => InfixOp::Add,
+        SUBTRACT => InfixOp::Subtract,
+        EQUAL => InfixOp::Equal,
+        EXPONENTIATE => InfixOp::Exponentiate,
+        INT_DIVIDE => InfixOp::IntDivide,
         _ => InfixOp::Modulo,
     }
 }
@@ -65,18 +85,18 @@ pub fn node_at(s: &[u8], at: usize, k: usize) -> Node
     requires { ⌜ 4 * (at + 4 * k + 4) ≤ length (now s) ⌝ }
     ensures { λ r. ⌜ r ≡ nodeOf (now (s .entry)) at k ⌝ }
 {
-    let base = at + 4 * k;
+    let base = at + NODE_WORDS * k;
     let kind = words::word_at(s, base);
     let a = words::word_at(s, base + 1);
-    if kind == 4 {
+    if kind == INFIX {
         let b = words::word_at(s, base + 2);
         let c = words::word_at(s, base + 3);
         return Node::Infix(operator(c), a as usize, b as usize);
     }
-    if kind == 5 {
+    if kind == NEGATE {
         return Node::Negate(a as usize);
     }
-    if kind == 7 {
+    if kind == CONSTANT {
         return Node::Constant(words::signed(a));
     }
     Node::Variable(a)
@@ -92,7 +112,7 @@ pub fn layout_of(s: &[u8]) -> Layout
     let definitions = count(s, 3);
     let equations = count(s, 4);
     let nodes = count(s, 5);
-    let provers_at = 6 + publics;
+    let provers_at = HEADER + publics;
     let definitions_at = provers_at + provers;
     let equations_at = definitions_at + 2 * definitions;
     let nodes_at = equations_at + 2 * equations;
@@ -107,7 +127,7 @@ pub fn layout_of(s: &[u8]) -> Layout
         definitions_at,
         equations_at,
         nodes_at,
-        size: nodes_at + 4 * nodes,
+        size: nodes_at + NODE_WORDS * nodes,
     }
 }
 
@@ -116,30 +136,30 @@ fn measures(s: &[u8]) -> bool
     ensures { λ r. ⌜ r ≡ measured (now (s .entry)) ⌝ }
 {
     let n = s.len();
-    if n < 24 {
+    if n < HEADER_BYTES {
         return false;
     }
     let publics = count(s, 1);
-    if 64 < publics {
+    if PUBLICS < publics {
         return false;
     }
     let provers = count(s, 2);
-    if 4096 < provers {
+    if LISTED < provers {
         return false;
     }
     let definitions = count(s, 3);
-    if 4096 < definitions {
+    if LISTED < definitions {
         return false;
     }
     let equations = count(s, 4);
-    if 4096 < equations {
+    if LISTED < equations {
         return false;
     }
     let nodes = count(s, 5);
-    if 16384 < nodes {
+    if NODES < nodes {
         return false;
     }
-    n == 4 * (6 + publics + provers + 2 * definitions + 2 * equations + 4 * nodes)
+    n == 4 * (HEADER + publics + provers + 2 * definitions + 2 * equations + NODE_WORDS * nodes)
 }
 
 // Not 21.
@@ -152,16 +172,16 @@ fn rules_hold(
     equations: usize,
     nodes: usize,
 ) -> bool
-    requires { ⌜ (4 * (6 + publics + provers + 2 * definitions + 2 * equations + 4 * nodes) ≤ length (now s)) × (nodes ≤ 16384) ⌝ }
+    requires { ⌜ (4 * (HEADER + publics + provers + 2 * definitions + 2 * equations + 4 * nodes) ≤ length (now s)) × (nodes ≤ NODES) ⌝ }
     ensures { λ r. ⌜ r ≡ rulesOf (now (s .entry)) next publics provers definitions equations nodes ⌝ }
 {
-    if 65536 < next {
+    if ID_COUNT < next {
         return false;
     }
-    if !all_below(s, 6, publics, next) {
+    if !all_below(s, HEADER, publics, next) {
         return false;
     }
-    let p = 6 + publics;
+    let p = HEADER + publics;
     if !all_below(s, p, provers, next) {
         return false;
     }

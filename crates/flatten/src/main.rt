@@ -2,6 +2,9 @@
 // refusal nothing there, and "refused" with the number on standard error. Arguments: how many bytes to lend as the store,
 // and how many as the output, in at most 40 digits. One that is missing, or more than can matter, counts as the most that
 // can.
+use constraint_text::LINE;
+use flatten_entry::buffers::OUTPUT_BYTES;
+use flatten_entry::buffers::STORE_BYTES;
 use flatten_entry::buffers::output_buffer;
 use flatten_entry::buffers::record_buffer;
 use flatten_entry::buffers::store_buffer;
@@ -11,12 +14,10 @@ use libc::STDOUT_FILENO;
 use pass_entry::Answer;
 ghost use Prim.Native.Nat.{_≤_};
 
-const STORE: usize = 1048560;
-
-const OUTPUT: usize = 1016088;
-
-// More than either.
+// More than can matter to lend.
 const MANY: usize = 100000000;
+
+const DIGITS: usize = 40;
 
 // The bytes that an argument says to lend.
 enum Lent {
@@ -55,7 +56,7 @@ fn bytes_of(argument: usize) -> Lent {
     if os::arg_count() <= argument {
         return Lent::Bytes(MANY);
     }
-    let mut text = [0u8; 40];
+    let mut text = [0u8; DIGITS];
     let n = os::arg(argument, &mut text);
     number(&text[..n])
 }
@@ -67,7 +68,7 @@ fn print_record(bytes: &[u8]) {
 }
 
 fn print_refused(number: u32) {
-    let mut line = [0u8; 80];
+    let mut line = [0u8; LINE];
     let n = constraint_text::refused_line(number, &mut line);
     io::write_all(STDERR_FILENO, &line[..n]);
 }
@@ -94,8 +95,8 @@ fn flatten_input(store: &mut [u8], out: &mut [u8]) {
 fn run(held: usize, room: usize) {
     let mut store = store_buffer();
     let mut out = output_buffer();
-    let bytes = at_most(held, STORE);
-    let most = at_most(room, OUTPUT);
+    let bytes = at_most(held, STORE_BYTES);
+    let most = at_most(room, OUTPUT_BYTES);
     flatten_input(&mut store[..bytes], &mut out[..most]);
 }
 

@@ -3,11 +3,21 @@ use Prim.Native.Nat.{ℕ}
 use mathlib.Core.List.{List}
 use lib.ListN.{replicate}
 
+-- one byte more than the longest record has; 16 bytes for each node that a store may hold; no constraint record is longer
+abbrev pub RECORD-BYTES : ℕ
+RECORD-BYTES = 76053
+
+abbrev pub STORE-BYTES : ℕ
+STORE-BYTES = 1048560
+
+abbrev pub OUTPUT-BYTES : ℕ
+OUTPUT-BYTES = 1016088
+
 unfoldable pub recordBuffer : List ℕ
-recordBuffer = replicate 76053 0
+recordBuffer = replicate RECORD-BYTES 0
 
 unfoldable pub storeBuffer : List ℕ
-storeBuffer = replicate 1048560 0
+storeBuffer = replicate STORE-BYTES 0
 
 unfoldable pub outputBuffer : List ℕ
-outputBuffer = replicate 1016088 0
+outputBuffer = replicate OUTPUT-BYTES 0

@@ -20,6 +20,7 @@ use Rattle.plain.specs.Plain.{isPlain}
 use Rattle.plain.specs.Meaning.{NoDivisorZero}
 use Rattle.agreement.specs.Statement.{Agrees}
 use Rattle.flatten_entry.specs.Flatten.{flattened}
+use Rattle.flatten_entry.specs.Buffers.{OUTPUT-BYTES, STORE-BYTES}
 
 -- For every source record b that is accepted (with a store of `len` bytes and the output `out`, n bytes are written) and whose module m is plain, and whatever
 -- elements ρ its inputs have that make no divisor in it zero: the equalities read back from the bytes that were written agree with m. `Agrees` of
@@ -53,8 +54,8 @@ LongAsFront = (b : List ℕ) (len n : ℕ) → 76052 < n → flattened (take n b
 
 -- and no more than 65,535 nodes of 16 bytes are made
 abbrev pub LargeAsMost : Type 0
-LargeAsMost = (b : List ℕ) (len : ℕ) → 1048560 ≤ len → flattened b len ≡ flattened b 1048560
+LargeAsMost = (b : List ℕ) (len : ℕ) → STORE-BYTES ≤ len → flattened b len ≡ flattened b STORE-BYTES
 
 -- and no constraint record is longer than 1,016,088 bytes: an output of so many is never too short
 abbrev pub LongestRecord : Type 0
-LongestRecord = (b : List ℕ) (len : ℕ) (c : ConstraintModule) → flattened b len ≡ cut c → length (constraintBytes c) ≤ 1016088
+LongestRecord = (b : List ℕ) (len : ℕ) (c : ConstraintModule) → flattened b len ≡ cut c → length (constraintBytes c) ≤ OUTPUT-BYTES

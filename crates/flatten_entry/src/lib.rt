@@ -13,10 +13,11 @@ ghost use Rattle.flat.specs.Readable.{Readable};
 ghost use Rattle.pass_trees.specs.Passes.{cutOf};
 ghost use Rattle.pass_entry.specs.Cut.{answerFor, outputFor};
 ghost use Rattle.flatten_entry.specs.Flatten.{flattened};
+ghost use Rattle.records.specs.FlatRecord.{NODES};
 
 // The passes on the flat record in the first n bytes.
 fn pass_on(bytes: &[u8], n: usize, out: &mut [u8]) -> Answer
-    requires { ⌜ (n ≤ length (now bytes)) × (Readable (take n (now bytes)) × (moduleNodes (moduleOf (take n (now bytes))) ≤ 16384)) ⌝ }
+    requires { ⌜ (n ≤ length (now bytes)) × (Readable (take n (now bytes)) × (moduleNodes (moduleOf (take n (now bytes))) ≤ NODES)) ⌝ }
     ensures { λ r. ⌜ (r ≡ answerFor (length (now (out .entry))) (cutOf (moduleOf (take n (now (bytes .entry)))))) × (now (out .exit) ≡ outputFor (now (out .entry)) (cutOf (moduleOf (take n (now (bytes .entry)))))) ⌝ }
 {
     passes(&bytes[..n], out)

@@ -5,6 +5,7 @@ use mathlib.Core.Option.{Option, none, some}
 use Prim.Native.Nat.{ℕ, suc}
 use lib.Dec.{eqb}
 use Rattle.source.specs.Trees.{Pat, unitP, nilP, asP, productP, consP, variableP, constantP, Expr, unit, nil, sequence, product, cons, binary, negate, application, constant, variable, function, intrinsic, letting, matching, Items, last, _then_, empty, Arms, noArm, arm, Module, Text}
+use Rattle.records.specs.Intrinsics.{FIRST-FREE-ID, FOLD-ID, FRESH-ID, ITER-ID}
 
 -- "Numbered module": the module with ids for names, and the next free id
 pub record Numbered : Type 0 where
@@ -200,7 +201,7 @@ named t i x [] = []
 named t i x (n ∷ ns) = cond (sameText t n) ((x, i) ∷ []) (named t i (suc x) ns)
 
 unfoldable pub registered : List Text → Names
-registered ns = record { globals = named foldText 5 0 ns ++ (named iterText 2 0 ns ++ named freshText 0 0 ns); next = 9 }
+registered ns = record { globals = named foldText FOLD-ID 0 ns ++ (named iterText ITER-ID 0 ns ++ named freshText FRESH-ID 0 ns); next = FIRST-FREE-ID }
 
 -- what numbering leaves of the names, and the numbered module
 unfoldable pub namesOf : Module → Names

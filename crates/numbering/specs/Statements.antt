@@ -9,6 +9,7 @@ use Rattle.source.specs.Trees.{Pat, unitP, nilP, asP, productP, consP, variable
 use Rattle.numbering.specs.Numbering.{Numbered, numbered}
 use Rattle.numbering.specs.Sizes.{moduleSize}
 use Rattle.numbering.specs.Inputs.{member, inputs, inputIds, inputId}
+use Rattle.records.specs.Intrinsics.{FIRST-FREE-ID}
 
 -- the ids that patterns bind, in the order in which they are drawn
 unfoldable pub patternIds : Pat → List ℕ
@@ -120,10 +121,10 @@ pub record WellNumbered (m : Module) : Type 0 where
   pub variables-below : All (λ i. i < numbered m .next) (allVariables (numbered m))
   -- each binder has an id of its own, which is no intrinsic's and no input's
   pub binders-distinct : Distinct (allBinders (numbered m))
-  pub binders-above : All (λ i. 9 ≤ i) (allBinders (numbered m))
+  pub binders-above : All (λ i. FIRST-FREE-ID ≤ i) (allBinders (numbered m))
   pub no-binder : (x i : ℕ) → inputId m x ≡ some i → member i (allBinders (numbered m)) ≡ false
   -- a public or a node draws an id at most, and the intrinsics nine: ids cannot run out (32), for a record has at most 64 publics and 2,048 nodes
-  pub next-low : numbered m .next ≤ 9 + length (m .publics) + moduleSize m
+  pub next-low : numbered m .next ≤ FIRST-FREE-ID + length (m .publics) + moduleSize m
   -- in each use of an input its name has its id, and another name has another
   pub inputs-numbered : Pointwise (λ x i. inputId m x ≡ some i) (inputs m) (inputIds (numbered m))
   pub publics-numbered : Pointwise (λ x i. inputId m x ≡ some i) (m .publics) (numbered m .publics)

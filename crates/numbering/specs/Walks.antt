@@ -17,6 +17,8 @@ use Rattle.source.specs.Uses.{same, chainUses, childrenUse}
 use Rattle.source.specs.Record.{tree, definitionAt, expressionAt}
 use Rattle.numbering.specs.Numbering.{Ids, Names, Naming, _>>=_, return, found, numberVariable, numberPatternVariables, numberParameters, numberExprVariables, numberItems, numberArms, numberDefVariables, numberDefinitions, numberExpressions, numberPublics, named}
 use Rattle.numbering.specs.Numbers.{bears, numberedTree, numberedDefinition, numberedExpression}
+use Rattle.records.specs.FlatRecord.{IDS}
+use Rattle.records.specs.SourceRecord.{NAMES, NODES, PUBLICS}
 
 -- ---- rows: for each name 0, or one more than its id
 
@@ -25,7 +27,7 @@ coded none = 0
 coded (some i) = suc i
 
 abbrev pub Holds : List ℕ → Ids → Type 0
-Holds row ids = (x : ℕ) → x < 512 → getD row x 0 ≡ coded (found x ids)
+Holds row ids = (x : ℕ) → x < NAMES → getD row x 0 ≡ coded (found x ids)
 
 abbrev pub names : Ids → ℕ → Names
 names g n = record { globals = g; next = n }
@@ -65,21 +67,21 @@ pub record Walkable (b : List ℕ) (at n : ℕ) : Type 0 where
   pub count : ℕ
   pub fit : nodesFit b at count n ≡ true
   pub long : 4 * (at + 4 * n) ≤ length b
-  pub few-names : count ≤ 512
-  pub few-nodes : n ≤ 2048
+  pub few-names : count ≤ NAMES
+  pub few-nodes : n ≤ NODES
 
 -- an array's length is part of its type, and not of its list
 pub record Sizes (locals undo old ids : List ℕ) : Type 0 where
-  pub rows : length locals ≡ 512
-  pub undone : length undo ≡ 2048
-  pub olds : length old ≡ 2048
-  pub nodes : length ids ≡ 2048
+  pub rows : length locals ≡ NAMES
+  pub undone : length undo ≡ NODES
+  pub olds : length old ≡ NODES
+  pub nodes : length ids ≡ NODES
 
 -- a walk over nodes whose weight is w: each is met once, and there is room for an undo entry and an id at each
 pub record Room (w : (ℕ → ℕ) → ℕ) (next top : ℕ) : Type 0 where
   pub met-once : (j : ℕ) → w (same j) ≤ 1
-  pub entries : top + w each ≤ 2048
-  pub ids : next + w each ≤ 65536
+  pub entries : top + w each ≤ NODES
+  pub ids : next + w each ≤ IDS
 
 -- at node k, of a sort; at the chain from link l on
 pub record Ready (b : List ℕ) (at n : ℕ) (sort : Entry → Bool) (k next top : ℕ) : Type 0 where
@@ -129,7 +131,7 @@ pub record Bound {A : Type 0} (named : ℕ → Bool) (w : (ℕ → ℕ) → ℕ)
   pub few : next′ ≤ next + w each
   pub undo-below : SameBelow top undo undo′
   pub old-below : SameBelow top old old′
-  pub undo-names : (i : ℕ) → top ≤ i → i < top + (next′ - next) → getD undo′ i 0 < 512
+  pub undo-names : (i : ℕ) → top ≤ i → i < top + (next′ - next) → getD undo′ i 0 < NAMES
   pub sizes : Sizes locals′ undo′ old′ ids′
   pub unwinds : unwound undo′ old′ top (next′ - next) locals′ ≡ locals
   pub elsewhere : Else w ids ids′
@@ -143,7 +145,7 @@ pub record Walked {A : Type 0} (named : ℕ → Bool) (w : (ℕ → ℕ) → ℕ
   pub undo-below : SameBelow top undo undo′
   pub old-below : SameBelow top old old′
   pub sizes : Sizes locals′ undo′ old′ ids′
-  pub row : length globals′ ≡ 512
+  pub row : length globals′ ≡ NAMES
   pub same-locals : locals′ ≡ locals
   pub elsewhere : Else w ids ids′
   pub unnamed : (j : ℕ) → named j ≡ false → getD ids′ j 0 ≡ getD ids j 0
@@ -153,7 +155,7 @@ pub record Walked {A : Type 0} (named : ℕ → Bool) (w : (ℕ → ℕ) → ℕ
 pub record Chosen (x next : ℕ) (locals globals : List ℕ) (id next′ : ℕ) (globals′ : List ℕ) : Type 0 where
   pub more : next ≤ next′
   pub few : next′ ≤ next + 1
-  pub row : length globals′ ≡ 512
+  pub row : length globals′ ≡ NAMES
   pub numbers : (l : Ids) (g : Names) → Holds locals l → Holds globals (g .globals) → g .next ≡ next → (gs : Ids) × ((numberVariable x l g ≡ (id, names gs next′)) × Holds globals′ gs)
 
 -- ---- the walks, by the definitions
@@ -219,7 +221,7 @@ pub record Defined {A : Type 0} (named : ℕ → Bool) (w : (ℕ → ℕ) → �
   pub more : next ≤ next′
   pub few : next′ ≤ next + w each
   pub sizes : Sizes locals′ undo′ old′ ids′
-  pub row : length globals′ ≡ 512
+  pub row : length globals′ ≡ NAMES
   pub elsewhere : Else w ids ids′
   pub unnamed : (j : ℕ) → named j ≡ false → getD ids′ j 0 ≡ getD ids j 0
   pub numbers : (l : Ids) (g : Names) (final : List ℕ) → Holds locals l → Holds globals (g .globals) → g .next ≡ next → Agree w ids′ final → (l′ : Ids) × ((gs : Ids) × ((numbering l g ≡ ((value final, l′), names gs next′)) × (Holds locals′ l′ × Holds globals′ gs)))
@@ -247,22 +249,22 @@ pub record ReadyExpressions (b : List ℕ) (at n list m i next : ℕ) : Type 0 w
 pub record Published (b : List ℕ) (list m i next : ℕ) (locals globals public : List ℕ) (next′ : ℕ) (globals′ public′ : List ℕ) : Type 0 where
   pub more : next ≤ next′
   pub few : next′ ≤ next + m
-  pub row : length globals′ ≡ 512
-  pub long : length public′ ≡ 64
+  pub row : length globals′ ≡ NAMES
+  pub long : length public′ ≡ PUBLICS
   pub before : (j : ℕ) → j < i → getD public′ j 0 ≡ getD public j 0
   pub behind : (j : ℕ) → i + m ≤ j → getD public′ j 0 ≡ getD public j 0
   pub numbers : (g : Names) → Holds locals [] → Holds globals (g .globals) → g .next ≡ next → (gs : Ids) × ((numberPublics (rows m i (λ k. wordAt b (list + k))) g ≡ (rows m i (λ k. getD public′ k 0), names gs next′)) × Holds globals′ gs)
 
 -- a text registered: its name has the id, before what the row held
 pub record Registered (b t : List ℕ) (text count id : ℕ) (globals globals′ : List ℕ) : Type 0 where
-  pub row : length globals′ ≡ 512
+  pub row : length globals′ ≡ NAMES
   pub holds : (gs : Ids) → Holds globals gs → Holds globals′ (named t id 0 (rows count 0 (nameOf b text)) ++ gs)
 
 unfoldable pub noRow : List ℕ
-noRow = replicate 512 0
+noRow = replicate NAMES 0
 
 unfoldable pub noEntries : List ℕ
-noEntries = replicate 2048 0
+noEntries = replicate NODES 0
 
 unfoldable pub noPublics : List ℕ
-noPublics = replicate 64 0
+noPublics = replicate PUBLICS 0

@@ -5,6 +5,9 @@ use super::rows::Drawn;
 use super::rows::number_variable;
 use super::rows::unwind;
 use field::InfixOp;
+use records::source_record::NAMES;
+use records::source_record::NO_LINK;
+use records::source_record::NODES;
 use source::Entry;
 use source::Form;
 use source::Shape;
@@ -15,6 +18,7 @@ ghost use lib.ListN.{length};
 ghost use Rattle.source.specs.declared.Chain.the-variants.{Arms, Items};
 ghost use Rattle.source.specs.Nodes.{isExpression, isPattern};
 ghost use Rattle.numbering.specs.Walks.{Sizes, Ready, ReadyTwo, ReadyFunction, ReadyChain, ExpressionWalk, TwoWalk, ScopeWalk, FunctionWalk, ItemWalk, ArmWalk};
+ghost use Rattle.records.specs.SourceRecord.{NAMES};
 
 // The expressions of nodes x and y, which stand before node k.
 fn number_sides(
@@ -24,15 +28,15 @@ fn number_sides(
     k: usize,
     x: usize,
     y: usize,
-    locals: &mut [u32; 512],
-    globals: &mut [u32; 512],
-    undo: &mut [u32; 2048],
-    old: &mut [u32; 2048],
-    ids: &mut [u32; 2048],
+    locals: &mut [u32; NAMES],
+    globals: &mut [u32; NAMES],
+    undo: &mut [u32; NODES],
+    old: &mut [u32; NODES],
+    ids: &mut [u32; NODES],
     next: u32,
     top: u32,
 ) -> u32
-    requires { ⌜ ReadyTwo (now s) at n isExpression k x y next top × (Sizes (now locals) (now undo) (now old) (now ids) × (length (now globals) ≡ 512)) ⌝ }
+    requires { ⌜ ReadyTwo (now s) at n isExpression k x y next top × (Sizes (now locals) (now undo) (now old) (now ids) × (length (now globals) ≡ NAMES)) ⌝ }
     ensures { λ r. ⌜ TwoWalk (now (s .entry)) at n x y next top (now (locals .entry)) (now (globals .entry)) (now (undo .entry)) (now (old .entry)) (now (ids .entry)) r (now (locals .exit)) (now (globals .exit)) (now (undo .exit)) (now (old .exit)) (now (ids .exit)) ⌝ }
 {
     let one = number_expr_variables(s, at, n, x, locals, globals, undo, old, ids, next, top);
@@ -46,15 +50,15 @@ fn number_scope(
     n: usize,
     p: usize,
     y: usize,
-    locals: &mut [u32; 512],
-    globals: &mut [u32; 512],
-    undo: &mut [u32; 2048],
-    old: &mut [u32; 2048],
-    ids: &mut [u32; 2048],
+    locals: &mut [u32; NAMES],
+    globals: &mut [u32; NAMES],
+    undo: &mut [u32; NODES],
+    old: &mut [u32; NODES],
+    ids: &mut [u32; NODES],
     next: u32,
     top: u32,
 ) -> u32
-    requires { ⌜ ReadyTwo (now s) at n isPattern n p y next top × (Sizes (now locals) (now undo) (now old) (now ids) × (length (now globals) ≡ 512)) ⌝ }
+    requires { ⌜ ReadyTwo (now s) at n isPattern n p y next top × (Sizes (now locals) (now undo) (now old) (now ids) × (length (now globals) ≡ NAMES)) ⌝ }
     ensures { λ r. ⌜ ScopeWalk (now (s .entry)) at n p y next top (now (locals .entry)) (now (globals .entry)) (now (undo .entry)) (now (old .entry)) (now (ids .entry)) r (now (locals .exit)) (now (globals .exit)) (now (undo .exit)) (now (old .exit)) (now (ids .exit)) ⌝ }
 {
     let one = number_pattern_variables(s, at, n, p, locals, undo, old, ids, next, top);
@@ -81,15 +85,15 @@ fn number_items(
     at: usize,
     n: usize,
     l: usize,
-    locals: &mut [u32; 512],
-    globals: &mut [u32; 512],
-    undo: &mut [u32; 2048],
-    old: &mut [u32; 2048],
-    ids: &mut [u32; 2048],
+    locals: &mut [u32; NAMES],
+    globals: &mut [u32; NAMES],
+    undo: &mut [u32; NODES],
+    old: &mut [u32; NODES],
+    ids: &mut [u32; NODES],
     next: u32,
     top: u32,
 ) -> u32
-    requires { ⌜ ReadyChain (now s) at n Items l next top × (Sizes (now locals) (now undo) (now old) (now ids) × (length (now globals) ≡ 512)) ⌝ }
+    requires { ⌜ ReadyChain (now s) at n Items l next top × (Sizes (now locals) (now undo) (now old) (now ids) × (length (now globals) ≡ NAMES)) ⌝ }
     ensures { λ r. ⌜ ItemWalk (now (s .entry)) at n l next top (now (locals .entry)) (now (globals .entry)) (now (undo .entry)) (now (old .entry)) (now (ids .entry)) r (now (locals .exit)) (now (globals .exit)) (now (undo .exit)) (now (old .exit)) (now (ids .exit)) ⌝ }
 {
     match node_at(s, at, l) {
@@ -107,7 +111,7 @@ fn number_items(
                 next,
                 top,
             );
-            if rest == 4294967295 {
+            if rest == NO_LINK {
                 return one;
             }
             number_items(s, at, n, rest, locals, globals, undo, old, ids, one, top)
@@ -124,15 +128,15 @@ fn number_arms(
     at: usize,
     n: usize,
     l: usize,
-    locals: &mut [u32; 512],
-    globals: &mut [u32; 512],
-    undo: &mut [u32; 2048],
-    old: &mut [u32; 2048],
-    ids: &mut [u32; 2048],
+    locals: &mut [u32; NAMES],
+    globals: &mut [u32; NAMES],
+    undo: &mut [u32; NODES],
+    old: &mut [u32; NODES],
+    ids: &mut [u32; NODES],
     next: u32,
     top: u32,
 ) -> u32
-    requires { ⌜ ReadyChain (now s) at n Arms l next top × (Sizes (now locals) (now undo) (now old) (now ids) × (length (now globals) ≡ 512)) ⌝ }
+    requires { ⌜ ReadyChain (now s) at n Arms l next top × (Sizes (now locals) (now undo) (now old) (now ids) × (length (now globals) ≡ NAMES)) ⌝ }
     ensures { λ r. ⌜ ArmWalk (now (s .entry)) at n l next top (now (locals .entry)) (now (globals .entry)) (now (undo .entry)) (now (old .entry)) (now (ids .entry)) r (now (locals .exit)) (now (globals .exit)) (now (undo .exit)) (now (old .exit)) (now (ids .exit)) ⌝ }
 {
     match node_at(s, at, l) {
@@ -151,7 +155,7 @@ fn number_arms(
                 next,
                 top,
             );
-            if rest == 4294967295 {
+            if rest == NO_LINK {
                 return one;
             }
             number_arms(s, at, n, rest, locals, globals, undo, old, ids, one, top)
@@ -169,15 +173,15 @@ fn number_function(
     n: usize,
     l: usize,
     y: usize,
-    locals: &mut [u32; 512],
-    globals: &mut [u32; 512],
-    undo: &mut [u32; 2048],
-    old: &mut [u32; 2048],
-    ids: &mut [u32; 2048],
+    locals: &mut [u32; NAMES],
+    globals: &mut [u32; NAMES],
+    undo: &mut [u32; NODES],
+    old: &mut [u32; NODES],
+    ids: &mut [u32; NODES],
     next: u32,
     top: u32,
 ) -> u32
-    requires { ⌜ ReadyFunction (now s) at n l y next top × (Sizes (now locals) (now undo) (now old) (now ids) × (length (now globals) ≡ 512)) ⌝ }
+    requires { ⌜ ReadyFunction (now s) at n l y next top × (Sizes (now locals) (now undo) (now old) (now ids) × (length (now globals) ≡ NAMES)) ⌝ }
     ensures { λ r. ⌜ FunctionWalk (now (s .entry)) at n l y next top (now (locals .entry)) (now (globals .entry)) (now (undo .entry)) (now (old .entry)) (now (ids .entry)) r (now (locals .exit)) (now (globals .exit)) (now (undo .exit)) (now (old .exit)) (now (ids .exit)) ⌝ }
 {
     let one = number_parameters(s, at, n, l, locals, undo, old, ids, next, top);
@@ -204,15 +208,15 @@ pub fn number_expr_variables(
     at: usize,
     n: usize,
     k: usize,
-    locals: &mut [u32; 512],
-    globals: &mut [u32; 512],
-    undo: &mut [u32; 2048],
-    old: &mut [u32; 2048],
-    ids: &mut [u32; 2048],
+    locals: &mut [u32; NAMES],
+    globals: &mut [u32; NAMES],
+    undo: &mut [u32; NODES],
+    old: &mut [u32; NODES],
+    ids: &mut [u32; NODES],
     next: u32,
     top: u32,
 ) -> u32
-    requires { ⌜ Ready (now s) at n isExpression k next top × (Sizes (now locals) (now undo) (now old) (now ids) × (length (now globals) ≡ 512)) ⌝ }
+    requires { ⌜ Ready (now s) at n isExpression k next top × (Sizes (now locals) (now undo) (now old) (now ids) × (length (now globals) ≡ NAMES)) ⌝ }
     ensures { λ r. ⌜ ExpressionWalk (now (s .entry)) at n k next top (now (locals .entry)) (now (globals .entry)) (now (undo .entry)) (now (old .entry)) (now (ids .entry)) r (now (locals .exit)) (now (globals .exit)) (now (undo .exit)) (now (old .exit)) (now (ids .exit)) ⌝ }
 {
     match node_at(s, at, k) {

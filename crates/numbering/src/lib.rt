@@ -7,6 +7,13 @@ mod rows;
 
 use listing::number_definitions;
 use listing::number_expressions;
+use records::intrinsics::FIRST_FREE_ID;
+use records::intrinsics::FOLD_ID;
+use records::intrinsics::FRESH_ID;
+use records::intrinsics::ITER_ID;
+use records::source_record::NAMES;
+use records::source_record::NODES;
+use records::source_record::PUBLICS;
 use registering::number_publics;
 use registering::register;
 use source::Layout;
@@ -26,6 +33,7 @@ ghost use Rattle.numbering.specs.Numbering.{registered};
 ghost use Rattle.numbering.specs.Numbers.{NumberedIn};
 ghost use Rattle.numbering.specs.Outcome.{Outcome};
 ghost use Rattle.numbering.specs.Walks.{Holds, noRow, noEntries, noPublics};
+ghost use Rattle.records.specs.SourceRecord.{HEADER, NAMES, NODES, PUBLICS};
 
 // The next free id, or the record's refusal.
 pub enum Numbered {
@@ -36,47 +44,47 @@ pub enum Numbered {
 // The answer with its arrays: the id of every node that has a name at its index, that of every public at its position, 0 elsewhere.
 pub struct Numbering {
     pub answer: Numbered,
-    pub ids: [u32; 2048],
-    pub publics: [u32; 64],
+    pub ids: [u32; NODES],
+    pub publics: [u32; PUBLICS],
 }
 
-fn no_row() -> [u32; 512]
+fn no_row() -> [u32; NAMES]
     ensures { λ r. ⌜ r ≡ noRow ⌝ }
 {
-    [0u32; 512]
+    [0u32; NAMES]
 }
 
-fn no_entries() -> [u32; 2048]
+fn no_entries() -> [u32; NODES]
     ensures { λ r. ⌜ r ≡ noEntries ⌝ }
 {
-    [0u32; 2048]
+    [0u32; NODES]
 }
 
-fn no_publics() -> [u32; 64]
+fn no_publics() -> [u32; PUBLICS]
     ensures { λ r. ⌜ r ≡ noPublics ⌝ }
 {
-    [0u32; 64]
+    [0u32; PUBLICS]
 }
 
 // fresh, iter and fold, as transform.rs registers them.
-fn register_intrinsics(s: &[u8], text: usize, count: usize, globals: &mut [u32; 512])
-    requires { ⌜ ((namesFit (now s) text count ≡ true) × (4 * (5 + 2 * count) ≤ length (now s))) × ((count ≤ 512) × (length (now globals) ≡ 512)) ⌝ }
-    ensures { λ r. ⌜ (length (now (globals .exit)) ≡ 512) × (Holds (now (globals .entry)) [] → Holds (now (globals .exit)) (registered (rows count 0 (nameOf (now (s .entry)) text)) .globals)) ⌝ }
+fn register_intrinsics(s: &[u8], text: usize, count: usize, globals: &mut [u32; NAMES])
+    requires { ⌜ ((namesFit (now s) text count ≡ true) × (4 * (HEADER + 2 * count) ≤ length (now s))) × ((count ≤ NAMES) × (length (now globals) ≡ NAMES)) ⌝ }
+    ensures { λ r. ⌜ (length (now (globals .exit)) ≡ NAMES) × (Holds (now (globals .entry)) [] → Holds (now (globals .exit)) (registered (rows count 0 (nameOf (now (s .entry)) text)) .globals)) ⌝ }
 {
-    register(s, text, count, b"fresh", 0, globals);
-    register(s, text, count, b"iter", 2, globals);
-    register(s, text, count, b"fold", 5, globals);
+    register(s, text, count, b"fresh", FRESH_ID, globals);
+    register(s, text, count, b"iter", ITER_ID, globals);
+    register(s, text, count, b"fold", FOLD_ID, globals);
 }
 
 // The lists of a record with this layout, where the globals hold what is registered.
 fn number_lists(
     s: &[u8],
     l: Layout,
-    globals: &mut [u32; 512],
-    ids: &mut [u32; 2048],
-    publics: &mut [u32; 64],
+    globals: &mut [u32; NAMES],
+    ids: &mut [u32; NODES],
+    publics: &mut [u32; PUBLICS],
 ) -> u32
-    requires { ⌜ (Readable (now s) × (l ≡ layoutOf (now s))) × ((length (now globals) ≡ 512) × ((length (now ids) ≡ 2048) × (length (now publics) ≡ 64))) ⌝ }
+    requires { ⌜ (Readable (now s) × (l ≡ layoutOf (now s))) × ((length (now globals) ≡ NAMES) × ((length (now ids) ≡ NODES) × (length (now publics) ≡ PUBLICS))) ⌝ }
     requires { ⌜ Holds (now globals) (registered (rows (l .names) 0 (nameOf (now s) (l .«text_at»))) .globals) ⌝ }
     ensures { λ r. ⌜ NumberedIn (now (s .entry)) (now (ids .entry)) (now (publics .entry)) r (now (ids .exit)) (now (publics .exit)) ⌝ }
 {
@@ -91,7 +99,7 @@ fn number_lists(
         &locals,
         globals,
         publics,
-        9,
+        FIRST_FREE_ID,
     );
     let two = number_definitions(
         s,
@@ -122,8 +130,8 @@ fn number_lists(
 }
 
 // A record that is accepted: the id of every node that has a name goes to its index, that of every public to its position.
-fn number_checked(s: &[u8], ids: &mut [u32; 2048], publics: &mut [u32; 64]) -> u32
-    requires { ⌜ Readable (now s) × ((length (now ids) ≡ 2048) × (length (now publics) ≡ 64)) ⌝ }
+fn number_checked(s: &[u8], ids: &mut [u32; NODES], publics: &mut [u32; PUBLICS]) -> u32
+    requires { ⌜ Readable (now s) × ((length (now ids) ≡ NODES) × (length (now publics) ≡ PUBLICS)) ⌝ }
     ensures { λ r. ⌜ NumberedIn (now (s .entry)) (now (ids .entry)) (now (publics .entry)) r (now (ids .exit)) (now (publics .exit)) ⌝ }
 {
     let l = layout_of(s);

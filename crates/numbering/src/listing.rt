@@ -1,12 +1,15 @@
 // The definitions and the expressions of a module, from the first to the last.
 use super::expressions::number_expr_variables;
 use super::patterns::number_pattern_variables;
+use records::source_record::NAMES;
+use records::source_record::NODES;
 ghost use mathlib.Core.Path.{_≡_};
 ghost use mathlib.Core.Bool.{true};
 ghost use Prim.Native.Nat.{_+_, _*_, _-_, _≤_, _<_};
 ghost use lib.ListN.{length};
 ghost use Rattle.source.specs.Nodes.{isPattern, definitionsFit, expressionsFit};
 ghost use Rattle.numbering.specs.Walks.{Sizes, ReadyTwo, ReadyDefinitions, ReadyExpressions, DefinitionWalk, DefinitionsWalk, ExpressionsWalk};
+ghost use Rattle.records.specs.SourceRecord.{NAMES};
 
 // The definition of pattern p by value v: its value before its pattern, whose names stay bound.
 fn number_def_variables(
@@ -15,14 +18,14 @@ fn number_def_variables(
     n: usize,
     p: usize,
     v: usize,
-    locals: &mut [u32; 512],
-    globals: &mut [u32; 512],
-    undo: &mut [u32; 2048],
-    old: &mut [u32; 2048],
-    ids: &mut [u32; 2048],
+    locals: &mut [u32; NAMES],
+    globals: &mut [u32; NAMES],
+    undo: &mut [u32; NODES],
+    old: &mut [u32; NODES],
+    ids: &mut [u32; NODES],
     next: u32,
 ) -> u32
-    requires { ⌜ ReadyTwo (now s) at n isPattern n p v next 0 × (Sizes (now locals) (now undo) (now old) (now ids) × (length (now globals) ≡ 512)) ⌝ }
+    requires { ⌜ ReadyTwo (now s) at n isPattern n p v next 0 × (Sizes (now locals) (now undo) (now old) (now ids) × (length (now globals) ≡ NAMES)) ⌝ }
     ensures { λ r. ⌜ DefinitionWalk (now (s .entry)) at n p v next (now (locals .entry)) (now (globals .entry)) (now (ids .entry)) r (now (locals .exit)) (now (globals .exit)) (now (undo .exit)) (now (old .exit)) (now (ids .exit)) ⌝ }
 {
     let one = number_expr_variables(s, at, n, v, locals, globals, undo, old, ids, next, 0);
@@ -36,14 +39,14 @@ pub fn number_definitions(
     n: usize,
     list: usize,
     count: usize,
-    locals: &mut [u32; 512],
-    globals: &mut [u32; 512],
-    undo: &mut [u32; 2048],
-    old: &mut [u32; 2048],
-    ids: &mut [u32; 2048],
+    locals: &mut [u32; NAMES],
+    globals: &mut [u32; NAMES],
+    undo: &mut [u32; NODES],
+    old: &mut [u32; NODES],
+    ids: &mut [u32; NODES],
     next: u32,
 ) -> u32
-    requires { ⌜ ((4 * (list + 2 * count) ≤ length (now s)) × (definitionsFit (now s) at n list count ≡ true)) × (ReadyDefinitions (now s) at n list count 0 next × (Sizes (now locals) (now undo) (now old) (now ids) × (length (now globals) ≡ 512))) ⌝ }
+    requires { ⌜ ((4 * (list + 2 * count) ≤ length (now s)) × (definitionsFit (now s) at n list count ≡ true)) × (ReadyDefinitions (now s) at n list count 0 next × (Sizes (now locals) (now undo) (now old) (now ids) × (length (now globals) ≡ NAMES))) ⌝ }
     ensures { λ r. ⌜ DefinitionsWalk (now (s .entry)) at n list count 0 next (now (locals .entry)) (now (globals .entry)) (now (ids .entry)) r (now (locals .exit)) (now (globals .exit)) (now (undo .exit)) (now (old .exit)) (now (ids .exit)) ⌝ }
 {
     let mut i = 0usize;
@@ -64,14 +67,14 @@ pub fn number_expressions(
     n: usize,
     list: usize,
     count: usize,
-    locals: &mut [u32; 512],
-    globals: &mut [u32; 512],
-    undo: &mut [u32; 2048],
-    old: &mut [u32; 2048],
-    ids: &mut [u32; 2048],
+    locals: &mut [u32; NAMES],
+    globals: &mut [u32; NAMES],
+    undo: &mut [u32; NODES],
+    old: &mut [u32; NODES],
+    ids: &mut [u32; NODES],
     next: u32,
 ) -> u32
-    requires { ⌜ ((4 * (list + count) ≤ length (now s)) × (expressionsFit (now s) at n list count ≡ true)) × (ReadyExpressions (now s) at n list count 0 next × (Sizes (now locals) (now undo) (now old) (now ids) × (length (now globals) ≡ 512))) ⌝ }
+    requires { ⌜ ((4 * (list + count) ≤ length (now s)) × (expressionsFit (now s) at n list count ≡ true)) × (ReadyExpressions (now s) at n list count 0 next × (Sizes (now locals) (now undo) (now old) (now ids) × (length (now globals) ≡ NAMES))) ⌝ }
     ensures { λ r. ⌜ ExpressionsWalk (now (s .entry)) at n list count 0 next 0 (now (locals .entry)) (now (globals .entry)) (now (undo .entry)) (now (old .entry)) (now (ids .entry)) r (now (locals .exit)) (now (globals .exit)) (now (undo .exit)) (now (old .exit)) (now (ids .exit)) ⌝ }
 {
     let mut i = 0usize;

@@ -1,5 +1,8 @@
 // Patterns: each variable draws an id, and is bound to it.
 use super::rows::bind;
+use records::source_record::NAMES;
+use records::source_record::NO_LINK;
+use records::source_record::NODES;
 use source::Entry;
 use source::Form;
 use source::Shape;
@@ -16,10 +19,10 @@ pub fn number_pattern_variables(
     at: usize,
     n: usize,
     k: usize,
-    locals: &mut [u32; 512],
-    undo: &mut [u32; 2048],
-    old: &mut [u32; 2048],
-    ids: &mut [u32; 2048],
+    locals: &mut [u32; NAMES],
+    undo: &mut [u32; NODES],
+    old: &mut [u32; NODES],
+    ids: &mut [u32; NODES],
     next: u32,
     top: u32,
 ) -> u32
@@ -79,10 +82,10 @@ pub fn number_parameters(
     at: usize,
     n: usize,
     l: usize,
-    locals: &mut [u32; 512],
-    undo: &mut [u32; 2048],
-    old: &mut [u32; 2048],
-    ids: &mut [u32; 2048],
+    locals: &mut [u32; NAMES],
+    undo: &mut [u32; NODES],
+    old: &mut [u32; NODES],
+    ids: &mut [u32; NODES],
     next: u32,
     top: u32,
 ) -> u32
@@ -92,7 +95,7 @@ pub fn number_parameters(
     match node_at(s, at, l) {
         Entry::Link(item, rest, _) => {
             let one = number_pattern_variables(s, at, n, item, locals, undo, old, ids, next, top);
-            if rest == 4294967295 {
+            if rest == NO_LINK {
                 return one;
             }
             number_parameters(

@@ -1,6 +1,9 @@
 // What stands among the globals before definitions: fresh, iter and fold, found by their texts, and the publics.
 use super::rows::Drawn;
 use super::rows::number_variable;
+use records::source_record::HEADER;
+use records::source_record::NAMES;
+use records::source_record::PUBLICS;
 ghost use mathlib.Core.Path.{_≡_};
 ghost use mathlib.Core.Bool.{true};
 ghost use Prim.Native.Nat.{_+_, _*_, _≤_, _<_};
@@ -9,6 +12,9 @@ ghost use Rattle.source.specs.Names.{namesFit};
 ghost use Rattle.source.specs.Nodes.{publicsFit};
 ghost use Rattle.numbering.specs.Numbering.{sameText};
 ghost use Rattle.numbering.specs.Walks.{Published, Registered};
+ghost use Rattle.records.specs.FlatRecord.{IDS};
+ghost use Rattle.records.specs.Intrinsics.{FIRST-FREE-ID};
+ghost use Rattle.records.specs.SourceRecord.{HEADER, NAMES, PUBLICS};
 
 // Whether the n bytes from `from` on are the text t.
 fn same_text(s: &[u8], from: usize, n: usize, t: &[u8]) -> bool
@@ -29,14 +35,14 @@ fn same_text(s: &[u8], from: usize, n: usize, t: &[u8]) -> bool
 }
 
 // The name that is the text t, if there is one, has this id.
-pub fn register(s: &[u8], text: usize, count: usize, t: &[u8], id: u32, globals: &mut [u32; 512])
-    requires { ⌜ ((namesFit (now s) text count ≡ true) × (4 * (5 + 2 * count) ≤ length (now s))) × (((count ≤ 512) × (length (now globals) ≡ 512)) × (id < 65536)) ⌝ }
+pub fn register(s: &[u8], text: usize, count: usize, t: &[u8], id: u32, globals: &mut [u32; NAMES])
+    requires { ⌜ ((namesFit (now s) text count ≡ true) × (4 * (HEADER + 2 * count) ≤ length (now s))) × (((count ≤ NAMES) × (length (now globals) ≡ NAMES)) × (id < IDS)) ⌝ }
     ensures { λ r. ⌜ Registered (now (s .entry)) (now (t .entry)) text count id (now (globals .entry)) (now (globals .exit)) ⌝ }
 {
     let mut k = 0usize;
     while k < count {
-        let offset = words::word_at(s, 5 + 2 * k) as usize;
-        let n = words::word_at(s, 5 + 2 * k + 1) as usize;
+        let offset = words::word_at(s, HEADER + 2 * k) as usize;
+        let n = words::word_at(s, HEADER + 2 * k + 1) as usize;
         if same_text(s, text + offset, n, t) {
             globals[k] = id + 1;
             return;
@@ -51,12 +57,12 @@ pub fn number_publics(
     names: usize,
     list: usize,
     count: usize,
-    locals: &[u32; 512],
-    globals: &mut [u32; 512],
-    publics: &mut [u32; 64],
+    locals: &[u32; NAMES],
+    globals: &mut [u32; NAMES],
+    publics: &mut [u32; PUBLICS],
     next: u32,
 ) -> u32
-    requires { ⌜ ((4 * (list + count) ≤ length (now s)) × (publicsFit (now s) names list count ≡ true)) × (((names ≤ 512) × (count ≤ 64)) × ((length (now globals) ≡ 512) × ((length (now publics) ≡ 64) × (next ≤ 9)))) ⌝ }
+    requires { ⌜ ((4 * (list + count) ≤ length (now s)) × (publicsFit (now s) names list count ≡ true)) × (((names ≤ NAMES) × (count ≤ PUBLICS)) × ((length (now globals) ≡ NAMES) × ((length (now publics) ≡ PUBLICS) × (next ≤ FIRST-FREE-ID)))) ⌝ }
     ensures { λ r. ⌜ Published (now (s .entry)) list count 0 next (now (locals .entry)) (now (globals .entry)) (now (publics .entry)) r (now (globals .exit)) (now (publics .exit)) ⌝ }
 {
     let mut i = 0usize;

@@ -1,8 +1,12 @@
 // The rows: a name's id plus one, or 0; the undo list has each bound name, and what its row held before.
+use records::source_record::NAMES;
+use records::source_record::NODES;
 ghost use mathlib.Core.Path.{_≡_};
 ghost use Prim.Native.Nat.{ℕ, _+_, _≤_, _<_};
 ghost use lib.ListN.{length, getD, set};
 ghost use Rattle.numbering.specs.Walks.{Chosen, unwound};
+ghost use Rattle.records.specs.FlatRecord.{IDS};
+ghost use Rattle.records.specs.SourceRecord.{NAMES, NODES};
 
 // An id, and the next free one.
 pub struct Drawn {
@@ -11,8 +15,13 @@ pub struct Drawn {
 }
 
 // A local, else a global, else a new global.
-pub fn number_variable(x: usize, locals: &[u32; 512], globals: &mut [u32; 512], next: u32) -> Drawn
-    requires { ⌜ (x < 512) × ((next < 65536) × (length (now globals) ≡ 512)) ⌝ }
+pub fn number_variable(
+    x: usize,
+    locals: &[u32; NAMES],
+    globals: &mut [u32; NAMES],
+    next: u32,
+) -> Drawn
+    requires { ⌜ (x < NAMES) × ((next < IDS) × (length (now globals) ≡ NAMES)) ⌝ }
     ensures { λ r. ⌜ Chosen x next (now (locals .entry)) (now (globals .entry)) (r .id) (r .next) (now (globals .exit)) ⌝ }
 {
     let local = locals[x];
@@ -40,14 +49,14 @@ pub fn number_variable(x: usize, locals: &[u32; 512], globals: &mut [u32; 512], 
 pub fn bind(
     x: usize,
     k: usize,
-    locals: &mut [u32; 512],
-    undo: &mut [u32; 2048],
-    old: &mut [u32; 2048],
-    ids: &mut [u32; 2048],
+    locals: &mut [u32; NAMES],
+    undo: &mut [u32; NODES],
+    old: &mut [u32; NODES],
+    ids: &mut [u32; NODES],
     next: u32,
     top: u32,
 ) -> u32
-    requires { ⌜ ((x < 512) × (k < 2048)) × ((next < 65536) × (top < 2048)) ⌝ }
+    requires { ⌜ ((x < NAMES) × (k < NODES)) × ((next < IDS) × (top < NODES)) ⌝ }
     ensures { λ r. ⌜ ((r ≡ next + 1) × (now (locals .exit) ≡ set (now (locals .entry)) x (next + 1))) × ((now (undo .exit) ≡ set (now (undo .entry)) top x) × (now (old .exit) ≡ set (now (old .entry)) top (getD (now (locals .entry)) x 0)) × (now (ids .exit) ≡ set (now (ids .entry)) k next)) ⌝ }
 {
     let t = top as usize;
@@ -59,8 +68,8 @@ pub fn bind(
 }
 
 // The end of a scope: n entries of the undo list are undone, the last first.
-pub fn unwind(locals: &mut [u32; 512], undo: &[u32; 2048], old: &[u32; 2048], base: u32, n: u32)
-    requires { ⌜ ((base + n ≤ 2048) × (length (now locals) ≡ 512)) × ((i : ℕ) → base ≤ i → i < base + n → getD (now undo) i 0 < 512) ⌝ }
+pub fn unwind(locals: &mut [u32; NAMES], undo: &[u32; NODES], old: &[u32; NODES], base: u32, n: u32)
+    requires { ⌜ ((base + n ≤ NODES) × (length (now locals) ≡ NAMES)) × ((i : ℕ) → base ≤ i → i < base + n → getD (now undo) i 0 < NAMES) ⌝ }
     ensures { λ r. ⌜ now (locals .exit) ≡ unwound (now (undo .entry)) (now (old .entry)) base n (now (locals .entry)) ⌝ }
 {
     let mut i = (base + n) as usize;

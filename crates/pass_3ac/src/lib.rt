@@ -5,7 +5,11 @@ use constraint::Equality;
 use constraint::Term;
 use constraint::put_equality;
 use flat::Node;
+use pass_classify::NEVER;
+use pass_classify::Provers;
+use pass_classify::Usages;
 use pass_copies::Copied;
+use pass_copies::Substitutions;
 use pass_copies::copy_expr;
 use pass_copies::is_dead;
 use pass_copies::resolve;
@@ -25,8 +29,9 @@ ghost use Rattle.flat.specs.Readable.{Readable, Inside};
 ghost use Rattle.constraint.specs.Record.{writtenWords};
 ghost use Rattle.pass_trees.specs.Passes.{copyPropagateExpr, orVariable, copied, cutsOf, both, flattenSides};
 ghost use Rattle.pass_classify.specs.Arrays.{Classified};
-ghost use Rattle.pass_copies.specs.Substituted.{substOf};
+ghost use Rattle.pass_copies.specs.Substituted.{substOf, SUBSTITUTION-WORDS};
 ghost use Rattle.pass_3ac.specs.Cutting.{targetOf, treeCut, CutPut, Room, CutsPut, DefsPut, defsCut, defsAfter, equationsCut, sidesOf};
+ghost use Rattle.records.specs.FlatRecord.{IDS};
 
 // The left side of what is cut: a new variable, or the term that is given.
 pub enum Target {
@@ -85,7 +90,7 @@ fn flatten_expr_to_3ac(
     s: &[u8],
     nodes: usize,
     k: usize,
-    subs: &[u32; 131072],
+    subs: &Substitutions,
     steps: usize,
     body: &mut [u8],
     at: usize,
@@ -129,19 +134,19 @@ fn flatten_def_to_3ac(
     nodes: usize,
     id: u32,
     k: usize,
-    usage: &[u8; 65536],
-    provers: &[u8; 65536],
-    subs: &mut [u32; 131072],
+    usage: &Usages,
+    provers: &Provers,
+    subs: &mut Substitutions,
     steps: usize,
     body: &mut [u8],
     at: usize,
     next: u32,
 ) -> Place
-    requires { ⌜ Inside (now s) nodes k × Classified (now s) (now usage) (now provers) × (id < 65536) × (length (now subs) ≡ 131072) × Room (treeNodes (tree (now s) nodes (k + 1) k)) at next (now body) ⌝ }
+    requires { ⌜ Inside (now s) nodes k × Classified (now s) (now usage) (now provers) × (id < IDS) × (length (now subs) ≡ SUBSTITUTION-WORDS) × Room (treeNodes (tree (now s) nodes (k + 1) k)) at next (now body) ⌝ }
     ensures { λ r. ⌜ DefsPut (now (body .entry)) (now (body .exit)) at (defsCut (now (s .entry)) steps (substOf (now (subs .entry))) (record { id = id; right = tree (now (s .entry)) nodes (k + 1) k } ∷ []) next) r (now (subs .exit)) (defsAfter (now (s .entry)) steps (substOf (now (subs .entry))) (record { id = id; right = tree (now (s .entry)) nodes (k + 1) k } ∷ [])) ⌝ }
 {
     let i = id as usize;
-    if usage[i] == 0 {
+    if usage[i] == NEVER {
         return Place { next, at };
     }
     if provers[i] != 0 {
@@ -162,16 +167,16 @@ pub fn flatten_defs(
     definitions: usize,
     n: usize,
     nodes: usize,
-    usage: &[u8; 65536],
-    provers: &[u8; 65536],
-    subs: &mut [u32; 131072],
+    usage: &Usages,
+    provers: &Provers,
+    subs: &mut Substitutions,
     steps: usize,
     body: &mut [u8],
     at: usize,
     next: u32,
 ) -> Place
     requires { ⌜ Readable (now s) × Classified (now s) (now usage) (now provers) × (definitions ≡ definitionsAt (now s)) × (n ≡ definitionCount (now s)) × (nodes ≡ nodesAt (now s)) ⌝ }
-    requires { ⌜ (length (now subs) ≡ 131072) × Room (definitionsNodes (moduleOf (now s) .definitions)) at next (now body) ⌝ }
+    requires { ⌜ (length (now subs) ≡ SUBSTITUTION-WORDS) × Room (definitionsNodes (moduleOf (now s) .definitions)) at next (now body) ⌝ }
     ensures { λ r. ⌜ DefsPut (now (body .entry)) (now (body .exit)) at (defsCut (now (s .entry)) steps (substOf (now (subs .entry))) (moduleOf (now (s .entry)) .definitions) next) r (now (subs .exit)) (defsAfter (now (s .entry)) steps (substOf (now (subs .entry))) (moduleOf (now (s .entry)) .definitions)) ⌝ }
 {
     let mut to = at;
@@ -222,7 +227,7 @@ fn flatten_into(
     s: &[u8],
     nodes: usize,
     k: usize,
-    subs: &[u32; 131072],
+    subs: &Substitutions,
     steps: usize,
     body: &mut [u8],
     at: usize,
@@ -246,7 +251,7 @@ fn flatten_both(
     nodes: usize,
     left: usize,
     right: usize,
-    subs: &[u32; 131072],
+    subs: &Substitutions,
     steps: usize,
     body: &mut [u8],
     at: usize,
@@ -273,7 +278,7 @@ fn flatten_equation(
     nodes: usize,
     left: usize,
     right: usize,
-    subs: &[u32; 131072],
+    subs: &Substitutions,
     steps: usize,
     body: &mut [u8],
     at: usize,
@@ -301,7 +306,7 @@ pub fn flatten_equations(
     equations: usize,
     n: usize,
     nodes: usize,
-    subs: &[u32; 131072],
+    subs: &Substitutions,
     steps: usize,
     body: &mut [u8],
     at: usize,

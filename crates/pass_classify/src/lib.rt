@@ -2,6 +2,7 @@
 // prover ids are marked by 1 in another.
 use field::InfixOp;
 use flat::Node;
+use records::flat_record::ID_COUNT;
 use words::word_at;
 ghost use mathlib.Core.Path.{_≡_};
 ghost use mathlib.Core.Bool.{_&&_, _||_};
@@ -13,10 +14,22 @@ ghost use Rattle.flat.specs.Record.{tree, moduleOf};
 ghost use Rattle.flat.specs.Readable.{Readable, Inside};
 ghost use Rattle.pass_trees.specs.Passes.{member, most, isNever, isWitness, markUsed, usedIn, override, classified, cuttable, cuttableExpr, cuttableDefs, cuttableEquations, counted};
 ghost use Rattle.pass_classify.specs.Arrays.{usageAt, usageOf, marked, Uses, Marks, noMarks, Clear, Classified};
+ghost use Rattle.records.specs.FlatRecord.{IDS};
+
+// How an id is used: Usage of the Rust.
+pub const NEVER: u8 = 0;
+
+pub const WITNESS: u8 = 1;
+
+pub const CONSTRAINT: u8 = 2;
+
+pub type Usages = [u8; ID_COUNT];
+
+pub type Provers = [u8; ID_COUNT];
 
 // Id v is used at least so.
-fn mark(usage: &mut [u8; 65536], v: u32, u: u8)
-    requires { ⌜ (v < 65536) × (length (now usage) ≡ 65536) ⌝ }
+fn mark(usage: &mut Usages, v: u32, u: u8)
+    requires { ⌜ (v < IDS) × (length (now usage) ≡ IDS) ⌝ }
     ensures { λ _. ⌜ Uses (now (usage .exit)) (update (usageOf (now (usage .entry))) v (most (usageOf (now (usage .entry)) v) (usageAt u))) ⌝ }
 {
     let i = v as usize;
@@ -26,8 +39,8 @@ fn mark(usage: &mut [u8; 65536], v: u32, u: u8)
 }
 
 // Every variable of node k's tree is used at least so. The node index falls at each call.
-fn mark_used(s: &[u8], at: usize, k: usize, u: u8, usage: &mut [u8; 65536])
-    requires { ⌜ Inside (now s) at k × (length (now usage) ≡ 65536) ⌝ }
+fn mark_used(s: &[u8], at: usize, k: usize, u: u8, usage: &mut Usages)
+    requires { ⌜ Inside (now s) at k × (length (now usage) ≡ IDS) ⌝ }
     ensures { λ _. ⌜ Uses (now (usage .exit)) (markUsed (usageAt u) (tree (now (s .entry)) at (k + 1) k) (usageOf (now (usage .entry)))) ⌝ }
 {
     let node = flat::node_at(s, at, k);
@@ -47,8 +60,8 @@ fn mark_used(s: &[u8], at: usize, k: usize, u: u8, usage: &mut [u8; 65536])
 }
 
 // The variables of the equations are used in constraints.
-fn mark_equations(s: &[u8], usage: &mut [u8; 65536])
-    requires { ⌜ Readable (now s) × (length (now usage) ≡ 65536) ⌝ }
+fn mark_equations(s: &[u8], usage: &mut Usages)
+    requires { ⌜ Readable (now s) × (length (now usage) ≡ IDS) ⌝ }
     ensures { λ _. ⌜ Uses (now (usage .exit)) (usedIn (moduleOf (now (s .entry)) .equations) (usageOf (now (usage .entry)))) ⌝ }
 {
     let layout = flat::layout_of(s);
@@ -59,31 +72,31 @@ fn mark_equations(s: &[u8], usage: &mut [u8; 65536])
     while k < n {
         let left = word_at(s, equations + 2 * k) as usize;
         let right = word_at(s, equations + 2 * k + 1) as usize;
-        mark_used(s, at, left, 2, usage);
-        mark_used(s, at, right, 2, usage);
+        mark_used(s, at, left, CONSTRAINT, usage);
+        mark_used(s, at, right, CONSTRAINT, usage);
         k += 1;
     }
 }
 
 // How a defined id is used: as a witness where it is used and the prover's.
-fn override_usage(usage: &mut [u8; 65536], provers: &[u8; 65536], id: usize) -> u8
-    requires { ⌜ (id < 65536) × (length (now usage) ≡ 65536) ⌝ }
+fn override_usage(usage: &mut Usages, provers: &Provers, id: usize) -> u8
+    requires { ⌜ (id < IDS) × (length (now usage) ≡ IDS) ⌝ }
     ensures { λ r. ⌜ (usageAt r ≡ override (marked (now (provers .entry)) id) (usageOf (now (usage .entry)) id)) × Uses (now (usage .exit)) (update (usageOf (now (usage .entry))) id (usageAt r)) ⌝ }
 {
     let u = usage[id];
-    if u < 2 {
+    if u < CONSTRAINT {
         return u;
     }
     if provers[id] == 0 {
-        return 2;
+        return CONSTRAINT;
     }
-    usage[id] = 1;
-    1
+    usage[id] = WITNESS;
+    WITNESS
 }
 
 // The definitions from the last to the first: each hands its usage on to the variables of its right side.
-fn mark_definitions(s: &[u8], provers: &[u8; 65536], usage: &mut [u8; 65536])
-    requires { ⌜ Readable (now s) × ((length (now usage) ≡ 65536) × (marked (now provers) ≡ (λ v. member v (moduleOf (now s) .provers)))) ⌝ }
+fn mark_definitions(s: &[u8], provers: &Provers, usage: &mut Usages)
+    requires { ⌜ Readable (now s) × ((length (now usage) ≡ IDS) × (marked (now provers) ≡ (λ v. member v (moduleOf (now s) .provers)))) ⌝ }
     ensures { λ _. ⌜ Uses (now (usage .exit)) (classified (moduleOf (now (s .entry)) .provers) (moduleOf (now (s .entry)) .definitions) (usageOf (now (usage .entry)))) ⌝ }
 {
     let layout = flat::layout_of(s);
@@ -102,8 +115,8 @@ fn mark_definitions(s: &[u8], provers: &[u8; 65536], usage: &mut [u8; 65536])
 }
 
 // The record's prover ids are marked.
-fn mark_provers(s: &[u8], provers: &mut [u8; 65536])
-    requires { ⌜ Readable (now s) × (length (now provers) ≡ 65536) ⌝ }
+fn mark_provers(s: &[u8], provers: &mut Provers)
+    requires { ⌜ Readable (now s) × (length (now provers) ≡ IDS) ⌝ }
     ensures { λ _. ⌜ Marks (now (provers .exit)) (λ v. marked (now (provers .entry)) v || member v (moduleOf (now (s .entry)) .provers)) ⌝ }
 {
     let layout = flat::layout_of(s);
@@ -118,18 +131,18 @@ fn mark_provers(s: &[u8], provers: &mut [u8; 65536])
 }
 
 // Id v is the prover's where it is used as a witness.
-fn add_witness(usage: &[u8; 65536], provers: &mut [u8; 65536], v: usize)
-    requires { ⌜ (v < 65536) × (length (now provers) ≡ 65536) ⌝ }
+fn add_witness(usage: &Usages, provers: &mut Provers, v: usize)
+    requires { ⌜ (v < IDS) × (length (now provers) ≡ IDS) ⌝ }
     ensures { λ _. ⌜ Marks (now (provers .exit)) (λ w. marked (now (provers .entry)) w || (eqb w v && isWitness (usageOf (now (usage .entry)) w))) ⌝ }
 {
-    if usage[v] == 1 {
+    if usage[v] == WITNESS {
         provers[v] = 1;
     }
 }
 
 // The ids below the next id that are used as a witness are the prover's.
-fn add_witnesses(usage: &[u8; 65536], next: usize, provers: &mut [u8; 65536])
-    requires { ⌜ (next ≤ 65536) × (length (now provers) ≡ 65536) ⌝ }
+fn add_witnesses(usage: &Usages, next: usize, provers: &mut Provers)
+    requires { ⌜ (next ≤ IDS) × (length (now provers) ≡ IDS) ⌝ }
     ensures { λ _. ⌜ Marks (now (provers .exit)) (λ w. marked (now (provers .entry)) w || (ltb w next && isWitness (usageOf (now (usage .entry)) w))) ⌝ }
 {
     let mut v = 0usize;
@@ -140,14 +153,14 @@ fn add_witnesses(usage: &[u8; 65536], next: usize, provers: &mut [u8; 65536])
 }
 
 // An array by id in which nothing is marked.
-pub fn no_marks() -> [u8; 65536]
+pub fn no_marks() -> Provers
     ensures { λ r. ⌜ r ≡ noMarks ⌝ }
 {
-    [0u8; 65536]
+    [0u8; ID_COUNT]
 }
 
 // Usages and prover ids of a readable record, in arrays that are clear at the call.
-pub fn classify_defs(s: &[u8], usage: &mut [u8; 65536], provers: &mut [u8; 65536])
+pub fn classify_defs(s: &[u8], usage: &mut Usages, provers: &mut Provers)
     requires { ⌜ Readable (now s) × Clear (now usage) (now provers) ⌝ }
     ensures { λ _. ⌜ Classified (now (s .entry)) (now (usage .exit)) (now (provers .exit)) ⌝ }
 {
@@ -227,13 +240,13 @@ fn cuttable_def(
     at: usize,
     id: usize,
     node: usize,
-    usage: &[u8; 65536],
-    provers: &[u8; 65536],
+    usage: &Usages,
+    provers: &Provers,
 ) -> bool
-    requires { ⌜ Inside (now s) at node × (id < 65536) ⌝ }
+    requires { ⌜ Inside (now s) at node × (id < IDS) ⌝ }
     ensures { λ r. ⌜ r ≡ (isNever (usageOf (now (usage .entry)) id) || (marked (now (provers .entry)) id || cuttableExpr (tree (now (s .entry)) at (node + 1) node))) ⌝ }
 {
-    if usage[id] == 0 {
+    if usage[id] == NEVER {
         return true;
     }
     if provers[id] != 0 {
@@ -243,7 +256,7 @@ fn cuttable_def(
 }
 
 // Whether no counted definition has `^` or `=`.
-fn cuttable_defs(s: &[u8], usage: &[u8; 65536], provers: &[u8; 65536]) -> bool
+fn cuttable_defs(s: &[u8], usage: &Usages, provers: &Provers) -> bool
     requires { ⌜ Readable (now s) × Classified (now s) (now usage) (now provers) ⌝ }
     ensures { λ r. ⌜ r ≡ cuttableDefs (counted (moduleOf (now (s .entry)))) ⌝ }
 {
@@ -264,7 +277,7 @@ fn cuttable_defs(s: &[u8], usage: &[u8; 65536], provers: &[u8; 65536]) -> bool
 }
 
 // Not 22.
-pub fn cuttable(s: &[u8], usage: &[u8; 65536], provers: &[u8; 65536]) -> bool
+pub fn cuttable(s: &[u8], usage: &Usages, provers: &Provers) -> bool
     requires { ⌜ Readable (now s) × Classified (now s) (now usage) (now provers) ⌝ }
     ensures { λ r. ⌜ r ≡ (cuttableDefs (counted (moduleOf (now (s .entry)))) && cuttableEquations (moduleOf (now (s .entry)) .equations)) ⌝ }
 {

@@ -12,6 +12,11 @@ use Rattle.flat.specs.Trees.{Flat}
 use Rattle.constraint.specs.declared.Term.{Term}
 use Rattle.pass_trees.specs.Passes.{Substitutions, sameNumber}
 use Rattle.pass_copies.specs.declared.Copied.{Copied}
+use Rattle.records.specs.FlatRecord.{IDS}
+
+-- two words for each id
+abbrev pub SUBSTITUTION-WORDS : ℕ
+SUBSTITUTION-WORDS = 131072
 
 -- the two words of an id: 0 where nothing stands for it, 1 and an id, or 2 and a number's bits
 unfoldable pub standing : ℕ → ℕ → Option Term
@@ -19,11 +24,11 @@ standing kind value = pick (eqb kind 0) none (pick (eqb kind 1) (some (Term.Vari
 
 -- the words of id v are those at 2 v and 2 v + 1; "ids to 65,535": nothing stands for a larger one
 unfoldable pub substOf : List ℕ → Substitutions
-substOf m v = pick (ltb v 65536) (standing (getD m (2 * v) 0) (getD m (2 * v + 1) 0)) none
+substOf m v = pick (ltb v IDS) (standing (getD m (2 * v) 0) (getD m (2 * v + 1) 0)) none
 
 -- no substitutions: all words are 0
 unfoldable pub noSubstitutions : List ℕ
-noSubstitutions = replicate 131072 0
+noSubstitutions = replicate SUBSTITUTION-WORDS 0
 
 -- "the result is a variable or constant", or an operation on others
 unfoldable pub copiedOf : Flat → Copied

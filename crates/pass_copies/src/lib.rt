@@ -2,6 +2,8 @@
 // none, 1 and an id, or 2 and a number's bits.
 use constraint::Term;
 use flat::Node;
+use pass_classify::Usages;
+use records::flat_record::ID_COUNT;
 use words::signed;
 use words::unsigned;
 use words::wide;
@@ -16,25 +18,39 @@ ghost use Rattle.flat.specs.Readable.{Readable, Inside};
 ghost use Rattle.constraint.specs.declared.Term.the-variants.{Variable};
 ghost use Rattle.pass_trees.specs.Passes.{isNever, those, walk, copyPropagateExpr, substituting};
 ghost use Rattle.pass_classify.specs.Arrays.{usageAt, usageOf};
-ghost use Rattle.pass_copies.specs.Substituted.{substOf, noSubstitutions, copiedOf, sameTerm, deadRoots};
+ghost use Rattle.pass_copies.specs.Substituted.{substOf, noSubstitutions, copiedOf, sameTerm, deadRoots, SUBSTITUTION-WORDS};
+ghost use Rattle.records.specs.FlatRecord.{IDS};
+
+// An entry for each id: what stands for it, none, a variable or a constant, and the variable or the number.
+const NONE: u32 = 0;
+
+const VARIABLE: u32 = 1;
+
+const CONSTANT: u32 = 2;
+
+const ENTRY: usize = 2;
+
+const SUBSTITUTION_WORDS: usize = ENTRY * ID_COUNT;
+
+pub type Substitutions = [u32; SUBSTITUTION_WORDS];
 
 // The term that stands for id v, by as many steps as are left.
-pub fn resolve(subs: &[u32; 131072], v: u32, steps: usize) -> Term
+pub fn resolve(subs: &Substitutions, v: u32, steps: usize) -> Term
     ensures { λ r. ⌜ r ≡ walk steps (substOf (now (subs .entry))) (Variable v) ⌝ }
 {
     let mut id = v;
     let mut left = steps;
     while 0 < left {
         let i = wide(id);
-        if 65536 <= i {
+        if ID_COUNT <= i {
             return Term::Variable(id);
         }
-        let kind = subs[2 * i];
-        if kind == 0 {
+        let kind = subs[ENTRY * i];
+        if kind == NONE {
             return Term::Variable(id);
         }
-        let value = subs[2 * i + 1];
-        if kind != 1 {
+        let value = subs[ENTRY * i + 1];
+        if kind != VARIABLE {
             return Term::Constant(signed(value));
         }
         id = value;
@@ -50,7 +66,7 @@ pub enum Copied {
 }
 
 // The root of node k's expression with the substitutions made.
-pub fn copy_expr(s: &[u8], at: usize, k: usize, subs: &[u32; 131072], steps: usize) -> Copied
+pub fn copy_expr(s: &[u8], at: usize, k: usize, subs: &Substitutions, steps: usize) -> Copied
     requires { ⌜ Inside (now s) at k ⌝ }
     ensures { λ r. ⌜ r ≡ copiedOf (copyPropagateExpr steps (substOf (now (subs .entry))) (tree (now (s .entry)) at (k + 1) k)) ⌝ }
 {
@@ -63,18 +79,18 @@ pub fn copy_expr(s: &[u8], at: usize, k: usize, subs: &[u32; 131072], steps: usi
     }
 }
 
-fn put_substitution(subs: &mut [u32; 131072], id: usize, kind: u32, value: u32)
-    requires { ⌜ id < 65536 ⌝ }
+fn put_substitution(subs: &mut Substitutions, id: usize, kind: u32, value: u32)
+    requires { ⌜ id < IDS ⌝ }
     ensures { λ _. ⌜ now (subs .exit) ≡ set (set (now (subs .entry)) (2 * id) kind) (2 * id + 1) value ⌝ }
 {
-    subs[2 * id] = kind;
-    subs[2 * id + 1] = value;
+    subs[ENTRY * id] = kind;
+    subs[ENTRY * id + 1] = value;
 }
 
 // The substitutions after a definition whose id is not the prover's: a term stands for its variable, unless it is the variable itself.
-pub fn substitute(s: &[u8], at: usize, id: u32, k: usize, subs: &mut [u32; 131072], steps: usize)
-    requires { ⌜ Inside (now s) at k × (id < 65536) × (length (now subs) ≡ 131072) ⌝ }
-    ensures { λ _. ⌜ (substOf (now (subs .exit)) ≡ substituting false id (copyPropagateExpr steps (substOf (now (subs .entry))) (tree (now (s .entry)) at (k + 1) k)) (substOf (now (subs .entry)))) × (length (now (subs .exit)) ≡ 131072) ⌝ }
+pub fn substitute(s: &[u8], at: usize, id: u32, k: usize, subs: &mut Substitutions, steps: usize)
+    requires { ⌜ Inside (now s) at k × (id < IDS) × (length (now subs) ≡ SUBSTITUTION-WORDS) ⌝ }
+    ensures { λ _. ⌜ (substOf (now (subs .exit)) ≡ substituting false id (copyPropagateExpr steps (substOf (now (subs .entry))) (tree (now (s .entry)) at (k + 1) k)) (substOf (now (subs .entry)))) × (length (now (subs .exit)) ≡ SUBSTITUTION-WORDS) ⌝ }
 {
     let Copied::Leaf(term) = copy_expr(s, at, k, subs, steps) else {
         return;
@@ -82,11 +98,11 @@ pub fn substitute(s: &[u8], at: usize, id: u32, k: usize, subs: &mut [u32; 13107
     match term {
         Term::Variable(w) => {
             if w != id {
-                put_substitution(subs, id as usize, 1, w);
+                put_substitution(subs, id as usize, VARIABLE, w);
             }
         }
         Term::Constant(c) => {
-            put_substitution(subs, id as usize, 2, unsigned(c));
+            put_substitution(subs, id as usize, CONSTANT, unsigned(c));
         }
     }
 }
@@ -120,18 +136,18 @@ pub fn is_dead(a: Copied, b: Copied) -> bool
 }
 
 // No id has a substitution.
-pub fn no_substitutions() -> [u32; 131072]
+pub fn no_substitutions() -> Substitutions
     ensures { λ r. ⌜ r ≡ noSubstitutions ⌝ }
 {
-    [0u32; 131072]
+    [0u32; SUBSTITUTION_WORDS]
 }
 
 // No id has a substitution any more.
-pub fn clear_substitutions(subs: &mut [u32; 131072])
+pub fn clear_substitutions(subs: &mut Substitutions)
     ensures { λ _. ⌜ (substOf (now (subs .exit)) ≡ (λ _. none)) × (length (now (subs .exit)) ≡ length (now (subs .entry))) ⌝ }
 {
     let mut i = 0usize;
-    while i < 131072 {
+    while i < SUBSTITUTION_WORDS {
         subs[i] = 0;
         i += 1;
     }
@@ -147,7 +163,7 @@ fn one_where_used(u: u8) -> usize
 }
 
 // How many of the record's n definitions, from word `at` on, are used: the steps that suffice for every walk.
-pub fn used_definitions(s: &[u8], at: usize, n: usize, usage: &[u8; 65536]) -> usize
+pub fn used_definitions(s: &[u8], at: usize, n: usize, usage: &Usages) -> usize
     requires { ⌜ Readable (now s) × (at ≡ definitionsAt (now s)) × (n ≡ definitions (now s)) ⌝ }
     ensures { λ r. ⌜ r ≡ length (those (λ v. not (isNever (usageOf (now (usage .entry)) v))) (moduleOf (now (s .entry)) .definitions)) ⌝ }
 {

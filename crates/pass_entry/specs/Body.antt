@@ -8,14 +8,25 @@ use Rattle.constraint.specs.Trees.{ConstraintModule}
 use Rattle.flat.specs.Trees.{definitionsNodes}
 use Rattle.constraint.specs.Record.{equalitiesWords, keptWords, keptNodes}
 use Rattle.pass_entry.specs.declared.body.Built.{Built}
+use Rattle.records.specs.FlatRecord.{NODES}
+
+-- the most that a flat record can give: publics, prover ids, an equality for each node, kept definitions; and the nodes of these
+abbrev pub BODY-WORDS : ℕ
+BODY-WORDS = 188480
+
+abbrev pub BODY-BYTES : ℕ
+BODY-BYTES = 753920
+
+abbrev pub LIST-BYTES : ℕ
+LIST-BYTES = 262144
 
 -- 64 publics, 65,536 prover ids, 7 words for each of 16,384 equalities, 2 for each of 4,096 kept definitions
 unfoldable pub noBody : List ℕ
-noBody = replicate 753920 0
+noBody = replicate BODY-BYTES 0
 
 -- 4 words for each of 16,384 nodes
 unfoldable pub noList : List ℕ
-noList = replicate 262144 0
+noList = replicate LIST-BYTES 0
 
 -- the words of a constraint record between its header and its nodes
 unfoldable pub bodyWords : ConstraintModule → List ℕ
@@ -38,5 +49,5 @@ pub record Fitting (built : Built) (publics : ℕ) (body list : List ℕ) : Type
   pub equalities-first : built .equalities ≤ built .kept
   pub body-long : 4 * built .kept ≤ length body
   pub list-long : 16 * built .nodes ≤ length list
-  pub kept-small : built .kept ≤ 188480
-  pub nodes-small : built .nodes ≤ 16384
+  pub kept-small : built .kept ≤ BODY-WORDS
+  pub nodes-small : built .nodes ≤ NODES

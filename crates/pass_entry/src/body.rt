@@ -1,6 +1,8 @@
 // The body of a constraint record, made in the port's own lists: its length is known only at the end, and a refused output stays untouched.
 use super::lists::put_provers;
 use super::lists::put_publics;
+use pass_classify::Provers;
+use pass_classify::Usages;
 ghost use mathlib.Core.Path.{_≡_};
 ghost use Prim.Native.Nat.{_≤_};
 ghost use lib.ListN.{length};
@@ -9,7 +11,8 @@ ghost use Rattle.flat.specs.Record.{publics, moduleOf};
 ghost use Rattle.flat.specs.Readable.{Readable};
 ghost use Rattle.pass_trees.specs.Passes.{passes};
 ghost use Rattle.pass_classify.specs.Arrays.{Classified};
-ghost use Rattle.pass_entry.specs.Body.{Made, Fitting};
+ghost use Rattle.pass_entry.specs.Body.{Made, Fitting, BODY-BYTES, LIST-BYTES};
+ghost use Rattle.records.specs.FlatRecord.{NODES};
 
 // The next id; the words of the body up to the equalities, up to the kept definitions, and in all; the nodes.
 pub struct Built {
@@ -21,15 +24,9 @@ pub struct Built {
 }
 
 // The passes' constraint module of a classified record, in the two lists.
-pub fn build(
-    s: &[u8],
-    usage: &[u8; 65536],
-    provers: &[u8; 65536],
-    body: &mut [u8],
-    list: &mut [u8],
-) -> Built
-    requires { ⌜ Readable (now s) × (moduleNodes (moduleOf (now s)) ≤ 16384) × Classified (now s) (now usage) (now provers) ⌝ }
-    requires { ⌜ (length (now body) ≡ 753920) × (length (now list) ≡ 262144) ⌝ }
+pub fn build(s: &[u8], usage: &Usages, provers: &Provers, body: &mut [u8], list: &mut [u8]) -> Built
+    requires { ⌜ Readable (now s) × (moduleNodes (moduleOf (now s)) ≤ NODES) × Classified (now s) (now usage) (now provers) ⌝ }
+    requires { ⌜ (length (now body) ≡ BODY-BYTES) × (length (now list) ≡ LIST-BYTES) ⌝ }
     ensures { λ r. ⌜ Made (passes (moduleOf (now (s .entry)))) r (now (body .exit)) (now (list .exit)) × Fitting r (publics (now (s .entry))) (now (body .exit)) (now (list .exit)) ⌝ }
 {
     let layout = flat::layout_of(s);

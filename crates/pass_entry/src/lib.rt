@@ -4,11 +4,18 @@ mod lists;
 
 use body::Built;
 use body::build;
+use constraint::HEADER;
 use constraint::put_header;
 use flat::Checked;
+pub use lists::BODY_BYTES;
+pub use lists::LIST_BYTES;
 use lists::copy_to;
 use lists::no_body;
 use lists::no_list;
+use pass_classify::Provers;
+use pass_classify::Usages;
+use records::NODE_WORDS;
+use records::flat_record::IDS;
 ghost use mathlib.Core.Path.{_≡_};
 ghost use Prim.Native.Nat.{_≤_};
 ghost use lib.ListN.{length, replicate};
@@ -22,6 +29,11 @@ ghost use Rattle.pass_trees.specs.Passes.{cut as accepted};
 ghost use Rattle.pass_entry.specs.Body.{Made, Fitting};
 ghost use Rattle.pass_trees.specs.Passes.{passes as Passes·passes};
 ghost use Rattle.pass_entry.specs.Cut.{cutRecord, answerFor, outputFor};
+ghost use Rattle.records.specs.FlatRecord.{NODES};
+
+const HEADER_BYTES: usize = 4 * HEADER;
+
+const NODE_BYTES: usize = 4 * NODE_WORDS;
 
 // The bytes written, or document 01's number.
 pub enum Answer {
@@ -38,7 +50,7 @@ fn deliver(built: Built, publics: usize, body: &[u8], list: &[u8], out: &mut [u8
     let equalities = built.equalities;
     let kept = built.kept;
     let nodes = built.nodes;
-    let size = 24 + 4 * kept + 16 * nodes;
+    let size = HEADER_BYTES + 4 * kept + NODE_BYTES * nodes;
     if out.len() < size {
         return Answer::Refused(33);
     }
@@ -51,14 +63,14 @@ fn deliver(built: Built, publics: usize, body: &[u8], list: &[u8], out: &mut [u8
         ((kept - equalities) / 2) as u32,
         nodes as u32,
     );
-    copy_to(body, 4 * kept, out, 24);
-    copy_to(list, 16 * nodes, out, 24 + 4 * kept);
+    copy_to(body, 4 * kept, out, HEADER_BYTES);
+    copy_to(list, NODE_BYTES * nodes, out, HEADER_BYTES + 4 * kept);
     Answer::Written(size)
 }
 
 // The passes on a record that can be cut.
-fn write(s: &[u8], usage: &[u8; 65536], provers: &[u8; 65536], out: &mut [u8]) -> Answer
-    requires { ⌜ (Readable (now s) × (moduleNodes (moduleOf (now s)) ≤ 16384)) × Classified (now s) (now usage) (now provers) ⌝ }
+fn write(s: &[u8], usage: &Usages, provers: &Provers, out: &mut [u8]) -> Answer
+    requires { ⌜ (Readable (now s) × (moduleNodes (moduleOf (now s)) ≤ NODES)) × Classified (now s) (now usage) (now provers) ⌝ }
     ensures { λ r. ⌜ (r ≡ answerFor (length (now (out .entry))) (fitting (Passes·passes (moduleOf (now (s .entry)))))) × (now (out .exit) ≡ outputFor (now (out .entry)) (fitting (Passes·passes (moduleOf (now (s .entry)))))) ⌝ }
 {
     let layout = flat::layout_of(s);
@@ -66,7 +78,7 @@ fn write(s: &[u8], usage: &[u8; 65536], provers: &[u8; 65536], out: &mut [u8]) -
     let mut body = no_body();
     let mut list = no_list();
     let built = build(s, usage, provers, &mut body, &mut list);
-    if 65536 < built.next {
+    if IDS < built.next {
         return Answer::Refused(32);
     }
     deliver(built, publics, &body, &list, out)
@@ -74,7 +86,7 @@ fn write(s: &[u8], usage: &[u8; 65536], provers: &[u8; 65536], out: &mut [u8]) -
 
 // The passes on a readable record, lent or made by evaluation.
 pub fn passes(s: &[u8], out: &mut [u8]) -> Answer
-    requires { ⌜ Readable (now s) × (moduleNodes (moduleOf (now s)) ≤ 16384) ⌝ }
+    requires { ⌜ Readable (now s) × (moduleNodes (moduleOf (now s)) ≤ NODES) ⌝ }
     ensures { λ r. ⌜ (r ≡ answerFor (length (now (out .entry))) (cutOf (moduleOf (now (s .entry))))) × (now (out .exit) ≡ outputFor (now (out .entry)) (cutOf (moduleOf (now (s .entry))))) ⌝ }
 {
     let mut usage = pass_classify::no_marks();

@@ -1,4 +1,11 @@
 // The lists that the body takes over as they are, and copies of bytes.
+use pass_classify::Provers;
+use records::NODE_WORDS;
+use records::flat_record::HEADER;
+use records::flat_record::ID_COUNT;
+use records::flat_record::LISTED;
+use records::flat_record::NODES;
+use records::flat_record::PUBLICS;
 ghost use mathlib.Core.Path.{_≡_};
 ghost use Prim.Native.Nat.{_+_, _*_, _≤_, _<_};
 ghost use lib.ListN.{length};
@@ -8,6 +15,13 @@ ghost use Rattle.flat.specs.Record.{rows};
 ghost use Rattle.pass_trees.specs.Passes.{idsFrom};
 ghost use Rattle.pass_classify.specs.Arrays.{marked};
 ghost use Rattle.pass_entry.specs.Body.{noBody, noList};
+ghost use Rattle.records.specs.FlatRecord.{IDS};
+
+// The most that a flat record can give: publics, prover ids, an equality for each node, kept definitions; and the nodes of these.
+pub const BODY_BYTES: usize = 4 * (PUBLICS + ID_COUNT + 7 * NODES + 2 * LISTED);
+
+pub const LIST_BYTES: usize = 4 * NODE_WORDS * NODES;
+
 use words::put_word;
 use words::word_at;
 
@@ -18,14 +32,14 @@ pub fn put_publics(s: &[u8], n: usize, body: &mut [u8])
 {
     let mut k = 0usize;
     while k < n {
-        put_word(body, k, word_at(s, 6 + k));
+        put_word(body, k, word_at(s, HEADER + k));
         k += 1;
     }
 }
 
 // Id v where it is marked.
-fn put_prover(provers: &[u8; 65536], v: usize, body: &mut [u8], at: usize) -> usize
-    requires { ⌜ (v < 65536) × (4 * (at + 1) ≤ length (now body)) ⌝ }
+fn put_prover(provers: &Provers, v: usize, body: &mut [u8], at: usize) -> usize
+    requires { ⌜ (v < IDS) × (4 * (at + 1) ≤ length (now body)) ⌝ }
     ensures { λ r. ⌜ (now (body .exit) ≡ setWords (now (body .entry)) at (idsFrom (marked (now (provers .entry))) v 1)) × (r ≡ at + length (idsFrom (marked (now (provers .entry))) v 1)) ⌝ }
 {
     if provers[v] == 0 {
@@ -36,8 +50,8 @@ fn put_prover(provers: &[u8; 65536], v: usize, body: &mut [u8], at: usize) -> us
 }
 
 // The marked ids below `next`, from word `at` of the body on; answers the word after them.
-pub fn put_provers(provers: &[u8; 65536], next: usize, body: &mut [u8], at: usize) -> usize
-    requires { ⌜ (next ≤ 65536) × (4 * (at + next) ≤ length (now body)) ⌝ }
+pub fn put_provers(provers: &Provers, next: usize, body: &mut [u8], at: usize) -> usize
+    requires { ⌜ (next ≤ IDS) × (4 * (at + next) ≤ length (now body)) ⌝ }
     ensures { λ r. ⌜ (now (body .exit) ≡ setWords (now (body .entry)) at (idsFrom (marked (now (provers .entry))) 0 next)) × (r ≡ at + length (idsFrom (marked (now (provers .entry))) 0 next)) ⌝ }
 {
     let mut to = at;
@@ -61,14 +75,14 @@ pub fn copy_to(from: &[u8], n: usize, out: &mut [u8], to: usize)
     }
 }
 
-pub fn no_body() -> [u8; 753920]
+pub fn no_body() -> [u8; BODY_BYTES]
     ensures { λ r. ⌜ r ≡ noBody ⌝ }
 {
-    [0u8; 753920]
+    [0u8; BODY_BYTES]
 }
 
-pub fn no_list() -> [u8; 262144]
+pub fn no_list() -> [u8; LIST_BYTES]
     ensures { λ r. ⌜ r ≡ noList ⌝ }
 {
-    [0u8; 262144]
+    [0u8; LIST_BYTES]
 }

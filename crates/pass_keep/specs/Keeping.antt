@@ -10,8 +10,9 @@ use Rattle.flat.specs.Record.{moduleOf}
 use Rattle.constraint.specs.Record.{nodesFrom, keptWords, keptNodes}
 use Rattle.pass_trees.specs.Passes.{member, those, isNever, usage, classifyDefs, Substitutions, copyPropagateDefs, afterDefs}
 use Rattle.pass_classify.specs.Arrays.{proversOf, usedOf}
-use Rattle.pass_copies.specs.Substituted.{substOf}
+use Rattle.pass_copies.specs.Substituted.{substOf, SUBSTITUTION-WORDS}
 use Rattle.pass_keep.specs.declared.Kept.{Kept}
+use Rattle.records.specs.FlatRecord.{IDS}
 
 -- definitions of that record, those that are used, with the substitutions made one after the other: "kept definitions are those of prover
 -- variables only, uncut"; and the substitutions after them
@@ -41,12 +42,12 @@ pub record Keeps (b : List ℕ) (steps : ℕ) (ds : List Definition) (at base : 
   pub list-is : list′ ≡ putNodes list base (keptOf b steps (substOf subs) ds)
   pub answer-is : r ≡ keptFrom at base (keptOf b steps (substOf subs) ds)
   pub subs-are : substOf subs′ ≡ keptAfter b steps (substOf subs) ds
-  pub subs-long : length subs′ ≡ 131072
+  pub subs-long : length subs′ ≡ SUBSTITUTION-WORDS
 
 -- room for n nodes from index `base` on, and for so many definitions from word `at` on
 pub record NodeRoom (n base : ℕ) (list : List ℕ) : Type 0 where
   pub long : 16 * (base + n) ≤ length list
-  pub few : base + n ≤ 65536
+  pub few : base + n ≤ IDS
 
 pub record WordRoom (count at : ℕ) (body : List ℕ) : Type 0 where
   pub long : 4 * (at + 2 * count) ≤ length body

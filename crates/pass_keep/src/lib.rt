@@ -4,8 +4,17 @@ use constraint::operator_number;
 use constraint::put_definition;
 use constraint::put_node;
 use flat::Node;
+use pass_classify::NEVER;
+use pass_classify::Provers;
+use pass_classify::Usages;
+use pass_copies::Substitutions;
 use pass_copies::resolve;
 use pass_copies::substitute;
+use records::NODE_WORDS;
+use records::kinds::CONSTANT;
+use records::kinds::INFIX;
+use records::kinds::NEGATE;
+use records::kinds::VARIABLE;
 use words::unsigned;
 use words::word_at;
 ghost use mathlib.Core.Path.{_≡_};
@@ -18,8 +27,9 @@ ghost use Rattle.flat.specs.Readable.{Readable, Inside};
 ghost use Rattle.constraint.specs.Record.{nextFrom};
 ghost use Rattle.pass_trees.specs.Passes.{toExpr, copyPropagateExpr};
 ghost use Rattle.pass_classify.specs.Arrays.{Classified};
-ghost use Rattle.pass_copies.specs.Substituted.{substOf};
+ghost use Rattle.pass_copies.specs.Substituted.{substOf, SUBSTITUTION-WORDS};
 ghost use Rattle.pass_keep.specs.Keeping.{putTree, Keeps, NodeRoom, WordRoom};
+ghost use Rattle.records.specs.FlatRecord.{IDS};
 
 // The node of a term.
 fn put_leaf(list: &mut [u8], index: usize, term: Term)
@@ -28,10 +38,10 @@ fn put_leaf(list: &mut [u8], index: usize, term: Term)
 {
     match term {
         Term::Variable(v) => {
-            put_node(list, 4 * index, 8, v, 0, 0);
+            put_node(list, NODE_WORDS * index, VARIABLE, v, 0, 0);
         }
         Term::Constant(c) => {
-            put_node(list, 4 * index, 7, unsigned(c), 0, 0);
+            put_node(list, NODE_WORDS * index, CONSTANT, unsigned(c), 0, 0);
         }
     }
 }
@@ -41,7 +51,7 @@ fn put_tree(
     s: &[u8],
     nodes: usize,
     k: usize,
-    subs: &[u32; 131072],
+    subs: &Substitutions,
     steps: usize,
     list: &mut [u8],
     base: usize,
@@ -55,12 +65,19 @@ fn put_tree(
             let a = put_tree(s, nodes, x, subs, steps, list, base);
             let b = put_tree(s, nodes, y, subs, steps, list, a);
             let o = operator_number(op);
-            put_node(list, 4 * b, 4, (a - 1) as u32, (b - 1) as u32, o);
+            put_node(
+                list,
+                NODE_WORDS * b,
+                INFIX,
+                (a - 1) as u32,
+                (b - 1) as u32,
+                o,
+            );
             b + 1
         }
         Node::Negate(x) => {
             let a = put_tree(s, nodes, x, subs, steps, list, base);
-            put_node(list, 4 * a, 5, (a - 1) as u32, 0, 0);
+            put_node(list, NODE_WORDS * a, NEGATE, (a - 1) as u32, 0, 0);
             a + 1
         }
         Node::Constant(c) => {
@@ -86,21 +103,21 @@ fn keep_def(
     nodes: usize,
     id: u32,
     k: usize,
-    usage: &[u8; 65536],
-    provers: &[u8; 65536],
-    subs: &mut [u32; 131072],
+    usage: &Usages,
+    provers: &Provers,
+    subs: &mut Substitutions,
     steps: usize,
     body: &mut [u8],
     at: usize,
     list: &mut [u8],
     base: usize,
 ) -> Kept
-    requires { ⌜ Inside (now s) nodes k × Classified (now s) (now usage) (now provers) × (id < 65536) × (length (now subs) ≡ 131072) ⌝ }
+    requires { ⌜ Inside (now s) nodes k × Classified (now s) (now usage) (now provers) × (id < IDS) × (length (now subs) ≡ SUBSTITUTION-WORDS) ⌝ }
     requires { ⌜ WordRoom 1 at (now body) × NodeRoom (treeNodes (tree (now s) nodes (k + 1) k)) base (now list) ⌝ }
     ensures { λ r. ⌜ Keeps (now (s .entry)) steps (record { id = id; right = tree (now (s .entry)) nodes (k + 1) k } ∷ []) at base (now (subs .entry)) (now (body .entry)) (now (list .entry)) (now (subs .exit)) (now (body .exit)) (now (list .exit)) r ⌝ }
 {
     let i = id as usize;
-    if usage[i] == 0 {
+    if usage[i] == NEVER {
         return Kept { at, nodes: base };
     }
     if provers[i] == 0 {
@@ -121,16 +138,16 @@ pub fn keep_defs(
     definitions: usize,
     n: usize,
     nodes: usize,
-    usage: &[u8; 65536],
-    provers: &[u8; 65536],
-    subs: &mut [u32; 131072],
+    usage: &Usages,
+    provers: &Provers,
+    subs: &mut Substitutions,
     steps: usize,
     body: &mut [u8],
     at: usize,
     list: &mut [u8],
 ) -> Kept
     requires { ⌜ Readable (now s) × Classified (now s) (now usage) (now provers) × (definitions ≡ definitionsAt (now s)) × (n ≡ definitionCount (now s)) × (nodes ≡ nodesAt (now s)) ⌝ }
-    requires { ⌜ (length (now subs) ≡ 131072) × WordRoom n at (now body) × NodeRoom (definitionsNodes (moduleOf (now s) .definitions)) 0 (now list) ⌝ }
+    requires { ⌜ (length (now subs) ≡ SUBSTITUTION-WORDS) × WordRoom n at (now body) × NodeRoom (definitionsNodes (moduleOf (now s) .definitions)) 0 (now list) ⌝ }
     ensures { λ r. ⌜ Keeps (now (s .entry)) steps (moduleOf (now (s .entry)) .definitions) at 0 (now (subs .entry)) (now (body .entry)) (now (list .entry)) (now (subs .exit)) (now (body .exit)) (now (list .exit)) r ⌝ }
 {
     let mut to = at;

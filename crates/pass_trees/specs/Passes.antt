@@ -11,6 +11,7 @@ use Rattle.flat.specs.Trees.{Flat, Definition, Equation, FlatModule}
 use Rattle.flat.specs.Meaning.{update}
 use Rattle.constraint.specs.declared.Term.{Term}
 use Rattle.constraint.specs.Trees.{Side, Equality, ConstraintModule}
+use Rattle.records.specs.FlatRecord.{IDS}
 
 -- `prover_defs.contains`
 unfoldable pub member : ℕ → List ℕ → Bool
@@ -376,7 +377,7 @@ unless false n a = refused n
 
 -- "32 an id passes 65,535": ids are drawn in turn, so one does just if the next id passes 65,536
 unfoldable pub fitting : ConstraintModule → Outcome
-fitting c = unless (leb (c .next) 65536) 32 (cut c)
+fitting c = unless (leb (c .next) IDS) 32 (cut c)
 
 -- "22 `^` or inner `=` in an equation or counted definition", before the passes
 unfoldable pub cutOf : FlatModule → Outcome

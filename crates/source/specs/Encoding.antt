@@ -10,6 +10,10 @@ use mir.Syntax.{w32}
 use Rattle.words.specs.Words.{bytesOf}
 use Rattle.field.specs.declared.InfixOp.{InfixOp}
 use Rattle.source.specs.Trees.{Which, Pat, Expr, Items, Arms, Env, Text, Module}
+use Rattle.records.specs.Kinds.{APPLICATION, AS-PATTERN, CONS, CONS-PATTERN, CONSTANT, CONSTANT-PATTERN, FUNCTION, INFIX, LET, LINK, MATCH, NEGATE, NIL, NIL-PATTERN, PRODUCT, PRODUCT-PATTERN, SEQUENCE, UNIT, UNIT-PATTERN, VARIABLE, VARIABLE-PATTERN}
+use Rattle.records.specs.Operators.{ADD, DIVIDE, DIVIDE-Z, EQUAL, EXPONENTIATE, INT-DIVIDE, MODULO, MULTIPLY, SUBTRACT}
+use Rattle.records.specs.SourceRecord.{DEFINITIONS, EXPRESSIONS, NAME-BYTES, NAMES, NO-LINK, NODES, PUBLICS}
+use Rattle.source.specs.Names.{FIRST-BYTE, LAST-BYTE}
 
 -- ---- nodes
 
@@ -21,19 +25,19 @@ unfoldable pub rootOf : ℕ → ℕ → ℕ
 rootOf s n = s + n - 1
 
 unfoldable pub linkTo : ℕ → ℕ → ℕ
-linkTo s zero = 4294967295
+linkTo s zero = NO-LINK
 linkTo s (suc n) = s + n
 
 unfoldable pub operatorNumber : InfixOp → ℕ
-operatorNumber InfixOp.Divide = 0
-operatorNumber InfixOp.DivideZ = 1
-operatorNumber InfixOp.Multiply = 2
-operatorNumber InfixOp.Add = 3
-operatorNumber InfixOp.Subtract = 4
-operatorNumber InfixOp.Equal = 5
-operatorNumber InfixOp.Exponentiate = 6
-operatorNumber InfixOp.IntDivide = 7
-operatorNumber InfixOp.Modulo = 8
+operatorNumber InfixOp.Divide = DIVIDE
+operatorNumber InfixOp.DivideZ = DIVIDE-Z
+operatorNumber InfixOp.Multiply = MULTIPLY
+operatorNumber InfixOp.Add = ADD
+operatorNumber InfixOp.Subtract = SUBTRACT
+operatorNumber InfixOp.Equal = EQUAL
+operatorNumber InfixOp.Exponentiate = EXPONENTIATE
+operatorNumber InfixOp.IntDivide = INT-DIVIDE
+operatorNumber InfixOp.Modulo = MODULO
 
 -- how many nodes a tree has, with its links
 unfoldable pub patCount : Pat → ℕ
@@ -76,17 +80,17 @@ unfoldable mutual
 
 -- the nodes of a tree, or of a chain, from index s on. No node has an environment or an intrinsic
 unfoldable pub patNodes : ℕ → Pat → List ℕ
-patNodes s Pat.unitP = node 16 0 0 0
-patNodes s Pat.nilP = node 17 0 0 0
-patNodes s (Pat.asP p v) = patNodes s p ++ node 18 (rootOf s (patCount p)) v 0
-patNodes s (Pat.productP p q) = patNodes s p ++ (patNodes (s + patCount p) q ++ node 19 (rootOf s (patCount p)) (rootOf (s + patCount p) (patCount q)) 0)
-patNodes s (Pat.consP p q) = patNodes s p ++ (patNodes (s + patCount p) q ++ node 20 (rootOf s (patCount p)) (rootOf (s + patCount p) (patCount q)) 0)
-patNodes s (Pat.variableP v) = node 21 v 0 0
-patNodes s (Pat.constantP z) = node 22 (ofZ w32 z) 0 0
+patNodes s Pat.unitP = node UNIT-PATTERN 0 0 0
+patNodes s Pat.nilP = node NIL-PATTERN 0 0 0
+patNodes s (Pat.asP p v) = patNodes s p ++ node AS-PATTERN (rootOf s (patCount p)) v 0
+patNodes s (Pat.productP p q) = patNodes s p ++ (patNodes (s + patCount p) q ++ node PRODUCT-PATTERN (rootOf s (patCount p)) (rootOf (s + patCount p) (patCount q)) 0)
+patNodes s (Pat.consP p q) = patNodes s p ++ (patNodes (s + patCount p) q ++ node CONS-PATTERN (rootOf s (patCount p)) (rootOf (s + patCount p) (patCount q)) 0)
+patNodes s (Pat.variableP v) = node VARIABLE-PATTERN v 0 0
+patNodes s (Pat.constantP z) = node CONSTANT-PATTERN (ofZ w32 z) 0 0
 
 unfoldable pub patsNodes : ℕ → List Pat → List ℕ
 patsNodes s [] = []
-patsNodes s (p ∷ ps) = patsNodes s ps ++ (patNodes (s + patsCount ps) p ++ node 14 (rootOf (s + patsCount ps) (patCount p)) (linkTo s (patsCount ps)) 0)
+patsNodes s (p ∷ ps) = patsNodes s ps ++ (patNodes (s + patsCount ps) p ++ node LINK (rootOf (s + patsCount ps) (patCount p)) (linkTo s (patsCount ps)) 0)
 
 -- two expressions and a node over them
 abbrev pub pairOf : ℕ → ℕ → ℕ → ℕ → ℕ → List ℕ
@@ -94,28 +98,28 @@ pairOf kind s m n c = node kind (rootOf s m) (rootOf (s + m) n) c
 
 unfoldable mutual
   pub exprNodes : ℕ → Expr → List ℕ
-  exprNodes s Expr.unit = node 0 0 0 0
-  exprNodes s Expr.nil = node 1 0 0 0
-  exprNodes s (Expr.sequence is) = itemsNodes s is ++ node 13 (rootOf s (itemsCount is)) 0 0
-  exprNodes s (Expr.product x y) = exprNodes s x ++ (exprNodes (s + exprCount x) y ++ pairOf 2 s (exprCount x) (exprCount y) 0)
-  exprNodes s (Expr.cons x y) = exprNodes s x ++ (exprNodes (s + exprCount x) y ++ pairOf 3 s (exprCount x) (exprCount y) 0)
-  exprNodes s (Expr.binary o x y) = exprNodes s x ++ (exprNodes (s + exprCount x) y ++ pairOf 4 s (exprCount x) (exprCount y) (operatorNumber o))
-  exprNodes s (Expr.negate x) = exprNodes s x ++ node 5 (rootOf s (exprCount x)) 0 0
-  exprNodes s (Expr.application x y) = exprNodes s x ++ (exprNodes (s + exprCount x) y ++ pairOf 6 s (exprCount x) (exprCount y) 0)
-  exprNodes s (Expr.constant z) = node 7 (ofZ w32 z) 0 0
-  exprNodes s (Expr.variable v) = node 8 v 0 0
-  exprNodes s (Expr.function ps x env) = patsNodes s ps ++ (exprNodes (s + patsCount ps) x ++ pairOf 9 s (patsCount ps) (exprCount x) 0)
+  exprNodes s Expr.unit = node UNIT 0 0 0
+  exprNodes s Expr.nil = node NIL 0 0 0
+  exprNodes s (Expr.sequence is) = itemsNodes s is ++ node SEQUENCE (rootOf s (itemsCount is)) 0 0
+  exprNodes s (Expr.product x y) = exprNodes s x ++ (exprNodes (s + exprCount x) y ++ pairOf PRODUCT s (exprCount x) (exprCount y) 0)
+  exprNodes s (Expr.cons x y) = exprNodes s x ++ (exprNodes (s + exprCount x) y ++ pairOf CONS s (exprCount x) (exprCount y) 0)
+  exprNodes s (Expr.binary o x y) = exprNodes s x ++ (exprNodes (s + exprCount x) y ++ pairOf INFIX s (exprCount x) (exprCount y) (operatorNumber o))
+  exprNodes s (Expr.negate x) = exprNodes s x ++ node NEGATE (rootOf s (exprCount x)) 0 0
+  exprNodes s (Expr.application x y) = exprNodes s x ++ (exprNodes (s + exprCount x) y ++ pairOf APPLICATION s (exprCount x) (exprCount y) 0)
+  exprNodes s (Expr.constant z) = node CONSTANT (ofZ w32 z) 0 0
+  exprNodes s (Expr.variable v) = node VARIABLE v 0 0
+  exprNodes s (Expr.function ps x env) = patsNodes s ps ++ (exprNodes (s + patsCount ps) x ++ pairOf FUNCTION s (patsCount ps) (exprCount x) 0)
   exprNodes s (Expr.intrinsic w n ps env) = []
   exprNodes s (Expr.letting p x y) =
       patNodes s p
       ++ (exprNodes (s + patCount p) x
       ++ (exprNodes (s + patCount p + exprCount x) y
-      ++ node 11 (rootOf s (patCount p)) (rootOf (s + patCount p) (exprCount x)) (rootOf (s + patCount p + exprCount x) (exprCount y))))
-  exprNodes s (Expr.matching x rs) = exprNodes s x ++ (armsNodes (s + exprCount x) rs ++ pairOf 12 s (exprCount x) (armsCount rs) 0)
+      ++ node LET (rootOf s (patCount p)) (rootOf (s + patCount p) (exprCount x)) (rootOf (s + patCount p + exprCount x) (exprCount y))))
+  exprNodes s (Expr.matching x rs) = exprNodes s x ++ (armsNodes (s + exprCount x) rs ++ pairOf MATCH s (exprCount x) (armsCount rs) 0)
 
   pub itemsNodes : ℕ → Items → List ℕ
-  itemsNodes s (Items.last x) = exprNodes s x ++ node 14 (rootOf s (exprCount x)) 4294967295 0
-  itemsNodes s (Items._then_ x is) = itemsNodes s is ++ (exprNodes (s + itemsCount is) x ++ node 14 (rootOf (s + itemsCount is) (exprCount x)) (linkTo s (itemsCount is)) 0)
+  itemsNodes s (Items.last x) = exprNodes s x ++ node LINK (rootOf s (exprCount x)) NO-LINK 0
+  itemsNodes s (Items._then_ x is) = itemsNodes s is ++ (exprNodes (s + itemsCount is) x ++ node LINK (rootOf (s + itemsCount is) (exprCount x)) (linkTo s (itemsCount is)) 0)
 
   pub armsNodes : ℕ → Arms → List ℕ
   armsNodes s Arms.noArm = []
@@ -123,7 +127,7 @@ unfoldable mutual
       armsNodes s rs
       ++ (patNodes (s + armsCount rs) p
       ++ (exprNodes (s + armsCount rs + patCount p) x
-      ++ node 14 (rootOf (s + armsCount rs) (patCount p)) (linkTo s (armsCount rs)) (rootOf (s + armsCount rs + patCount p) (exprCount x))))
+      ++ node LINK (rootOf (s + armsCount rs) (patCount p)) (linkTo s (armsCount rs)) (rootOf (s + armsCount rs + patCount p) (exprCount x))))
 
 -- ---- lists
 
@@ -219,18 +223,18 @@ abbrev mutual
   ArmsFit n (Arms.arm p x rs) = PatFits n p × (ExprFits n x × ArmsFit n rs)
 
 abbrev pub TextFits : Text → Type 0
-TextFits t = ((1 ≤ length t) × (length t ≤ 64)) × All (λ c. (33 ≤ c) × (c ≤ 126)) t
+TextFits t = ((1 ≤ length t) × (length t ≤ NAME-BYTES)) × All (λ c. (FIRST-BYTE ≤ c) × (c ≤ LAST-BYTE)) t
 
 abbrev pub Different : List Text → Type 0
 Different [] = Unit {0}
 Different (t ∷ ts) = All (λ u. t ≡ u → ⊥) ts × Different ts
 
 pub record Writable (m : Module) : Type 0 where
-  pub names-few : length (m .names) ≤ 512
-  pub publics-few : length (m .publics) ≤ 64
-  pub definitions-few : length (m .definitions) ≤ 512
-  pub expressions-few : length (m .expressions) ≤ 512
-  pub nodes-few : definitionsCount (m .definitions) + expressionsCount (m .expressions) ≤ 2048
+  pub names-few : length (m .names) ≤ NAMES
+  pub publics-few : length (m .publics) ≤ PUBLICS
+  pub definitions-few : length (m .definitions) ≤ DEFINITIONS
+  pub expressions-few : length (m .expressions) ≤ EXPRESSIONS
+  pub nodes-few : definitionsCount (m .definitions) + expressionsCount (m .expressions) ≤ NODES
   pub names-fit : All TextFits (m .names)
   pub names-differ : Different (m .names)
   pub publics-fit : All (λ v. v < length (m .names)) (m .publics)

@@ -6,6 +6,8 @@ use lib.ListN.{length}
 use lib.Dec.{leb, ltb, eqb}
 use Rattle.words.specs.Words.{wordAt}
 use Rattle.source.specs.declared.Layout.{Layout}
+use Rattle.records.specs.Kinds.{NODE-WORDS}
+use Rattle.records.specs.SourceRecord.{DEFINITIONS, EXPRESSIONS, HEADER, NAMES, NODES, PUBLICS}
 
 module _ (b : List ℕ) where
   -- "Header: counts of names (to 512), publics (to 64), definitions (to 512), expressions (to 512), nodes (to 2,048)"
@@ -26,7 +28,7 @@ module _ (b : List ℕ) where
 
   -- "Then one pair of offset and length per name; public name indices; definition pairs; expression nodes; nodes of four words": the word at which each starts; the names' pairs start at word 5
   abbrev pub publicsAt : ℕ
-  publicsAt = 5 + 2 * names
+  publicsAt = HEADER + 2 * names
 
   abbrev pub definitionsAt : ℕ
   definitionsAt = publicsAt + publics
@@ -39,7 +41,7 @@ module _ (b : List ℕ) where
 
   -- "last the name text": the byte at which it starts
   abbrev pub textAt : ℕ
-  textAt = 4 * (nodesAt + 4 * nodes)
+  textAt = 4 * (nodesAt + NODE-WORDS * nodes)
 
 -- the counts and places, as the code has them
 unfoldable pub layoutOf : List ℕ → Layout
@@ -58,7 +60,7 @@ layoutOf b = record {
 
 -- not 2: no "count over its limit"
 unfoldable pub counted : List ℕ → Bool
-counted b = leb (names b) 512 && (leb (publics b) 64 && (leb (definitions b) 512 && (leb (expressions b) 512 && leb (nodes b) 2048)))
+counted b = leb (names b) NAMES && (leb (publics b) PUBLICS && (leb (definitions b) DEFINITIONS && (leb (expressions b) EXPRESSIONS && leb (nodes b) NODES)))
 
 -- not 1 after a whole header: no "file shorter than its lists", no "text without names"
 unfoldable pub listed : List ℕ → Bool

@@ -7,13 +7,21 @@ use lib.Dec.{leb, eqb}
 use Rattle.words.specs.Words.{wordAt}
 use Rattle.source.specs.Trees.{Text}
 use Rattle.source.specs.Indices.{every}
+use Rattle.records.specs.SourceRecord.{HEADER, NAME-BYTES}
+
+-- "bytes 33 to 126"
+abbrev pub FIRST-BYTE : ℕ
+FIRST-BYTE = 33
+
+abbrev pub LAST-BYTE : ℕ
+LAST-BYTE = 126
 
 -- "one pair of offset and length per name"
 unfoldable pub offsetOf : List ℕ → ℕ → ℕ
-offsetOf b k = wordAt b (5 + 2 * k)
+offsetOf b k = wordAt b (HEADER + 2 * k)
 
 unfoldable pub lengthOf : List ℕ → ℕ → ℕ
-lengthOf b k = wordAt b (5 + 2 * k + 1)
+lengthOf b k = wordAt b (HEADER + 2 * k + 1)
 
 -- where the first k names end
 unfoldable pub endOf : List ℕ → ℕ → ℕ
@@ -22,14 +30,14 @@ endOf b (suc k) = offsetOf b k + lengthOf b k
 
 -- "bytes 33 to 126": n bytes from one on. A byte past the end of the file counts as 0
 unfoldable pub printed : List ℕ → ℕ → ℕ → Bool
-printed b from n = every n (λ i. leb 33 (getD b (from + i) 0) && leb (getD b (from + i) 0) 126)
+printed b from n = every n (λ i. leb FIRST-BYTE (getD b (from + i) 0) && leb (getD b (from + i) 0) LAST-BYTE)
 
 -- "The first name starts at 0, each next where the last ended"; "lengths 1 to 64, bytes 33 to 126"
 unfoldable pub nameFits : List ℕ → ℕ → ℕ → Bool
 nameFits b text k =
     eqb (offsetOf b k) (endOf b k)
     && (leb 1 (lengthOf b k)
-    && (leb (lengthOf b k) 64
+    && (leb (lengthOf b k) NAME-BYTES
     && printed b (text + offsetOf b k) (lengthOf b k)))
 
 -- not 3: n names fit, and "the last ends with the file"

@@ -15,20 +15,23 @@ use Rattle.source.specs.declared.Chain.{Chain}
 use Rattle.source.specs.declared.Child.{Child}
 use Rattle.source.specs.declared.Children.{Children}
 use Rattle.source.specs.Indices.{every, pick}
+use Rattle.records.specs.Kinds.{APPLICATION, AS-PATTERN, CONS, CONS-PATTERN, CONSTANT, CONSTANT-PATTERN, FUNCTION, INFIX, LET, LINK, MATCH, NEGATE, NIL, NIL-PATTERN, NODE-WORDS, PRODUCT, PRODUCT-PATTERN, SEQUENCE, UNIT, UNIT-PATTERN, VARIABLE, VARIABLE-PATTERN}
+use Rattle.records.specs.Operators.{ADD, DIVIDE, DIVIDE-Z, EQUAL, EXPONENTIATE, INT-DIVIDE, MULTIPLY, SUBTRACT}
+use Rattle.records.specs.SourceRecord.{NO-LINK}
 
 -- ---- what a node says
 
 -- "Operators 0 to 8 in the order of `InfixOp`"
 unfoldable pub operatorOf : ℕ → InfixOp
 operatorOf c =
-    pick (eqb c 0) InfixOp.Divide
-    (pick (eqb c 1) InfixOp.DivideZ
-    (pick (eqb c 2) InfixOp.Multiply
-    (pick (eqb c 3) InfixOp.Add
-    (pick (eqb c 4) InfixOp.Subtract
-    (pick (eqb c 5) InfixOp.Equal
-    (pick (eqb c 6) InfixOp.Exponentiate
-    (pick (eqb c 7) InfixOp.IntDivide InfixOp.Modulo)))))))
+    pick (eqb c DIVIDE) InfixOp.Divide
+    (pick (eqb c DIVIDE-Z) InfixOp.DivideZ
+    (pick (eqb c MULTIPLY) InfixOp.Multiply
+    (pick (eqb c ADD) InfixOp.Add
+    (pick (eqb c SUBTRACT) InfixOp.Subtract
+    (pick (eqb c EQUAL) InfixOp.Equal
+    (pick (eqb c EXPONENTIATE) InfixOp.Exponentiate
+    (pick (eqb c INT-DIVIDE) InfixOp.IntDivide InfixOp.Modulo)))))))
 
 -- "Unused words are 0"
 abbrev pub unused : ℕ → Entry → Entry
@@ -40,32 +43,32 @@ infixFor c x y = pick (leb c 8) (Entry.Expression (Form.Infix (operatorOf c) x y
 -- a node's kind and its words a, b, c: "bad kind, operator .. or unused word" is no node
 unfoldable pub entryFor : ℕ → ℕ → ℕ → ℕ → Entry
 entryFor kind x y z =
-    pick (eqb kind 0) (unused x (unused y (unused z (Entry.Expression Form.Unit))))
-    (pick (eqb kind 1) (unused x (unused y (unused z (Entry.Expression Form.Nil))))
-    (pick (eqb kind 2) (unused z (Entry.Expression (Form.Product x y)))
-    (pick (eqb kind 3) (unused z (Entry.Expression (Form.Cons x y)))
-    (pick (eqb kind 4) (infixFor z x y)
-    (pick (eqb kind 5) (unused y (unused z (Entry.Expression (Form.Negate x))))
-    (pick (eqb kind 6) (unused z (Entry.Expression (Form.Application x y)))
-    (pick (eqb kind 7) (unused y (unused z (Entry.Expression (Form.Constant (toZ w32 x)))))
-    (pick (eqb kind 8) (unused y (unused z (Entry.Expression (Form.Variable x))))
-    (pick (eqb kind 9) (unused z (Entry.Expression (Form.Function x y)))
-    (pick (eqb kind 11) (Entry.Expression (Form.Let x y z))
-    (pick (eqb kind 12) (unused z (Entry.Expression (Form.Match x y)))
-    (pick (eqb kind 13) (unused y (unused z (Entry.Expression (Form.Sequence x))))
-    (pick (eqb kind 14) (Entry.Link x y z)
-    (pick (eqb kind 16) (unused x (unused y (unused z (Entry.Pattern Shape.Unit))))
-    (pick (eqb kind 17) (unused x (unused y (unused z (Entry.Pattern Shape.Nil))))
-    (pick (eqb kind 18) (unused z (Entry.Pattern (Shape.As x y)))
-    (pick (eqb kind 19) (unused z (Entry.Pattern (Shape.Product x y)))
-    (pick (eqb kind 20) (unused z (Entry.Pattern (Shape.Cons x y)))
-    (pick (eqb kind 21) (unused y (unused z (Entry.Pattern (Shape.Variable x))))
-    (pick (eqb kind 22) (unused y (unused z (Entry.Pattern (Shape.Constant (toZ w32 x)))))
+    pick (eqb kind UNIT) (unused x (unused y (unused z (Entry.Expression Form.Unit))))
+    (pick (eqb kind NIL) (unused x (unused y (unused z (Entry.Expression Form.Nil))))
+    (pick (eqb kind PRODUCT) (unused z (Entry.Expression (Form.Product x y)))
+    (pick (eqb kind CONS) (unused z (Entry.Expression (Form.Cons x y)))
+    (pick (eqb kind INFIX) (infixFor z x y)
+    (pick (eqb kind NEGATE) (unused y (unused z (Entry.Expression (Form.Negate x))))
+    (pick (eqb kind APPLICATION) (unused z (Entry.Expression (Form.Application x y)))
+    (pick (eqb kind CONSTANT) (unused y (unused z (Entry.Expression (Form.Constant (toZ w32 x)))))
+    (pick (eqb kind VARIABLE) (unused y (unused z (Entry.Expression (Form.Variable x))))
+    (pick (eqb kind FUNCTION) (unused z (Entry.Expression (Form.Function x y)))
+    (pick (eqb kind LET) (Entry.Expression (Form.Let x y z))
+    (pick (eqb kind MATCH) (unused z (Entry.Expression (Form.Match x y)))
+    (pick (eqb kind SEQUENCE) (unused y (unused z (Entry.Expression (Form.Sequence x))))
+    (pick (eqb kind LINK) (Entry.Link x y z)
+    (pick (eqb kind UNIT-PATTERN) (unused x (unused y (unused z (Entry.Pattern Shape.Unit))))
+    (pick (eqb kind NIL-PATTERN) (unused x (unused y (unused z (Entry.Pattern Shape.Nil))))
+    (pick (eqb kind AS-PATTERN) (unused z (Entry.Pattern (Shape.As x y)))
+    (pick (eqb kind PRODUCT-PATTERN) (unused z (Entry.Pattern (Shape.Product x y)))
+    (pick (eqb kind CONS-PATTERN) (unused z (Entry.Pattern (Shape.Cons x y)))
+    (pick (eqb kind VARIABLE-PATTERN) (unused y (unused z (Entry.Pattern (Shape.Variable x))))
+    (pick (eqb kind CONSTANT-PATTERN) (unused y (unused z (Entry.Pattern (Shape.Constant (toZ w32 x)))))
     Entry.Bad))))))))))))))))))))
 
 -- node k
 unfoldable pub entryOf : List ℕ → ℕ → ℕ → Entry
-entryOf b at k = entryFor (wordAt b (at + 4 * k)) (wordAt b (at + 4 * k + 1)) (wordAt b (at + 4 * k + 2)) (wordAt b (at + 4 * k + 3))
+entryOf b at k = entryFor (wordAt b (at + NODE-WORDS * k)) (wordAt b (at + NODE-WORDS * k + 1)) (wordAt b (at + NODE-WORDS * k + 2)) (wordAt b (at + NODE-WORDS * k + 3))
 
 -- ---- what a node asks of its words
 
@@ -141,7 +144,7 @@ module _ (b : List ℕ) (at : ℕ) where
   unfoldable pub linkFits : Chain → (ℕ → Bool) → ℕ → Entry → Bool
   linkFits h rest k (Entry.Expression f) = false
   linkFits h rest k (Entry.Pattern p) = false
-  linkFits h rest k (Entry.Link item next result) = itemFits h k item && (resultFits h k result && (eqb next 4294967295 || rest next))
+  linkFits h rest k (Entry.Link item next result) = itemFits h k item && (resultFits h k result && (eqb next NO-LINK || rest next))
   linkFits h rest k Entry.Bad = false
 
   -- x is a link that stands before n, and so is each next link, before the one that names it: by the falling index of the link

@@ -8,13 +8,14 @@ use Rattle.source.specs.Layout.{names, publics, definitions, expressions
 use Rattle.source.specs.Names.{namesFit, namesDiffer}
 use Rattle.source.specs.Nodes.{nodesFit, publicsFit, definitionsFit, expressionsFit}
 use Rattle.source.specs.Record.{usedOnce}
+use Rattle.records.specs.SourceRecord.{DEFINITIONS, EXPRESSIONS, NAMES, NODES, PUBLICS}
 
 pub record Readable (b : List ℕ) : Type 0 where
-  pub names-few : names b ≤ 512
-  pub publics-few : publics b ≤ 64
-  pub definitions-few : definitions b ≤ 512
-  pub expressions-few : expressions b ≤ 512
-  pub nodes-few : nodes b ≤ 2048
+  pub names-few : names b ≤ NAMES
+  pub publics-few : publics b ≤ PUBLICS
+  pub definitions-few : definitions b ≤ DEFINITIONS
+  pub expressions-few : expressions b ≤ EXPRESSIONS
+  pub nodes-few : nodes b ≤ NODES
   pub long : textAt b ≤ length b
   pub names-fit : namesFit b (textAt b) (names b) ≡ true
   pub names-differ : namesDiffer b (textAt b) (names b) ≡ true

@@ -14,6 +14,7 @@ use Rattle.source.specs.Layout.{names, publics, definitions, expressions
 use Rattle.source.specs.Names.{namesFit, namesDiffer, nameOf}
 use Rattle.source.specs.Nodes.{entryOf, nodesFit, publicsFit, definitionsFit, expressionsFit}
 use Rattle.source.specs.Uses.{byNodes, byDefinitions, byExpressions}
+use Rattle.records.specs.SourceRecord.{NO-LINK}
 
 -- ---- trees
 
@@ -62,7 +63,7 @@ module _ (below : ℕ → Tree) where
       let i = below item in
       let e = below result in
       let rest = below next in
-      let ends = eqb next 4294967295 in
+      let ends = eqb next NO-LINK in
       record {
         expression = Expr.unit;
         pattern = Pat.unitP;

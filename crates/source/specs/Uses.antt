@@ -10,6 +10,7 @@ use Rattle.source.specs.declared.Child.{Child}
 use Rattle.source.specs.declared.Children.{Children}
 use Rattle.source.specs.Indices.{every, total, pick}
 use Rattle.source.specs.Nodes.{entryOf, childrenOf}
+use Rattle.records.specs.SourceRecord.{NO-LINK}
 
 -- how often the index x uses node k
 unfoldable pub same : ℕ → ℕ → ℕ
@@ -25,7 +26,7 @@ resultUses Chain.Items x k = 0
 unfoldable pub linkUses : Chain → (ℕ → ℕ) → Entry → ℕ → ℕ
 linkUses h rest (Entry.Expression f) k = 0
 linkUses h rest (Entry.Pattern p) k = 0
-linkUses h rest (Entry.Link item next result) k = same item k + (resultUses h result k + pick (eqb next 4294967295) 0 (rest next))
+linkUses h rest (Entry.Link item next result) k = same item k + (resultUses h result k + pick (eqb next NO-LINK) 0 (rest next))
 linkUses h rest Entry.Bad k = 0
 
 module _ (b : List ℕ) (at : ℕ) where

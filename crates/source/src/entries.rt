@@ -3,6 +3,36 @@ use super::Entry;
 use super::Form;
 use super::Shape;
 use field::InfixOp;
+use records::kinds::APPLICATION;
+use records::kinds::AS_PATTERN;
+use records::kinds::CONS;
+use records::kinds::CONS_PATTERN;
+use records::kinds::CONSTANT;
+use records::kinds::CONSTANT_PATTERN;
+use records::kinds::FUNCTION;
+use records::kinds::INFIX;
+use records::kinds::LET;
+use records::kinds::LINK;
+use records::kinds::MATCH;
+use records::kinds::NEGATE;
+use records::kinds::NIL;
+use records::kinds::NIL_PATTERN;
+use records::kinds::PRODUCT;
+use records::kinds::PRODUCT_PATTERN;
+use records::kinds::SEQUENCE;
+use records::kinds::UNIT;
+use records::kinds::UNIT_PATTERN;
+use records::kinds::VARIABLE;
+use records::kinds::VARIABLE_PATTERN;
+use records::operators::ADD;
+use records::operators::DIVIDE;
+use records::operators::DIVIDE_Z;
+use records::operators::EQUAL;
+use records::operators::EXPONENTIATE;
+use records::operators::INT_DIVIDE;
+use records::operators::MODULO;
+use records::operators::MULTIPLY;
+use records::operators::SUBTRACT;
 ghost use mathlib.Core.Path.{_≡_};
 ghost use mir.Val.{toZ};
 ghost use mir.Syntax.{w32};
@@ -13,14 +43,14 @@ fn operator(c: u32) -> InfixOp
     ensures { λ r. ⌜ r ≡ operatorOf c ⌝ }
 {
     match c {
-        0 => InfixOp::Divide,
-        1 => InfixOp::DivideZ,
-        2 => InfixOp::Multiply,
-        3 => InfixOp::Add,
-        4 => InfixOp::Subtract,
-        5 => InfixOp::Equal,
-        6 => InfixOp::Exponentiate,
-        7 => InfixOp::IntDivide,
+        DIVIDE => InfixOp::Divide,
+        DIVIDE_Z => InfixOp::DivideZ,
+        MULTIPLY => InfixOp::Multiply,
+        ADD => InfixOp::Add,
+        SUBTRACT => InfixOp::Subtract,
+        EQUAL => InfixOp::Equal,
+        EXPONENTIATE => InfixOp::Exponentiate,
+        INT_DIVIDE => InfixOp::IntDivide,
         _ => InfixOp::Modulo,
     }
 }
@@ -43,7 +73,7 @@ fn blank(w: u32, e: Entry) -> Entry
 fn operation(c: u32, x: usize, y: usize) -> Entry
     ensures { λ r. ⌜ r ≡ infixFor c x y ⌝ }
 {
-    if c <= 8 {
+    if c <= MODULO {
         Entry::Expression(Form::Infix(operator(c), x, y))
     } else {
         Entry::Bad
@@ -57,27 +87,27 @@ pub fn entry(kind: u32, a: u32, b: u32, c: u32) -> Entry
     let x = a as usize;
     let y = b as usize;
     match kind {
-        0 => blank(a, blank(b, blank(c, Entry::Expression(Form::Unit)))),
-        1 => blank(a, blank(b, blank(c, Entry::Expression(Form::Nil)))),
-        2 => blank(c, Entry::Expression(Form::Product(x, y))),
-        3 => blank(c, Entry::Expression(Form::Cons(x, y))),
-        4 => operation(c, x, y),
-        5 => blank(b, blank(c, Entry::Expression(Form::Negate(x)))),
-        6 => blank(c, Entry::Expression(Form::Application(x, y))),
-        7 => blank(b, blank(c, Entry::Expression(Form::Constant(number(a))))),
-        8 => blank(b, blank(c, Entry::Expression(Form::Variable(x)))),
-        9 => blank(c, Entry::Expression(Form::Function(x, y))),
-        11 => Entry::Expression(Form::Let(x, y, c as usize)),
-        12 => blank(c, Entry::Expression(Form::Match(x, y))),
-        13 => blank(b, blank(c, Entry::Expression(Form::Sequence(x)))),
-        14 => Entry::Link(x, y, c as usize),
-        16 => blank(a, blank(b, blank(c, Entry::Pattern(Shape::Unit)))),
-        17 => blank(a, blank(b, blank(c, Entry::Pattern(Shape::Nil)))),
-        18 => blank(c, Entry::Pattern(Shape::As(x, y))),
-        19 => blank(c, Entry::Pattern(Shape::Product(x, y))),
-        20 => blank(c, Entry::Pattern(Shape::Cons(x, y))),
-        21 => blank(b, blank(c, Entry::Pattern(Shape::Variable(x)))),
-        22 => blank(b, blank(c, Entry::Pattern(Shape::Constant(number(a))))),
+        UNIT => blank(a, blank(b, blank(c, Entry::Expression(Form::Unit)))),
+        NIL => blank(a, blank(b, blank(c, Entry::Expression(Form::Nil)))),
+        PRODUCT => blank(c, Entry::Expression(Form::Product(x, y))),
+        CONS => blank(c, Entry::Expression(Form::Cons(x, y))),
+        INFIX => operation(c, x, y),
+        NEGATE => blank(b, blank(c, Entry::Expression(Form::Negate(x)))),
+        APPLICATION => blank(c, Entry::Expression(Form::Application(x, y))),
+        CONSTANT => blank(b, blank(c, Entry::Expression(Form::Constant(number(a))))),
+        VARIABLE => blank(b, blank(c, Entry::Expression(Form::Variable(x)))),
+        FUNCTION => blank(c, Entry::Expression(Form::Function(x, y))),
+        LET => Entry::Expression(Form::Let(x, y, c as usize)),
+        MATCH => blank(c, Entry::Expression(Form::Match(x, y))),
+        SEQUENCE => blank(b, blank(c, Entry::Expression(Form::Sequence(x)))),
+        LINK => Entry::Link(x, y, c as usize),
+        UNIT_PATTERN => blank(a, blank(b, blank(c, Entry::Pattern(Shape::Unit)))),
+        NIL_PATTERN => blank(a, blank(b, blank(c, Entry::Pattern(Shape::Nil)))),
+        AS_PATTERN => blank(c, Entry::Pattern(Shape::As(x, y))),
+        PRODUCT_PATTERN => blank(c, Entry::Pattern(Shape::Product(x, y))),
+        CONS_PATTERN => blank(c, Entry::Pattern(Shape::Cons(x, y))),
+        VARIABLE_PATTERN => blank(b, blank(c, Entry::Pattern(Shape::Variable(x)))),
+        CONSTANT_PATTERN => blank(b, blank(c, Entry::Pattern(Shape::Constant(number(a))))),
         _ => Entry::Bad,
     }
 }

@@ -3,6 +3,8 @@ mod entries;
 
 use entries::entry;
 use field::InfixOp;
+use records::NODE_WORDS;
+use records::source_record::HEADER;
 ghost use mathlib.Core.Path.{_≡_};
 ghost use Prim.Native.Nat.{_+_, _*_, _≤_, _<_};
 ghost use lib.ListN.{length};
@@ -101,7 +103,7 @@ pub fn layout_of(s: &[u8]) -> Layout
     let definitions = count(s, 2);
     let expressions = count(s, 3);
     let nodes = count(s, 4);
-    let publics_at = 5 + 2 * names;
+    let publics_at = HEADER + 2 * names;
     let definitions_at = publics_at + publics;
     let expressions_at = definitions_at + 2 * definitions;
     let nodes_at = expressions_at + expressions;
@@ -115,7 +117,7 @@ pub fn layout_of(s: &[u8]) -> Layout
         definitions_at,
         expressions_at,
         nodes_at,
-        text_at: 4 * (nodes_at + 4 * nodes),
+        text_at: 4 * (nodes_at + NODE_WORDS * nodes),
     }
 }
 
@@ -124,7 +126,7 @@ pub fn node_at(s: &[u8], at: usize, k: usize) -> Entry
     requires { ⌜ 4 * (at + 4 * k + 4) ≤ length (now s) ⌝ }
     ensures { λ r. ⌜ r ≡ entryOf (now (s .entry)) at k ⌝ }
 {
-    let base = at + 4 * k;
+    let base = at + NODE_WORDS * k;
     let kind = words::word_at(s, base);
     let a = words::word_at(s, base + 1);
     let b = words::word_at(s, base + 2);

@@ -5,10 +5,17 @@ use mathlib.Core.List.{List}
 use lib.ListN.{getD}
 use Rattle.source.specs.Names.{offsetOf, lengthOf}
 
+-- a polynomial in the bytes; before each step it is cut so that the next one fits a word
+abbrev pub ROOM : ℕ
+ROOM = 16777216
+
+abbrev pub FACTOR : ℕ
+FACTOR = 31
+
 -- of n bytes from one on
 unfoldable pub fingerprintOf : List ℕ → ℕ → ℕ → ℕ
 fingerprintOf b from zero = 0
-fingerprintOf b from (suc n) = (fingerprintOf b from n % 16777216) * 31 + getD b (from + n) 0
+fingerprintOf b from (suc n) = (fingerprintOf b from n % ROOM) * FACTOR + getD b (from + n) 0
 
 -- an array holds those of n names
 abbrev pub Fingerprinted : List ℕ → ℕ → ℕ → List ℕ → Type 0

@@ -5,6 +5,7 @@ use mathlib.Core.List.{List}
 use mathlib.Core.Bool.{Bool, true, false}
 use lib.ListN.{length, getD, replicate}
 use Rattle.source_check.specs.declared.Checked.{Checked}
+use Rattle.records.specs.SourceRecord.{NODES}
 
 -- accepted where a test holds, else refused with a number
 unfoldable pub verdict : ℕ → Bool → Checked
@@ -37,4 +38,4 @@ pub record Adds (m m′ : List ℕ) (g : ℕ → ℕ) : Type 0 where
 
 -- no marks
 unfoldable pub noMarks : List ℕ
-noMarks = replicate 2048 0
+noMarks = replicate NODES 0

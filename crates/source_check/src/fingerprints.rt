@@ -1,4 +1,6 @@
 // A number for each name, so that most pairs are known to differ without a look at their bytes.
+use records::source_record::HEADER;
+use records::source_record::NAMES;
 use source::count;
 ghost use mathlib.Core.Path.{_≡_};
 ghost use Prim.Native.Nat.{_+_, _*_, _≤_, _<_};
@@ -6,6 +8,12 @@ ghost use mathlib.Core.Bool.{true};
 ghost use lib.ListN.{length, getD};
 ghost use Rattle.source.specs.Names.{namesFit};
 ghost use Rattle.source_check.specs.Fingerprints.{fingerprintOf, Fingerprinted};
+ghost use Rattle.records.specs.SourceRecord.{HEADER, NAMES};
+
+// A fingerprint is a polynomial in its bytes; before each step it is cut so that the next one fits a word.
+const ROOM: u32 = 16777216;
+
+const FACTOR: u32 = 31;
 
 fn byte(s: &[u8], at: usize) -> u32
     requires { ⌜ at + 1 ≤ length (now s) ⌝ }
@@ -22,23 +30,23 @@ fn fingerprint(s: &[u8], from: usize, n: usize) -> u32
     let mut h = 0u32;
     let mut i = 0usize;
     while i < n {
-        let low = h % 16777216;
-        h = low * 31 + byte(s, from + i);
+        let low = h % ROOM;
+        h = low * FACTOR + byte(s, from + i);
         i += 1;
     }
     h
 }
 
 // The fingerprints of n names that fit.
-pub fn fingerprints(s: &[u8], text: usize, n: usize) -> [u32; 512]
-    requires { ⌜ ((4 * (5 + 2 * n) ≤ length (now s)) × (namesFit (now s) text n ≡ true)) × (n ≤ 512) ⌝ }
-    ensures { λ r. ⌜ (length r ≡ 512) × Fingerprinted (now (s .entry)) text n r ⌝ }
+pub fn fingerprints(s: &[u8], text: usize, n: usize) -> [u32; NAMES]
+    requires { ⌜ ((4 * (HEADER + 2 * n) ≤ length (now s)) × (namesFit (now s) text n ≡ true)) × (n ≤ NAMES) ⌝ }
+    ensures { λ r. ⌜ (length r ≡ NAMES) × Fingerprinted (now (s .entry)) text n r ⌝ }
 {
-    let mut r = [0u32; 512];
+    let mut r = [0u32; NAMES];
     let mut k = 0usize;
     while k < n {
-        let from = text + count(s, 5 + 2 * k);
-        let size = count(s, 5 + 2 * k + 1);
+        let from = text + count(s, HEADER + 2 * k);
+        let size = count(s, HEADER + 2 * k + 1);
         r[k] = fingerprint(s, from, size);
         k += 1;
     }

@@ -7,10 +7,18 @@ mod reading;
 use naming::names_differ;
 use naming::names_fit;
 use reading::read_trees;
+use records::source_record::DEFINITIONS;
+use records::source_record::EXPRESSIONS;
+use records::source_record::HEADER;
+use records::source_record::NAMES;
+use records::source_record::NODES;
+use records::source_record::PUBLICS;
 use source::layout_of;
 ghost use mathlib.Core.Path.{_≡_};
 ghost use Rattle.source.specs.Record.{sourceOf};
 ghost use Rattle.source_check.specs.Answer.{checked};
+
+const HEADER_BYTES: usize = 4 * HEADER;
 
 // What the check of a source record answers.
 pub enum Checked {
@@ -23,13 +31,14 @@ pub fn check_source(s: &[u8]) -> Checked
     ensures { λ r. ⌜ r ≡ checked (sourceOf (now (s .entry))) ⌝ }
 {
     let size = s.len();
-    if size < 20 {
+    if size < HEADER_BYTES {
         return Checked::Refused(1);
     }
     let l = layout_of(s);
-    let counted = (l.names <= 512)
-        & ((l.publics <= 64)
-            & ((l.definitions <= 512) & ((l.expressions <= 512) & (l.nodes <= 2048))));
+    let counted = (l.names <= NAMES)
+        & ((l.publics <= PUBLICS)
+            & ((l.definitions <= DEFINITIONS)
+                & ((l.expressions <= EXPRESSIONS) & (l.nodes <= NODES))));
     if !counted {
         return Checked::Refused(2);
     }

@@ -1,5 +1,8 @@
 // The names: their pairs and bytes (refusal 3), and that no two are equal (refusal 4).
 use super::fingerprints::fingerprints;
+use records::source_record::HEADER;
+use records::source_record::NAME_BYTES;
+use records::source_record::NAMES;
 use source::count;
 ghost use mathlib.Core.Path.{_≡_};
 ghost use Prim.Native.Nat.{_+_, _*_, _≤_, _<_};
@@ -7,6 +10,12 @@ ghost use mathlib.Core.Bool.{true};
 ghost use lib.ListN.{length};
 ghost use Rattle.source.specs.Names.{endOf, printed, nameFits, namesFit, sameBytes, sameName, nameNew, namesDiffer};
 ghost use Rattle.source_check.specs.Fingerprints.{Fingerprinted};
+ghost use Rattle.records.specs.SourceRecord.{HEADER, NAMES};
+
+// "Bytes 33 to 126."
+const FIRST_BYTE: u8 = 33;
+
+const LAST_BYTE: u8 = 126;
 
 // Whether n bytes from byte `from` on are from 33 to 126.
 fn prints(s: &[u8], from: usize, n: usize) -> bool
@@ -16,7 +25,7 @@ fn prints(s: &[u8], from: usize, n: usize) -> bool
     let mut i = 0usize;
     while i < n {
         let c = s[from + i];
-        let fits = (33 <= c) & (c <= 126);
+        let fits = (FIRST_BYTE <= c) & (c <= LAST_BYTE);
         if !fits {
             return false;
         }
@@ -30,15 +39,15 @@ fn name_fits(s: &[u8], text: usize, k: usize, end: usize) -> bool
     requires { ⌜ (4 * (7 + 2 * k) ≤ length (now s)) × ((text ≤ length (now s)) × (end ≡ endOf (now s) k)) ⌝ }
     ensures { λ r. ⌜ r ≡ nameFits (now (s .entry)) text k ⌝ }
 {
-    let offset = count(s, 5 + 2 * k);
+    let offset = count(s, HEADER + 2 * k);
     if offset != end {
         return false;
     }
-    let n = count(s, 5 + 2 * k + 1);
+    let n = count(s, HEADER + 2 * k + 1);
     if n < 1 {
         return false;
     }
-    if 64 < n {
+    if NAME_BYTES < n {
         return false;
     }
     if s.len() < text + offset + n {
@@ -49,7 +58,7 @@ fn name_fits(s: &[u8], text: usize, k: usize, end: usize) -> bool
 
 // Whether n names fit, and the last ends with the file: not 3.
 pub fn names_fit(s: &[u8], text: usize, n: usize) -> bool
-    requires { ⌜ (4 * (5 + 2 * n) ≤ length (now s)) × (text ≤ length (now s)) ⌝ }
+    requires { ⌜ (4 * (HEADER + 2 * n) ≤ length (now s)) × (text ≤ length (now s)) ⌝ }
     ensures { λ r. ⌜ r ≡ namesFit (now (s .entry)) text n ⌝ }
 {
     let mut end = 0usize;
@@ -58,7 +67,7 @@ pub fn names_fit(s: &[u8], text: usize, n: usize) -> bool
         if !name_fits(s, text, k, end) {
             return false;
         }
-        end = count(s, 5 + 2 * k) + count(s, 5 + 2 * k + 1);
+        end = count(s, HEADER + 2 * k) + count(s, HEADER + 2 * k + 1);
         k += 1;
     }
     s.len() == text + end
@@ -81,21 +90,21 @@ fn same_bytes(s: &[u8], from: usize, to: usize, n: usize) -> bool
 
 // Whether two of n names are equal.
 fn same_name(s: &[u8], text: usize, n: usize, j: usize, k: usize) -> bool
-    requires { ⌜ ((4 * (5 + 2 * n) ≤ length (now s)) × (namesFit (now s) text n ≡ true)) × ((j < n) × (k < n)) ⌝ }
+    requires { ⌜ ((4 * (HEADER + 2 * n) ≤ length (now s)) × (namesFit (now s) text n ≡ true)) × ((j < n) × (k < n)) ⌝ }
     ensures { λ r. ⌜ r ≡ sameName (now (s .entry)) text j k ⌝ }
 {
-    let size = count(s, 5 + 2 * j + 1);
-    if size != count(s, 5 + 2 * k + 1) {
+    let size = count(s, HEADER + 2 * j + 1);
+    if size != count(s, HEADER + 2 * k + 1) {
         return false;
     }
-    let from = text + count(s, 5 + 2 * j);
-    let to = text + count(s, 5 + 2 * k);
+    let from = text + count(s, HEADER + 2 * j);
+    let to = text + count(s, HEADER + 2 * k);
     same_bytes(s, from, to, size)
 }
 
 // The same by fingerprints first: only where these are equal are bytes compared.
-fn same_found(s: &[u8], text: usize, n: usize, prints: &[u32; 512], j: usize, k: usize) -> bool
-    requires { ⌜ ((4 * (5 + 2 * n) ≤ length (now s)) × (namesFit (now s) text n ≡ true)) × (((j < n) × (k < n)) × ((n ≤ 512) × Fingerprinted (now s) text n (now prints))) ⌝ }
+fn same_found(s: &[u8], text: usize, n: usize, prints: &[u32; NAMES], j: usize, k: usize) -> bool
+    requires { ⌜ ((4 * (HEADER + 2 * n) ≤ length (now s)) × (namesFit (now s) text n ≡ true)) × (((j < n) × (k < n)) × ((n ≤ NAMES) × Fingerprinted (now s) text n (now prints))) ⌝ }
     ensures { λ r. ⌜ r ≡ sameName (now (s .entry)) text j k ⌝ }
 {
     if prints[j] != prints[k] {
@@ -105,8 +114,8 @@ fn same_found(s: &[u8], text: usize, n: usize, prints: &[u32; 512], j: usize, k:
 }
 
 // Whether name k is none of those before it.
-fn name_new(s: &[u8], text: usize, n: usize, prints: &[u32; 512], k: usize) -> bool
-    requires { ⌜ ((4 * (5 + 2 * n) ≤ length (now s)) × (namesFit (now s) text n ≡ true)) × ((k < n) × ((n ≤ 512) × Fingerprinted (now s) text n (now prints))) ⌝ }
+fn name_new(s: &[u8], text: usize, n: usize, prints: &[u32; NAMES], k: usize) -> bool
+    requires { ⌜ ((4 * (HEADER + 2 * n) ≤ length (now s)) × (namesFit (now s) text n ≡ true)) × ((k < n) × ((n ≤ NAMES) × Fingerprinted (now s) text n (now prints))) ⌝ }
     ensures { λ r. ⌜ r ≡ nameNew (now (s .entry)) text k ⌝ }
 {
     let mut j = 0usize;
@@ -121,7 +130,7 @@ fn name_new(s: &[u8], text: usize, n: usize, prints: &[u32; 512], k: usize) -> b
 
 // Whether n names that fit are different: not 4.
 pub fn names_differ(s: &[u8], text: usize, n: usize) -> bool
-    requires { ⌜ ((4 * (5 + 2 * n) ≤ length (now s)) × (namesFit (now s) text n ≡ true)) × (n ≤ 512) ⌝ }
+    requires { ⌜ ((4 * (HEADER + 2 * n) ≤ length (now s)) × (namesFit (now s) text n ≡ true)) × (n ≤ NAMES) ⌝ }
     ensures { λ r. ⌜ r ≡ namesDiffer (now (s .entry)) text n ⌝ }
 {
     let prints = fingerprints(s, text, n);

@@ -1,6 +1,8 @@
 // Nodes and lists fit (refusal 5), and every node is used exactly once (refusal 6): an array of marks, cleared at the start, set at each use.
 use super::Checked;
 use super::asking::children_of;
+use records::source_record::NO_LINK;
+use records::source_record::NODES;
 use source::Chain;
 use source::Child;
 use source::Children;
@@ -18,28 +20,32 @@ ghost use Rattle.source.specs.Uses.{same, resultUses, chainUses, childUses, chi
 ghost use Rattle.source_check.specs.Marks.{verdict, outcome, bump, Adds, noMarks};
 ghost use Rattle.source.specs.Layout.{layoutOf};
 ghost use Rattle.source.specs.Record.{shaped, usedOnce};
+ghost use Rattle.records.specs.SourceRecord.{NODES};
 
-fn no_marks() -> [u32; 2048]
+// A mark of more uses than one.
+const AGAIN: u32 = 2;
+
+fn no_marks() -> [u32; NODES]
     ensures { λ r. ⌜ r ≡ noMarks ⌝ }
 {
-    [0u32; 2048]
+    [0u32; NODES]
 }
 
 // Node x is used once more.
-fn use_node(marks: &mut [u32; 2048], x: usize)
-    requires { ⌜ x < 2048 ⌝ }
+fn use_node(marks: &mut [u32; NODES], x: usize)
+    requires { ⌜ x < NODES ⌝ }
     ensures { λ _. ⌜ now (marks .exit) ≡ set (now (marks .entry)) x (bump (getD (now (marks .entry)) x 0)) ⌝ }
 {
     if marks[x] == 0 {
         marks[x] = 1;
     } else {
-        marks[x] = 2;
+        marks[x] = AGAIN;
     }
 }
 
 // Node k uses x, which must be an expression before it.
-fn use_expression(s: &[u8], at: usize, k: usize, x: usize, marks: &mut [u32; 2048]) -> Checked
-    requires { ⌜ (4 * (at + 4 * k) ≤ length (now s)) × (k ≤ 2048) ⌝ }
+fn use_expression(s: &[u8], at: usize, k: usize, x: usize, marks: &mut [u32; NODES]) -> Checked
+    requires { ⌜ (4 * (at + 4 * k) ≤ length (now s)) × (k ≤ NODES) ⌝ }
     ensures { λ r. ⌜ (r ≡ verdict 5 (expressionFits (now (s .entry)) at k x)) × (r ≡ Checked.Accepted → Adds (now (marks .entry)) (now (marks .exit)) (same x)) ⌝ }
 {
     if k <= x {
@@ -53,8 +59,8 @@ fn use_expression(s: &[u8], at: usize, k: usize, x: usize, marks: &mut [u32; 204
 }
 
 // Node k uses x, which must be a pattern before it.
-fn use_pattern(s: &[u8], at: usize, k: usize, x: usize, marks: &mut [u32; 2048]) -> Checked
-    requires { ⌜ (4 * (at + 4 * k) ≤ length (now s)) × (k ≤ 2048) ⌝ }
+fn use_pattern(s: &[u8], at: usize, k: usize, x: usize, marks: &mut [u32; NODES]) -> Checked
+    requires { ⌜ (4 * (at + 4 * k) ≤ length (now s)) × (k ≤ NODES) ⌝ }
     ensures { λ r. ⌜ (r ≡ verdict 5 (patternFits (now (s .entry)) at k x)) × (r ≡ Checked.Accepted → Adds (now (marks .entry)) (now (marks .exit)) (same x)) ⌝ }
 {
     if k <= x {
@@ -74,9 +80,9 @@ fn use_item(
     chain: Chain,
     k: usize,
     x: usize,
-    marks: &mut [u32; 2048],
+    marks: &mut [u32; NODES],
 ) -> Checked
-    requires { ⌜ (4 * (at + 4 * k) ≤ length (now s)) × (k ≤ 2048) ⌝ }
+    requires { ⌜ (4 * (at + 4 * k) ≤ length (now s)) × (k ≤ NODES) ⌝ }
     ensures { λ r. ⌜ (r ≡ verdict 5 (itemFits (now (s .entry)) at chain k x)) × (r ≡ Checked.Accepted → Adds (now (marks .entry)) (now (marks .exit)) (same x)) ⌝ }
 {
     match chain {
@@ -93,9 +99,9 @@ fn use_result(
     chain: Chain,
     k: usize,
     x: usize,
-    marks: &mut [u32; 2048],
+    marks: &mut [u32; NODES],
 ) -> Checked
-    requires { ⌜ (4 * (at + 4 * k) ≤ length (now s)) × (k ≤ 2048) ⌝ }
+    requires { ⌜ (4 * (at + 4 * k) ≤ length (now s)) × (k ≤ NODES) ⌝ }
     ensures { λ r. ⌜ (r ≡ verdict 5 (resultFits (now (s .entry)) at chain k x)) × (r ≡ Checked.Accepted → Adds (now (marks .entry)) (now (marks .exit)) (resultUses chain x)) ⌝ }
 {
     if let Chain::Arms = chain {
@@ -115,9 +121,9 @@ fn use_chain(
     chain: Chain,
     k: usize,
     first: usize,
-    marks: &mut [u32; 2048],
+    marks: &mut [u32; NODES],
 ) -> Checked
-    requires { ⌜ (4 * (at + 4 * k) ≤ length (now s)) × (k ≤ 2048) ⌝ }
+    requires { ⌜ (4 * (at + 4 * k) ≤ length (now s)) × (k ≤ NODES) ⌝ }
     ensures { λ r. ⌜ (r ≡ verdict 5 (chainFits (now (s .entry)) at chain k first)) × (r ≡ Checked.Accepted → Adds (now (marks .entry)) (now (marks .exit)) (chainUses (now (s .entry)) at chain k first)) ⌝ }
 {
     let mut above = k;
@@ -133,7 +139,7 @@ fn use_chain(
         let Checked::Accepted = use_result(s, at, chain, link, result, marks) else {
             return Checked::Refused(5);
         };
-        if next == 4294967295 {
+        if next == NO_LINK {
             return Checked::Accepted;
         }
         above = link;
@@ -149,9 +155,9 @@ fn use_child(
     names: usize,
     k: usize,
     child: Child,
-    marks: &mut [u32; 2048],
+    marks: &mut [u32; NODES],
 ) -> Checked
-    requires { ⌜ (4 * (at + 4 * k) ≤ length (now s)) × (k ≤ 2048) ⌝ }
+    requires { ⌜ (4 * (at + 4 * k) ≤ length (now s)) × (k ≤ NODES) ⌝ }
     ensures { λ r. ⌜ (r ≡ verdict 5 (childFits (now (s .entry)) at names k child)) × (r ≡ Checked.Accepted → Adds (now (marks .entry)) (now (marks .exit)) (childUses (now (s .entry)) at k child)) ⌝ }
 {
     match child {
@@ -176,9 +182,9 @@ fn use_children(
     names: usize,
     k: usize,
     c: Children,
-    marks: &mut [u32; 2048],
+    marks: &mut [u32; NODES],
 ) -> Checked
-    requires { ⌜ (4 * (at + 4 * k) ≤ length (now s)) × (k ≤ 2048) ⌝ }
+    requires { ⌜ (4 * (at + 4 * k) ≤ length (now s)) × (k ≤ NODES) ⌝ }
     ensures { λ r. ⌜ (r ≡ verdict 5 (childrenFit (now (s .entry)) at names k c)) × (r ≡ Checked.Accepted → Adds (now (marks .entry)) (now (marks .exit)) (childrenUse (now (s .entry)) at k c)) ⌝ }
 {
     let first = c.first;
@@ -194,8 +200,8 @@ fn use_children(
 }
 
 // Whether n nodes fit; then what they use is marked.
-fn read_nodes(s: &[u8], at: usize, names: usize, n: usize, marks: &mut [u32; 2048]) -> Checked
-    requires { ⌜ (4 * (at + 4 * n) ≤ length (now s)) × (n ≤ 2048) ⌝ }
+fn read_nodes(s: &[u8], at: usize, names: usize, n: usize, marks: &mut [u32; NODES]) -> Checked
+    requires { ⌜ (4 * (at + 4 * n) ≤ length (now s)) × (n ≤ NODES) ⌝ }
     ensures { λ r. ⌜ (r ≡ verdict 5 (nodesFit (now (s .entry)) at names n)) × (r ≡ Checked.Accepted → Adds (now (marks .entry)) (now (marks .exit)) (byNodes (now (s .entry)) at n)) ⌝ }
 {
     let mut k = 0usize;
@@ -231,9 +237,9 @@ fn read_definitions(
     nodes: usize,
     list: usize,
     n: usize,
-    marks: &mut [u32; 2048],
+    marks: &mut [u32; NODES],
 ) -> Checked
-    requires { ⌜ (4 * (list + 2 * n) ≤ length (now s)) × ((4 * (at + 4 * nodes) ≤ length (now s)) × (nodes ≤ 2048)) ⌝ }
+    requires { ⌜ (4 * (list + 2 * n) ≤ length (now s)) × ((4 * (at + 4 * nodes) ≤ length (now s)) × (nodes ≤ NODES)) ⌝ }
     ensures { λ r. ⌜ (r ≡ verdict 5 (definitionsFit (now (s .entry)) at nodes list n)) × (r ≡ Checked.Accepted → Adds (now (marks .entry)) (now (marks .exit)) (byDefinitions (now (s .entry)) list n)) ⌝ }
 {
     let mut k = 0usize;
@@ -258,9 +264,9 @@ fn read_expressions(
     nodes: usize,
     list: usize,
     n: usize,
-    marks: &mut [u32; 2048],
+    marks: &mut [u32; NODES],
 ) -> Checked
-    requires { ⌜ (4 * (list + n) ≤ length (now s)) × ((4 * (at + 4 * nodes) ≤ length (now s)) × (nodes ≤ 2048)) ⌝ }
+    requires { ⌜ (4 * (list + n) ≤ length (now s)) × ((4 * (at + 4 * nodes) ≤ length (now s)) × (nodes ≤ NODES)) ⌝ }
     ensures { λ r. ⌜ (r ≡ verdict 5 (expressionsFit (now (s .entry)) at nodes list n)) × (r ≡ Checked.Accepted → Adds (now (marks .entry)) (now (marks .exit)) (byExpressions (now (s .entry)) list n)) ⌝ }
 {
     let mut k = 0usize;
@@ -275,8 +281,8 @@ fn read_expressions(
 }
 
 // Whether each of the first n marks is 1.
-fn all_once(marks: &[u32; 2048], n: usize) -> bool
-    requires { ⌜ n ≤ 2048 ⌝ }
+fn all_once(marks: &[u32; NODES], n: usize) -> bool
+    requires { ⌜ n ≤ NODES ⌝ }
     ensures { λ r. ⌜ r ≡ every n (λ k. eqb (getD (now (marks .entry)) k 0) 1) ⌝ }
 {
     let mut k = 0usize;
@@ -291,7 +297,7 @@ fn all_once(marks: &[u32; 2048], n: usize) -> bool
 
 // Whether nodes, publics, definitions and expressions fit (not 5), and then every node is used once (not 6).
 pub fn read_trees(s: &[u8], l: Layout) -> Checked
-    requires { ⌜ (l ≡ layoutOf (now s)) × ((l .«text_at» ≤ length (now s)) × (l .nodes ≤ 2048)) ⌝ }
+    requires { ⌜ (l ≡ layoutOf (now s)) × ((l .«text_at» ≤ length (now s)) × (l .nodes ≤ NODES)) ⌝ }
     ensures { λ r. ⌜ r ≡ outcome (shaped (now (s .entry))) (usedOnce (now (s .entry))) ⌝ }
 {
     let mut marks = no_marks();

@@ -2,9 +2,38 @@
 // input: the words record length, number of runs and length of the expected flat record; two words for each run, the length of the
 // store to lend and the expected answer (0 for accepted, else the number of the refusal); the record; the expected flat record.
 use eval_entry::Answer;
+use eval_memory::MOST_UNITS;
+use eval_memory::UNIT_BYTES;
+use eval_write::FLAT_BYTES;
+use records::source_record::BYTES;
 use words::word_at;
 ghost use Prim.Native.Nat.{_<_, _≤_};
 ghost use lib.ListN.{length};
+
+// The counts of runs: accepted, refused, different.
+const ACCEPTED: usize = 0;
+
+const REFUSED: usize = 1;
+
+const DIFFERENT: usize = 2;
+
+const KINDS_OF_RUNS: usize = 3;
+
+type Counts = [u64; KINDS_OF_RUNS];
+
+const MANY: u64 = 10000000;
+
+const GROUPS: u64 = 1000000;
+
+// Bytes of a group's head, and of each of its runs, of which there are at most eight.
+const HEAD: usize = 12;
+
+const RUN: usize = 8;
+
+const RUNS: usize = RUN * RUN;
+
+// Room for every record, and for a store that is longer than can matter.
+const STORE: usize = MOST_UNITS as usize * UNIT_BYTES + 32;
 
 // What stands in the store before a run.
 const UNCLEARED: u8 = 90;
@@ -96,10 +125,10 @@ fn replay_lent(image: &[u8], expected: &[u8], store: &mut [u8], held: usize, wan
 }
 
 // One more at place k of the counts: accepted, refused, different.
-fn count(counts: &mut [u64; 3], k: usize)
+fn count(counts: &mut Counts, k: usize)
     requires { ⌜ k < 3 ⌝ }
 {
-    if counts[k] < 10000000 {
+    if counts[k] < MANY {
         counts[k] += 1;
     }
 }
@@ -109,9 +138,9 @@ fn place(seen: Seen) -> usize
     ensures { λ r. ⌜ r < 3 ⌝ }
 {
     match seen {
-        Seen::Accepted => 0,
-        Seen::Refused => 1,
-        Seen::Differs(_) => 2,
+        Seen::Accepted => ACCEPTED,
+        Seen::Refused => REFUSED,
+        Seen::Differs(_) => DIFFERENT,
     }
 }
 
@@ -137,9 +166,9 @@ fn replay_runs(
     store: &mut [u8],
     runs: &[u8],
     group: u64,
-    counts: &mut [u64; 3],
+    counts: &mut Counts,
 ) {
-    let n = runs.len() / 8;
+    let n = runs.len() / RUN;
     let mut i = 0usize;
     while i < n {
         let held = word_at(runs, 2 * i) as usize;
@@ -164,7 +193,7 @@ fn replay_group(
     store: &mut [u8],
     runs: &mut [u8],
     group: u64,
-    counts: &mut [u64; 3],
+    counts: &mut Counts,
 ) -> Group {
     if !read_all(runs) {
         return Group::Broken;
@@ -186,18 +215,18 @@ fn replay(
     store: &mut [u8],
     runs: &mut [u8],
     group: u64,
-    counts: &mut [u64; 3],
+    counts: &mut Counts,
 ) -> Group {
-    let mut head = [0u8; 12];
+    let mut head = [0u8; HEAD];
     let got = io::read_full(0, &mut head);
     if got == 0 {
         return Group::End;
     }
-    if got < 12 {
+    if got < HEAD {
         return Group::Broken;
     }
     let length = word_at(&head, 0) as usize;
-    let size = 8 * (word_at(&head, 1) as usize);
+    let size = RUN * (word_at(&head, 1) as usize);
     let room = word_at(&head, 2) as usize;
     if image.len() < length {
         return Group::Broken;
@@ -231,26 +260,26 @@ fn turns_after(seen: Group, left: u64) -> u64
 }
 
 // A broken group counts as a run that differs.
-fn report_broken(seen: Group, group: u64, counts: &mut [u64; 3]) {
+fn report_broken(seen: Group, group: u64, counts: &mut Counts) {
     if let Group::Broken = seen {
         io::write_all(1, b"group ");
         report(group, b" is broken\n");
-        count(counts, 2);
+        count(counts, DIFFERENT);
     }
 }
 
-fn report_all(counts: &[u64; 3]) {
-    report(counts[0], b" accepted, ");
-    report(counts[1], b" refused, ");
-    report(counts[2], b" differ\n");
+fn report_all(counts: &Counts) {
+    report(counts[ACCEPTED], b" accepted, ");
+    report(counts[REFUSED], b" refused, ");
+    report(counts[DIFFERENT], b" differ\n");
 }
 
 // Every group of the input, with what is lent to them. Nothing says that the input ends, so the groups are counted down.
 fn replay_all(image: &mut [u8], expected: &mut [u8], store: &mut [u8], runs: &mut [u8]) {
-    let mut counts = [0u64; 3];
-    let mut left = 1000000u64;
+    let mut counts = [0u64; KINDS_OF_RUNS];
+    let mut left = GROUPS;
     while 0 < left {
-        let group = 1000000 - left;
+        let group = GROUPS - left;
         let seen = replay(image, expected, store, runs, group, &mut counts);
         report_broken(seen, group, &mut counts);
         left = turns_after(seen, left);
@@ -259,9 +288,9 @@ fn replay_all(image: &mut [u8], expected: &mut [u8], store: &mut [u8], runs: &mu
 }
 
 fn main() {
-    let mut image = [0u8; 76052];
-    let mut expected = [0u8; 344344];
-    let mut store = [0u8; 1048592];
-    let mut runs = [0u8; 64];
+    let mut image = [0u8; BYTES];
+    let mut expected = [0u8; FLAT_BYTES];
+    let mut store = [0u8; STORE];
+    let mut runs = [0u8; RUNS];
     replay_all(&mut image, &mut expected, &mut store, &mut runs);
 }

@@ -7,6 +7,20 @@ ghost use mathlib.Core.Path.{_≡_};
 ghost use Prim.Native.Nat.{_+_, _≤_, _<_};
 ghost use lib.ListN.{length, replicate};
 
+// Bytes of a case's head, room for the record, the store and the output of each, and how many cases there may be.
+const HEAD: usize = 16;
+
+const RECORD: usize = 345000;
+
+const STORE: usize = 1024;
+
+const OUTPUT: usize = 480000;
+
+const CASES: u64 = 1000000;
+
+// Bytes are compared by blocks.
+const BLOCK: usize = 4096;
+
 const REFUSED: u32 = 4294901760;
 
 // What stands in the output and in the store before a case.
@@ -51,7 +65,7 @@ fn chunk_end(at: usize, n: usize) -> usize
     requires { ⌜ at < n ⌝ }
     ensures { λ r. ⌜ (at < r) × ((r ≤ n) × (r ≤ at + 4096)) ⌝ }
 {
-    if n - at < 4096 { n } else { at + 4096 }
+    if n - at < BLOCK { n } else { at + BLOCK }
 }
 
 // Whether the next bytes of the input, as many as `chunk` has, are those of `s`.
@@ -143,12 +157,12 @@ fn replay_case(flat: &mut [u8], store: &mut [u8], out: &mut [u8], expected: u32)
 
 // The next case of the input.
 fn replay(flat: &mut [u8], store: &mut [u8], out: &mut [u8]) -> Seen {
-    let mut head = [0u8; 16];
+    let mut head = [0u8; HEAD];
     let got = io::read_full(0, &mut head);
     if got == 0 {
         return Seen::End;
     }
-    if got < 16 {
+    if got < HEAD {
         return Seen::Broken;
     }
     let length = word_at(&head, 0) as usize;
@@ -236,7 +250,7 @@ fn replay_all(flat: &mut [u8], store: &mut [u8], out: &mut [u8]) {
     let mut accepted = 0u64;
     let mut refused = 0u64;
     let mut differ = 0u64;
-    let mut left = 1000000u64;
+    let mut left = CASES;
     while 0 < left {
         let seen = replay(flat, store, out);
         report_different(is_different(seen), accepted + refused + differ);
@@ -249,8 +263,8 @@ fn replay_all(flat: &mut [u8], store: &mut [u8], out: &mut [u8]) {
 }
 
 fn main() {
-    let mut flat = [0u8; 345000];
-    let mut store = [0u8; 1024];
-    let mut out = [0u8; 480000];
+    let mut flat = [0u8; RECORD];
+    let mut store = [0u8; STORE];
+    let mut out = [0u8; OUTPUT];
     replay_all(&mut flat, &mut store, &mut out);
 }

@@ -1,0 +1,5 @@
+pub mod FlatRecord
+pub mod Intrinsics
+pub mod Kinds
+pub mod Operators
+pub mod SourceRecord
