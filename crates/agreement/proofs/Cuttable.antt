@@ -115,7 +115,7 @@ module _ (R : Ids) where
 
   plain-equation : (e : Expr) → isPlainEquation R e ≡ true → Narrow e
   unfolding isPlainEquation Narrow
-  plain-equation (binary o a b) h = let w = both-true (isPlainExpr R a) _ (both-true (isEqual R o) _ h .1) in (plain-expr a (w .0), plain-expr b (w .1))
+  plain-equation (binary o a b) h = let w = both-true (isPlainExpr R a) _ (both-true (isEqual o) _ h .1) in (plain-expr a (w .0), plain-expr b (w .1))
   plain-equation unit h = tt
   plain-equation nil h = tt
   plain-equation (constant c) h = tt

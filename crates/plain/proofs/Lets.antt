@@ -18,7 +18,7 @@ use Rattle.flat.specs.Trees.{Definition}
 use Rattle.flat.specs.Meaning.{Assignment, Elements}
 use Rattle.numbering.specs.Inputs.{member}
 use Rattle.eval_trees.specs.Environments.{lookUp, insert, remove, Options, hasKey, toOptions, kept, present, oldest}
-use Rattle.eval_trees.specs.Forms.{kind, onVariable}
+use Rattle.eval_trees.specs.Forms.{kind, isNumber, onVariable}
 use Rattle.eval_trees.specs.State.{State, Outcome, gives, Run, after, _>>=_, _>>_, return, refuse, Done, get, refuseIf, make, pushDefinition, bound}
 use Rattle.eval_trees.specs.Expand.{unexpanded, expandVariable, expandPatternVariables}
 use Rattle.eval_trees.specs.Flatten.{defines, flattenBinding}
@@ -49,7 +49,7 @@ module _ {B : ℕ → Bool} {n : ℕ} where
   expand-term x s (ofNegate a) = refl
 
   pub define-term : {w : Expr} (x : ℕ) (s : State) → Term B n w → flattenBinding (variableP x) w s ≡ pushDefinition x w s
-  unfolding flattenBinding defines kind
+  unfolding flattenBinding defines isNumber kind
   define-term x s (ofConstant c) = refl
   define-term x s (ofVariable f l) = refl
   define-term x s (ofNegate a) = refl

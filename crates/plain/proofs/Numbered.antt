@@ -106,7 +106,7 @@ module _ (R : Ids) where
       let l = both-true (isPlainExpr R (d .1)) (arePlainDefinitions R ds) (k .1) in
       plain-definition (d .0) (d .1) ds (k .0) (plain-expr (d .1) (l .0)) (plain-definitions ds (l .1))
 
-  plain-equation : (o : InfixOp) (a b : Expr) (es : List Expr) → isEqual R o ≡ true → Plainly Named a → Plainly Named b → PlainEquations Named es → PlainEquations Named (binary o a b ∷ es)
+  plain-equation : (o : InfixOp) (a b : Expr) (es : List Expr) → isEqual o ≡ true → Plainly Named a → Plainly Named b → PlainEquations Named es → PlainEquations Named (binary o a b ∷ es)
   unfolding isEqual
   plain-equation Equal a b es h p q r = pEquation p q r
   plain-equation Divide a b es h p q r = absurd (false-true h)
@@ -121,7 +121,7 @@ module _ (R : Ids) where
   plain-item : (e : Expr) (es : List Expr) → isPlainEquation R e ≡ true → PlainEquations Named es → PlainEquations Named (e ∷ es)
   unfolding isPlainEquation
   plain-item (binary o a b) es h r =
-      let k = both-true (isEqual R o) _ h in
+      let k = both-true (isEqual o) _ h in
       let l = both-true (isPlainExpr R a) (isPlainExpr R b) (k .1) in
       plain-equation o a b es (k .0) (plain-expr a (l .0)) (plain-expr b (l .1)) r
   plain-item unit es h r = absurd (false-true h)

@@ -9,7 +9,8 @@ use Rattle.field.specs.declared.InfixOp.{InfixOp}
 use Rattle.field.specs.declared.InfixOp.the-variants.{Divide, DivideZ, Multiply, Add, Subtract, Equal, Exponentiate, IntDivide, Modulo}
 use Rattle.field.specs.Prime.{P}
 use Rattle.field.specs.Element.{elem}
-use Rattle.source.specs.Trees.{Pat, unitP, nilP, asP, productP, consP, variableP, constantP, Expr, unit, nil, sequence, product, cons, binary, negate, application, constant, variable, function, intrinsic, letting, matching, Module}
+use Rattle.source.specs.Trees.{Pat, Expr, unit, nil, sequence, product, cons, binary, negate, application, constant, variable, function, intrinsic, letting, matching, Module}
+use Rattle.source.specs.Forms.{onInfix, onVariableP}
 use Rattle.flat.specs.Rules.{All}
 use Rattle.flat.specs.Meaning.{update, onValues, negated, DivisorNotZero}
 
@@ -19,13 +20,8 @@ Table = ℕ → Answer
 
 -- "then written for its name over any older one"
 unfoldable pub write : Pat → Answer → Table → Table
-write (variableP x) v t = update t x v
-write unitP v t = t
-write nilP v t = t
-write (asP p x) v t = t
-write (productP p q) v t = t
-write (consP p q) v t = t
-write (constantP n) v t = t
+unfolding onVariableP
+write p v t = onVariableP p (λ x. update t x v) t
 
 -- what follows a value; nothing follows nothing
 unfoldable pub through : Answer → (ℤ → Answer) → Answer
@@ -57,20 +53,8 @@ defined t (d ∷ ds) = defined (write (d .0) (valueOf t (d .1)) t) ds
 
 -- "then the equations are read": the values of both sides of each
 unfoldable pub sidesOf : Table → Expr → Answer × Answer
-sidesOf t (binary o a b) = (valueOf t a, valueOf t b)
-sidesOf t unit = (Nothing, Nothing)
-sidesOf t nil = (Nothing, Nothing)
-sidesOf t (sequence is) = (Nothing, Nothing)
-sidesOf t (product a b) = (Nothing, Nothing)
-sidesOf t (cons a b) = (Nothing, Nothing)
-sidesOf t (negate a) = (Nothing, Nothing)
-sidesOf t (application a b) = (Nothing, Nothing)
-sidesOf t (constant n) = (Nothing, Nothing)
-sidesOf t (variable x) = (Nothing, Nothing)
-sidesOf t (function ps b env) = (Nothing, Nothing)
-sidesOf t (intrinsic w k ps env) = (Nothing, Nothing)
-sidesOf t (letting p v b) = (Nothing, Nothing)
-sidesOf t (matching v arms) = (Nothing, Nothing)
+unfolding onInfix
+sidesOf t e = onInfix e (λ o a b. (valueOf t a, valueOf t b)) (Nothing, Nothing)
 
 unfoldable pub sides : Table → List Expr → List (Answer × Answer)
 sides t [] = []

@@ -1,3 +1,4 @@
+pub mod Evaluation
 pub mod FlatRecord
 pub mod Intrinsics
 pub mod Kinds

@@ -1,4 +1,5 @@
 pub mod Trees
+pub mod Forms
 pub mod Indices
 pub mod Layout
 pub mod Names
