@@ -31,7 +31,7 @@ from flatten_cases import last_ids, no_modules
 from flat_records import ADD, MULTIPLY, flat
 from plain_agreement import COPY, NEGATE, element, equalities_of
 from source_records import LAST_COUNT, LAST_SOURCE, ORACLE_KINDS, Answer, answers, generated, model, module_record
-from assemble import C, D, EQ, I, V
+from trees import C, D, EQ, I, V
 
 STORE, OUTPUT = 16 * LAST_COUNT, 1016088  # what flatten lends at most
 LENT = 65536  # what equalities lends

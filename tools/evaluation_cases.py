@@ -22,7 +22,7 @@ import sys
 from source_records import (
     LAST_STORE, answer_of, directed, generated, group, model, model_answer, module_record, run, stores, twin_lines,
 )
-from assemble import A, ADD, C, CO, D, DIV, DIVZ, EQ, EXP, F, I, IDIV, L, MOD, MUL, N, PR, PV, SUB, U, V, lst
+from trees import A, ADD, C, CO, D, DIV, DIVZ, EQ, EXP, F, I, IDIV, L, MOD, MUL, N, PR, PV, SUB, U, V, lst
 
 HERE = os.path.dirname(os.path.abspath(__file__))
 X, Y = V("x"), V("y")

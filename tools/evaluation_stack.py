@@ -14,7 +14,7 @@ import subprocess
 import sys
 
 from source_records import LAST_STORE, directed, group, model, model_answer, module_record
-from assemble import A, ADD, C, CO, D, EQ, EXP, F, I, L, MUL, N, PR, SUB, U, V, lst
+from trees import A, ADD, C, CO, D, EQ, EXP, F, I, L, MUL, N, PR, SUB, U, V, lst
 
 
 def repeated(n, f, e):

@@ -14,7 +14,7 @@ import sys
 import tempfile
 
 from source_records import LAST_STORE, ORACLE_KINDS, answers, directed, generated, group, model, model_answer, module_record
-from assemble import A, ADD, C, D, F, I, L, MUL, PR, V, lst
+from trees import A, ADD, C, D, F, I, L, MUL, PR, V, lst
 
 
 SOME = ("typed", "closures", "mix", "obs", "rec", "mix+", "lost+")  # kinds of the model that the Rust mostly accepts and that make enough

@@ -12,7 +12,8 @@ import sys
 from evaluation_cases import REFUSED, X, Y, Writer, accepted, damaged, hand_made, id_limits, list_limits, modules, negated, numbered, powers, write_counts
 from plain_agreement import judged, modules as plain_modules, record_of
 from source_records import LAST_STORE, MODEL_KINDS, directed, generated, model, stores
-from assemble import A, D, EQ, F, I, V, pack
+from assemble import pack
+from trees import A, D, EQ, F, I, V
 
 LONGEST = 40000  # records and constraint records that are longer are left to compare_flatten.py
 

@@ -13,25 +13,16 @@ import subprocess
 import sys
 import tempfile
 
-REFUSED, UNWRITTEN, NONE = 4294901760, 0, 4294967295
-UNIT, NIL, PRODUCT, CONS, INFIX, NEGATE, APPLY, CONSTANT, VARIABLE, FUNCTION, LET, MATCH, SEQUENCE, LINK = 0, 1, 2, 3, 4, 5, 6, 7, 8, 9, 11, 12, 13, 14
-P_UNIT, P_NIL, AS, P_PRODUCT, P_CONS, P_VARIABLE, P_CONSTANT = 16, 17, 18, 19, 20, 21, 22
+from assemble import (
+    APPLY, AS, CONS, CONSTANT, FUNCTION, INFIX, LET, LINK, MATCH, NEGATE, NIL, NONE, P_CONS, P_CONSTANT, P_NIL, P_PRODUCT, P_UNIT,
+    P_VARIABLE, PRODUCT, SEQUENCE, UNIT, VARIABLE, Builder, pack,
+)
+
+REFUSED, UNWRITTEN = 4294901760, 0
 
 
-class Record:
-    """A source record by hand: nodes children first, names by their text."""
-
-    def __init__(self):
-        self.names, self.publics, self.definitions, self.expressions, self.nodes = [], [], [], [], []
-
-    def name(self, text):
-        if text not in self.names:
-            self.names.append(text)
-        return self.names.index(text)
-
-    def node(self, kind, a=0, b=0, c=0):
-        self.nodes.append((kind, a, b, c))
-        return len(self.nodes) - 1
+class Record(Builder):
+    """A source record by hand. Publics are texts; one that nothing has named before is out of range."""
 
     def use(self, text):
         return self.node(VARIABLE, self.name(text))
@@ -39,30 +30,12 @@ class Record:
     def bind(self, text):
         return self.node(P_VARIABLE, self.name(text))
 
-    def chain(self, items):
-        last = NONE
-        made = [(p, e) for p, e in items]
-        for p, e in reversed(made):
-            last = self.node(LINK, p, last, e)
-        return last
-
     def define(self, p, v):
         self.definitions.append((p, v))
 
     def bytes(self):
-        text = "".join(self.names).encode()
-        words = [len(self.names), len(self.publics), len(self.definitions), len(self.expressions), len(self.nodes)]
-        at = 0
-        for n in self.names:
-            words += [at, len(n)]
-            at += len(n)
-        words += [self.name(p) for p in self.publics]
-        for p, v in self.definitions:
-            words += [p, v]
-        words += self.expressions
-        for n in self.nodes:
-            words += n
-        return struct.pack("<%dI" % len(words), *words) + text
+        names = list(self.names)
+        return pack(names, [self.name(p) for p in self.publics], self.definitions, self.expressions, self.nodes)
 
 
 def by_hand():

@@ -17,7 +17,7 @@ import sys
 
 from compare_source import BATCH, replay
 from source_records import answers, model, module_record
-from assemble import ADD, C, D, DIV, DIVZ, EQ, EXP, I, IDIV, L, MOD, MUL, SUB, V
+from trees import ADD, C, D, DIV, DIVZ, EQ, EXP, I, IDIV, L, MOD, MUL, SUB, V
 
 P = 2147483647
 NEGATE, COPY = 9, 10

@@ -29,10 +29,10 @@ import subprocess
 import sys
 
 sys.path.insert(0, os.path.join(os.path.dirname(os.path.abspath(__file__)), "..", "oracle", "model"))
-import assemble
 import closure_modules
 import directed
 import model
+import trees
 
 LAST_STORE = 1048592  # one node more than document 01's 65,535, and 16 bytes
 LAST_COUNT = 65535
@@ -80,7 +80,7 @@ def generated(oracle, seed, count, kind):
 
 def module_record(module):
     """The record of a module, or None where it has more nodes than a record may have."""
-    record = assemble.record(*module)
+    record = trees.record(*module)
     return record if struct.unpack_from("<I", record, 16)[0] <= 2048 else None
 
 

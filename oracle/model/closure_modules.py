@@ -5,7 +5,7 @@ present), lost closures and their splits, fold over closures, fresh on everythin
                                         these five also with + for a module repaired until it is accepted
 """
 import model
-from assemble import *
+from trees import *
 from random_modules import INT, UNIT_T, Closures, G, Lambda, Plain, Untyped
 
 P2 = lambda a, b: ('pprod', PV(a), PV(b))

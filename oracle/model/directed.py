@@ -1,11 +1,11 @@
 """Modules made to catch one mistake each: late snapshot of implicit_env, lowest hit in a rope, splits of lost closures, ...
 
-    CASES    a list of (name, module); a module is (publics, definitions, expressions) as assemble.py writes it
+    CASES    a list of (name, module); a module is (publics, definitions, expressions) as trees.py writes it
     NUMBERS  by name what evaluation answers: the refusal's number, or 0
 """
 from functools import reduce
 
-from assemble import *
+from trees import *
 
 P2 = lambda a, b: ('pprod', PV(a), PV(b))
 CASES, NUMBERS = [], {}

@@ -1,6 +1,6 @@
 """Random modules: typed ones (closures, lists, pairs), untyped ones, plain ones."""
 import random
-from assemble import *
+from trees import *
 
 INT, UNIT_T = 'int', 'unit'
 

@@ -6,3 +6,4 @@ pub mod Forms
 pub mod Wide
 pub mod Lines
 pub mod Listed
+pub mod Printing

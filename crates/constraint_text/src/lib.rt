@@ -9,12 +9,16 @@ pub use line::equality_line;
 pub use line::next_line;
 pub use line::refused_line;
 pub use reading::equality_at;
+use streams::Output;
+use streams::write_output;
 use words::word_at;
 ghost use mathlib.Core.Path.{_≡_};
 ghost use Prim.Native.Nat.{_≤_};
 ghost use lib.ListN.{length};
 ghost use Rattle.io.specs.Counts.{Counts};
 ghost use Rattle.constraint_text.specs.Text.{setBytes, refusedText};
+ghost use Rattle.streams.specs.Streams.{Whole};
+ghost use Rattle.constraint_text.specs.Printing.{AllLines};
 ghost use Rattle.constraint_text.specs.Reading.{firstEquality, lines, lineAt};
 
 const HEADER_BYTES: usize = 4 * HEADER;
@@ -65,32 +69,43 @@ pub fn line_at(s: &[u8], k: usize, out: &mut [u8; LINE]) -> usize
     equality_line(equality_at(s, at), out)
 }
 
-fn print_line(s: &[u8], k: usize) -> usize
-    ensures { λ r. ⌜ r ≡ length (lineAt (now (s .entry)) k) ⌝ }
+// All lines were printed, so many; or a write failed, which was said, and no more was written.
+pub enum Printed {
+    Lines(usize),
+    Failed,
+}
+
+fn print_line(s: &[u8], k: usize) -> Output
+    ensures { λ r. ⌜ Whole r (length (lineAt (now (s .entry)) k)) ⌝ }
 {
     let mut line = [0u8; LINE];
     let n = line_at(s, k, &mut line);
-    io::write_all(1, &line[..n]);
-    n
+    write_output(&line[..n])
 }
 
-// The text of a record on standard output; the answer is how many lines. Every line has a byte, so one of none ends them.
-pub fn print_equalities(s: &[u8]) -> usize
-    ensures { λ r. ⌜ r ≡ lines (now (s .entry)) ⌝ }
+// The text of a record on standard output, line by line as `line_at` makes them. Every line has a byte, so one of none ends them.
+pub fn print_equalities(s: &[u8]) -> Printed
+    ensures { λ r. ⌜ AllLines r (lines (now (s .entry))) ⌝ }
 {
     let mut k = 0usize;
-    while print_line(s, k) > 0 {
+    let printed = loop {
+        let line = print_line(s, k);
+        let Output::All(n) = line else {
+            break Printed::Failed;
+        };
+        if n == 0 {
+            break Printed::Lines(k);
+        }
         k += 1;
-    }
-    k
+    };
+    printed
 }
 
-// "refused N", on standard output; the answer is how many bytes.
-pub fn print_refused(number: u32) -> usize
-    ensures { λ r. ⌜ r ≡ length (refusedText number) ⌝ }
+// "refused N", on standard output.
+pub fn print_refused(number: u32) -> Output
+    ensures { λ r. ⌜ Whole r (length (refusedText number)) ⌝ }
 {
     let mut line = [0u8; LINE];
     let n = refused_line(number, &mut line);
-    io::write_all(1, &line[..n]);
-    n
+    write_output(&line[..n])
 }

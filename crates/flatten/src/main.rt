@@ -1,7 +1,7 @@
 // The constraint record of a source record: the record on standard input, its constraint record on standard output; at a
 // refusal nothing there, and "refused" with the number on standard error. Arguments: how many bytes to lend as the store,
-// and how many as the output, in at most 40 digits. One that is missing, or more than can matter, counts as the most that
-// can.
+// and how many as the output. One that is missing, or more than can matter, counts as the most that can. A read or a write that
+// fails is said on standard error.
 use constraint_text::LINE;
 use flatten_entry::buffers::OUTPUT_BYTES;
 use flatten_entry::buffers::STORE_BYTES;
@@ -10,14 +10,19 @@ use flatten_entry::buffers::record_buffer;
 use flatten_entry::buffers::store_buffer;
 use libc::STDERR_FILENO;
 use libc::STDIN_FILENO;
-use libc::STDOUT_FILENO;
 use pass_entry::Answer;
+use streams::Input;
+use streams::Output;
+use streams::close_output;
+use streams::read_input;
+use streams::write_output;
 ghost use Prim.Native.Nat.{_≤_};
 
 // More than can matter to lend.
 const MANY: usize = 100000000;
 
-const DIGITS: usize = 40;
+// The program's own name counts as an argument.
+const MOST_ARGUMENTS: usize = 3;
 
 // The bytes that an argument says to lend.
 enum Lent {
@@ -56,14 +61,14 @@ fn bytes_of(argument: usize) -> Lent {
     if os::arg_count() <= argument {
         return Lent::Bytes(MANY);
     }
-    let mut text = [0u8; DIGITS];
+    let mut text = io::buffer();
     let n = os::arg(argument, &mut text);
     number(&text[..n])
 }
 
 fn print_record(bytes: &[u8]) {
-    if !io::write_all(STDOUT_FILENO, bytes) {
-        os::fail(b"standard output");
+    if let Output::All(n) = write_output(bytes) {
+        close_output(n);
     }
 }
 
@@ -87,7 +92,9 @@ fn print_answer(answer: Answer, out: &[u8]) {
 // The record that is read, with so many bytes of store and output.
 fn flatten_input(store: &mut [u8], out: &mut [u8]) {
     let mut record = record_buffer();
-    let n = io::read_full(STDIN_FILENO, &mut record);
+    let Input::Bytes(n) = read_input(STDIN_FILENO, &mut record) else {
+        return;
+    };
     let answer = flatten_entry::flatten(&record[..n], store, out);
     print_answer(answer, out);
 }
@@ -105,6 +112,10 @@ fn print_usage() {
 }
 
 fn main() {
+    if MOST_ARGUMENTS < os::arg_count() {
+        print_usage();
+        return;
+    }
     let Lent::Bytes(held) = bytes_of(1) else {
         print_usage();
         return;

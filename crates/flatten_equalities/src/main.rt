@@ -1,29 +1,28 @@
-// The equalities of a source record: the record on standard input, the text of its equalities, or its refusal, on standard
-// output, as program `equalities` writes them.
+// The equalities of a source record: the record on standard input or in the file that is named, the text of its equalities, or
+// its refusal, on standard output, as program `equalities` writes them. A read or a write that fails is said on standard error.
+use answer_text::print_answer;
 use flatten_entry::buffers::output_buffer;
 use flatten_entry::buffers::record_buffer;
 use flatten_entry::buffers::store_buffer;
-use libc::STDIN_FILENO;
-use pass_entry::Answer;
+use streams::Input;
+use streams::Opened;
+use streams::open_input;
+use streams::read_input;
 
-fn print_answer(answer: Answer, out: &[u8]) {
-    match answer {
-        Answer::Written(n) => {
-            if n <= out.len() {
-                constraint_text::print_equalities(&out[..n]);
-            }
-        }
-        Answer::Refused(number) => {
-            constraint_text::print_refused(number);
-        }
-    }
+fn flatten_record(record: &[u8]) {
+    let mut store = store_buffer();
+    let mut out = output_buffer();
+    let answer = flatten_entry::flatten(record, &mut store, &mut out);
+    print_answer(answer, &out);
 }
 
 fn main() {
+    let Opened::At(fd) = open_input(b"usage: flatten_equalities [FILE]\n") else {
+        return;
+    };
     let mut record = record_buffer();
-    let n = io::read_full(STDIN_FILENO, &mut record);
-    let mut store = store_buffer();
-    let mut out = output_buffer();
-    let answer = flatten_entry::flatten(&record[..n], &mut store, &mut out);
-    print_answer(answer, &out);
+    let Input::Bytes(n) = read_input(fd, &mut record) else {
+        return;
+    };
+    flatten_record(&record[..n]);
 }

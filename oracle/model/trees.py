@@ -1,39 +1,17 @@
-"""Assembler: modules as Python trees with names (bytes or str) to source records.
+"""Modules as Python trees with names (bytes or str), and their source records.
 
 Trees as in model.py but with names for ids: ('var','x'), ('pvar','x'),
 ('pas', p, 'x'), ('fun', [pats], body), ('match', v, [(pat, expr)...]),
 ('seq', [..]), ('let', pat, val, body)...
 """
-import struct
-from model import NONE, u32
+import os
+import sys
+
+sys.path.append(os.path.join(os.path.dirname(os.path.abspath(__file__)), '..', '..', 'tools'))
+from assemble import Builder
 
 
-class Builder:
-    def __init__(self):
-        self.names = []
-        self.index = {}
-        self.nodes = []
-
-    def name(self, s):
-        if isinstance(s, str):
-            s = s.encode()
-        if s not in self.index:
-            self.index[s] = len(self.names)
-            self.names.append(s)
-        return self.index[s]
-
-    def node(self, k, a=0, b=0, c=0):
-        self.nodes.append((k, u32(a), u32(b), u32(c)))
-        return len(self.nodes) - 1
-
-    def chain(self, items):
-        """items: list of (item, result) node indices, in order. Links are made
-        last to first, since the next link stands before."""
-        nxt = NONE
-        for it, res in reversed(items):
-            nxt = self.node(14, it, nxt, res)
-        return nxt
-
+class Trees(Builder):
     def put(self, e):
         k = e[0]
         p = self.put
@@ -75,30 +53,13 @@ class Builder:
         raise AssertionError(k)
 
 
-def pack(names, pubs, defs, exprs, nodes):
-    w = [len(names), len(pubs), len(defs), len(exprs), len(nodes)]
-    off = 0
-    for n in names:
-        w += [off, len(n)]
-        off += len(n)
-    w += pubs
-    for a, b in defs:
-        w += [a, b]
-    w += exprs
-    for x in nodes:
-        w += list(x)
-    return struct.pack('<%dI' % len(w), *[u32(x) for x in w]) + b''.join(names)
-
-
 def record(pubs, defs, exprs):
-    b = Builder()
-    ps = [b.name(x) for x in pubs]
-    ds = []
+    b = Trees()
+    b.publics += map(b.name, pubs)
     for p, v in defs:
-        pi = b.put(p)
-        ds.append((pi, b.put(v)))
-    es = [b.put(e) for e in exprs]
-    return pack(b.names, ps, ds, es, b.nodes)
+        b.definitions.append((b.put(p), b.put(v)))
+    b.expressions += map(b.put, exprs)
+    return b.bytes()
 
 
 # -- shorthand

@@ -1,0 +1,72 @@
+-- `flatten::flatten_input` meets its contract. Assumes nothing but the contracts of libc.
+use borrow.Author.Needs.{needs}
+use Rattle.streams.proofs.Laws.{bytes-within}
+use Rattle.flatten.proofs.flatten_input.Statement.{statement}
+use Rattle.flatten.proofs.flatten_input.Tie as tie
+use Rattle.flatten.proofs.flatten_input.Reads as reads
+use Rattle.flatten.proofs.flatten_input.Lts as lts
+use Rattle.flatten.proofs.print_answer.Reads as print-answer-reads
+use Rattle.flatten_entry.proofs.buffers.record_buffer.Reads as record-buffer-reads
+use Rattle.flatten_entry.proofs.flatten.Reads as flatten-reads
+use Rattle.streams.proofs.read_input.Reads as read-input-reads
+
+record-buffer-requires : tie.Need-record-buffer-requires
+record-buffer-requires c κs = search needs
+
+slice-aggregate-read-input : tie.Need-slice-aggregate-read-input
+slice-aggregate-read-input c = search needs
+
+read-input-requires : tie.Need-read-input-requires
+read-input-requires c κs = search needs
+
+enum-known-n : tie.Need-enum-known-n
+enum-known-n c = search needs
+
+enum-told : tie.Need-enum-told
+enum-told c = search needs
+
+returns : tie.Need-returns
+returns c = search needs
+
+array-share-prefix-record : tie.Need-array-share-prefix-record
+array-share-prefix-record c =
+    let read = c .before .before .before .before .read-input in
+    bytes-within (read .result) _ _ (c .before .n .given .1) (read .ensures) .0
+
+slice-aggregate-flatten : tie.Need-slice-aggregate-flatten
+slice-aggregate-flatten c =
+    let read = c .before .before .before .before .before .read-input in
+    bytes-within (read .result) _ _ (c .before .before .n .given .1) (read .ensures) .1
+
+flatten-requires : tie.Need-flatten-requires
+flatten-requires c κs = search needs
+
+print-answer-requires : tie.Need-print-answer-requires
+print-answer-requires c κs = search needs
+
+same-length : tie.Need-same-length
+same-length c = search needs
+
+same-length-2 : tie.Need-same-length-2
+same-length-2 c = search needs
+
+returns-2 : tie.Need-returns-2
+returns-2 c = search needs
+
+pub flatten-input-spec : {M : Type 1} → statement M
+flatten-input-spec =
+    tie.close
+    (tie.spec
+    record-buffer-requires
+    slice-aggregate-read-input
+    read-input-requires
+    enum-known-n
+    enum-told
+    returns
+    array-share-prefix-record
+    slice-aggregate-flatten
+    flatten-requires
+    print-answer-requires
+    same-length
+    same-length-2
+    returns-2)
