@@ -30,7 +30,7 @@ use Rattle.numbering.proofs.Lists.{all-member, members, pointwise-map}
 use Rattle.numbering.proofs.Names.{nameOf, falling-named}
 use Rattle.numbering.proofs.Facts.{module-step}
 use Rattle.eval_trees.specs.Evaluation.{Evaluated, flat, refusal, evaluated}
-use Rattle.plain.specs.Plain.{isPlain}
+use Rattle.plain.specs.Plain.{isPlainBody}
 use Rattle.plain.specs.Meaning.{NoDivisorZero}
 use Rattle.plain.specs.Statements.{IsInput, Gives, Known, PlainFlat, SaysTheSame}
 use Rattle.plain.proofs.Agreement.{plain-modules-agree}
@@ -50,7 +50,7 @@ module _ (m : Module) (f : FlatModule) (w : PlainFlat m f) where
   known : (v : ℕ) → Meaning.Known f (Given f) v × Known m f v → Meaning.Known f (IsInput m) v
   known v h n = h .1 (not-given v (defines (f .definitions) v) (h .0 n .1))
 
-  has-inputs : Inputs f (IsInput m)
+  pub has-inputs : Inputs f (IsInput m)
   unfolding counted classifyDefs
   has-inputs =
       let g : Inputs f (Given f) = inputs-given f (w .well-formed) in
@@ -74,7 +74,7 @@ module _ (m : Module) (f : FlatModule) (w : PlainFlat m f) where
       given-by (x ∷ xs) [] p a = absurd p
       given-by (x ∷ xs) (i ∷ is) p a = (a .0 ∙ p .0, given-by xs is (p .1) (a .1))
 
-  to-ids : (ρ : ℕ → ℤ) (υ σ : Assignment) → Gives m ρ υ → Gives m ρ σ → (v : ℕ) → IsInput m v → σ v ≡ υ v
+  pub to-ids : (ρ : ℕ → ℤ) (υ σ : Assignment) → Gives m ρ υ → Gives m ρ σ → (v : ℕ) → IsInput m v → σ v ≡ υ v
   to-ids ρ υ σ g h v k = all-member (λ i. σ i ≡ υ i) v (inputIds (numbered m)) (same (inputs m) (inputIds (numbered m)) g h) k
     where
       same : (xs is : List ℕ) → Pointwise (λ x i. υ i ≡ ρ x) xs is → Pointwise (λ x i. σ i ≡ ρ x) xs is → Statements.All (λ i. σ i ≡ υ i) is
@@ -106,7 +106,7 @@ by-id-gives m ρ =
     pointwise-map (λ x i e. ap (named-or ρ) (falling-named _ _ (s .grown .well .falling) x i e)) (inputs m) (inputIds (numbered m)) (s .free)
 
 -- for an evaluated plain module
-module _ (m : Module) (plain : isPlain m ≡ true) (capacity : ℕ) (f : FlatModule) (e : evaluated capacity (numbered m) ≡ flat f) (c : ConstraintModule) (is-cut : cutOf f ≡ cut c) (ρ : ℕ → ℤ) (elements : (x : ℕ) → elem P (ρ x) ≡ ρ x) (no-zero : NoDivisorZero m ρ) where
+module _ (m : Module) (plain : isPlainBody m ≡ true) (capacity : ℕ) (f : FlatModule) (e : evaluated capacity (numbered m) ≡ flat f) (c : ConstraintModule) (is-cut : cutOf f ≡ cut c) (ρ : ℕ → ℤ) (elements : (x : ℕ) → elem P (ρ x) ≡ ρ x) (no-zero : NoDivisorZero m ρ) where
   υ : Assignment
   υ = by-id m ρ
 

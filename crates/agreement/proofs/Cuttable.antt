@@ -17,7 +17,7 @@ use Rattle.eval_trees.proofs.Good.{false-true, both-true}
 use Rattle.eval_trees.proofs.Helpers.{and-true}
 use Rattle.eval_trees.proofs.Narrow.{NarrowPat, Narrow, Cuttable, NarrowTree}
 use Rattle.eval_trees.proofs.NarrowModule.{NarrowDefinitions, NarrowExpressions, NarrowModule, made-narrow, read-narrow}
-use Rattle.plain.specs.Plain.{isArithmetic, isPlainPattern, isPlainExpr, isEqual, isPlainEquation, arePlainPublics, arePlainDefinitions, arePlainEquations, isPlain}
+use Rattle.plain.specs.Plain.{isArithmetic, isPlainPattern, isPlainExpr, isEqual, isPlainEquation, arePlainDefinitions, arePlainEquations, isPlainBody}
 use Rattle.agreement.specs.Flattened.{passed, flattenedOf}
 
 cuttable-operation : (o : InfixOp) → Cuttable o → cuttable o ≡ true
@@ -135,9 +135,9 @@ module _ (R : Ids) where
   plain-equations [] h = tt
   plain-equations (e ∷ es) h = let u = both-true _ _ h in (plain-equation e (u .0), plain-equations es (u .1))
 
-pub plain-narrow : (m : Module) → isPlain m ≡ true → NarrowModule m
-unfolding isPlain
+pub plain-narrow : (m : Module) → isPlainBody m ≡ true → NarrowModule m
+unfolding isPlainBody
 plain-narrow m h =
     let R = registered (m .names) .globals in
-    let w = both-true (arePlainDefinitions R (m .definitions)) _ (both-true (arePlainPublics R (m .publics)) _ h .1) in
+    let w = both-true (arePlainDefinitions R (m .definitions)) _ h in
     (plain-definitions R (m .definitions) (w .0), plain-equations R (m .expressions) (w .1))

@@ -16,6 +16,7 @@ use Rattle.pass_trees.specs.Passes.{cut}
 use Rattle.eval_trees.proofs.Compute.{answerOf}
 use Rattle.plain.specs.Meaning.{valueOf, NoDivisorZero}
 use Rattle.plain.specs.Meaning
+use Rattle.plain.proofs.Condition.{plain-has-plain-body}
 use Rattle.plain.proofs.Example.{source, is-plain}
 use Rattle.agreement.specs.Flattened.{passed, flattenedOf}
 use Rattle.agreement.specs.Statement.{Agrees}
@@ -46,4 +47,4 @@ unfolding valueOf
 not-zero ρ h = (((tt, tt, h), ((tt, ((tt, tt, tt), (tt, tt, tt)), tt), tt)), ((tt, tt, tt), tt))
 
 pub example : (ρ : ℕ → ℤ) → ((x : ℕ) → elem P (ρ x) ≡ ρ x) → (Value (ρ 0) ≡ Value (pos 0) → ⊥) → Agrees source equalities ρ
-example ρ elements h = agreement source is-plain 65535 equalities is-cut ρ elements (not-zero ρ h)
+example ρ elements h = agreement source (plain-has-plain-body source is-plain) 65535 equalities is-cut ρ elements (not-zero ρ h)

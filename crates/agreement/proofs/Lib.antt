@@ -2,4 +2,5 @@ pub mod Agreement
 pub mod Cases
 pub mod Cuttable
 pub mod Example
+pub mod Never
 pub mod Operators

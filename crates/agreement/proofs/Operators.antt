@@ -4,7 +4,7 @@
 use mathlib.Core.Path.{_≡_, refl}
 use mathlib.Core.Bool.{Bool, true, false, cond}
 use mathlib.Core.List.{List, [], _∷_}
-use Prim.Native.Nat.{ℕ}
+use Prim.Native.Nat.{ℕ, suc}
 use native.Mathlib.Omega.{arith}
 use lib.IntN.{ℤ, pos, negsuc}
 use lib.Dec.{eqb}
@@ -17,8 +17,8 @@ use Rattle.numbering.specs.Numbering.{found, sameText, named, registered}
 use Rattle.pass_trees.specs.Passes
 use Rattle.pass_trees.specs.Passes.{Outcome, cut, refused}
 use Rattle.eval_trees.proofs.Compute.{answerOf}
-use Rattle.plain.specs.Plain.{isArithmetic, isFree, isPlainName, isPlainPattern, isPlainExpr, isEqual, isPlainEquation, arePlainPublics, arePlainDefinitions, arePlainEquations, isPlain}
-use Rattle.plain.specs.Meaning.{write, through, valueOf, sidesOf, sides, start, Holds}
+use Rattle.plain.specs.Plain.{isArithmetic, isFree, isPlainName, isPlainPattern, isPlainExpr, isEqual, isPlainEquation, arePlainPublics, arePlainDefinitions, arePlainEquations, isPlainBody, isPlain}
+use Rattle.plain.specs.Meaning.{write, through, valueOf, sidesOf, sides, start, Holds, NoDivisorZero}
 use Rattle.plain.specs.Meaning
 use Rattle.agreement.specs.Flattened.{passed, flattenedOf}
 
@@ -59,7 +59,7 @@ operators = record {
 }
 
 pub is-plain : isPlain operators ≡ true
-unfolding isPlain isArithmetic isFree isPlainName isPlainPattern isPlainExpr isEqual isPlainEquation arePlainPublics arePlainDefinitions arePlainEquations found sameText named registered
+unfolding isPlain isPlainBody isArithmetic isFree isPlainName isPlainPattern isPlainExpr isEqual isPlainEquation arePlainPublics arePlainDefinitions arePlainEquations found sameText named registered
 is-plain = refl
 
 -- it is accepted
@@ -101,3 +101,32 @@ not-fulfilled h =
     let q : Value (pos 14) ≡ Value (w .0) = w .2 in
     let k : _≡_ {A = ℕ} 16 14 = cc in
     omega arith
+
+-- and where a is 7 no divisor is zero: `|` by 0 is none
+not-0 : (x : ℕ) → Value (pos (suc x)) ≡ Value (pos 0) → ⊥
+not-0 x e = let k : _≡_ {A = ℕ} (suc x) 0 = cc in omega arith
+
+-- the parts of a list's fact, one after the other
+abbrev _also_ : {A B : Type 0} → A → B → A × B
+x also y = (x, y)
+
+infixr 60 _also_
+pub not-zero : NoDivisorZero operators (inputs (pos 7))
+unfolding answerOf inputs update onValues negated write through valueOf Meaning.defined
+not-zero =
+    let none : Unit {0} × Unit {0} × Unit {0} = (tt, tt, tt) in (
+      tt also none also (none, none) also (tt, tt, not-0 6) also tt,
+      (((tt, tt, not-0 1), tt, tt), tt, tt)
+          also ((tt, none, tt), tt, tt)
+          also (none, tt, tt)
+          also (none, tt, tt)
+          also (none, tt, tt)
+          also ((tt, tt, λ n e. not-0 6), tt, tt)
+          also (((tt, tt, λ n e. not-0 6), tt, tt), tt, tt)
+          also ((tt, tt, not-0 1), tt, tt)
+          also ((tt, tt, not-0 1), tt, tt)
+          also none
+          also none
+          also none
+          also tt,
+    )

@@ -30,8 +30,9 @@ use Rattle.eval_trees.proofs.NarrowModule.{NarrowModule, made-narrow, read-narr
 use Rattle.eval_entry.specs.Source.{capacityOf}
 use Rattle.agreement.specs.Flattened.{passed, flattenedOf}
 use Rattle.agreement.proofs.Agreement.{agreement}
+use Rattle.agreement.proofs.Never.{never-a-second}
 use Rattle.flatten_entry.specs.Flatten.{flattenedRead, flattened}
-use Rattle.flatten_entry.specs.Statement.{FlattenAgrees, WrittenReadBack}
+use Rattle.flatten_entry.specs.Statement.{FlattenAgrees, FlattenNeverASecond, WrittenReadBack}
 use Rattle.flatten_entry.proofs.Answers.{refused-cut}
 
 written-path : (k n : ℕ) → Written k ≡ Written n → k ≡ n
@@ -95,12 +96,21 @@ written-read-back b out len n e =
     let back : constraintOf (take n (outputFor out (flattened b len))) ≡ w .list = ap constraintOf (w .bytes) ∙ read-back (w .list) (flattened-signed b len (w .list) (w .is-cut)) in
     (w .is-cut ∙ ap cut (sym back), ap constraintBytes back ∙ sym (w .bytes))
 
+module-flattened :
+    (b : List ℕ) (len : ℕ) (m : Module) → sourceOf b ≡ Read.module-of m →
+    {c : ConstraintModule} → flattened b len ≡ cut c → flattenedOf (capacityOf len) m ≡ cut c
+unfolding flattened flattenedRead
+module-flattened b len m r q = sym (ap (flattenedRead (capacityOf len)) r) ∙ q
+
 -- THE THEOREM
 pub flatten-agrees : FlattenAgrees
-unfolding flattened flattenedRead
 flatten-agrees b out len n m e r plain =
     let w = written-read-back b out len n e in
-    (w .1, λ ρ elements no-zero. agreement m plain (capacityOf len) (constraintOf (take n (outputFor out (flattened b len)))) (module-flattened (w .0)) ρ elements no-zero)
-  where
-    module-flattened : {c : ConstraintModule} → flattened b len ≡ cut c → flattenedOf (capacityOf len) m ≡ cut c
-    module-flattened q = sym (ap (flattenedRead (capacityOf len)) r) ∙ q
+    let list = constraintOf (take n (outputFor out (flattened b len))) in
+    (w .1, λ ρ elements no-zero. agreement m plain (capacityOf len) list (module-flattened b len m r (w .0)) ρ elements no-zero)
+
+-- NEVER A SECOND SOLUTION
+pub flatten-never-a-second : FlattenNeverASecond
+flatten-never-a-second b out len n m e r plain ρ =
+    let w = written-read-back b out len n e in
+    never-a-second m plain (capacityOf len) (constraintOf (take n (outputFor out (flattened b len)))) (module-flattened b len m r (w .0)) ρ

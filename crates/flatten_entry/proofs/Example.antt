@@ -33,8 +33,9 @@ use Rattle.pass_trees.specs.Passes.{Outcome, refused}
 use Rattle.pass_entry.specs.declared.Answer.the-variants.{Written}
 use Rattle.pass_entry.specs.Cut.{answerFor, outputFor}
 use Rattle.numbering.specs.Numbering.{found, sameText, named, registered}
-use Rattle.plain.specs.Plain.{isPlain, isArithmetic, isFree, isPlainName, isPlainPattern, isPlainExpr, isEqual, isPlainEquation, arePlainPublics, arePlainDefinitions, arePlainEquations}
+use Rattle.plain.specs.Plain.{isPlain, isPlainBody, isArithmetic, isFree, isPlainName, isPlainPattern, isPlainExpr, isEqual, isPlainEquation, arePlainPublics, arePlainDefinitions, arePlainEquations}
 use Rattle.plain.specs.Meaning.{write, valueOf, NoDivisorZero}
+use Rattle.plain.proofs.Condition.{plain-has-plain-body}
 use Rattle.agreement.specs.Statement.{Agrees}
 use Rattle.flatten_entry.specs.Flatten.{flattened}
 use Rattle.flatten_entry.proofs.Agreement.{flatten-agrees}
@@ -54,7 +55,7 @@ unfolding wordAt bytesOf every total rows pick Layout.counted listed offsetOf le
 is-read = refl
 
 is-plain : isPlain module-text ≡ true
-unfolding isPlain isArithmetic isFree isPlainName isPlainPattern isPlainExpr isEqual isPlainEquation arePlainPublics arePlainDefinitions arePlainEquations found sameText named registered
+unfolding isPlain isPlainBody isArithmetic isFree isPlainName isPlainPattern isPlainExpr isEqual isPlainEquation arePlainPublics arePlainDefinitions arePlainEquations found sameText named registered
 is-plain = refl
 
 is-cut : flattened product 1048560 ≡ product-cut
@@ -79,4 +80,4 @@ unfolding valueOf write update
 not-zero ρ h = ((((tt, tt, tt), tt, tt), ((tt, tt, h), tt)), ((tt, tt, tt), tt))
 
 pub example : (out : List ℕ) → 112 ≤ length out → (ρ : ℕ → ℤ) → ((x : ℕ) → elem P (ρ x) ≡ ρ x) → (Value (ρ 2) ≡ Value (pos 0) → ⊥) → Agrees module-text (constraintOf (take 112 (outputFor out (flattened product 1048560)))) ρ
-example out l ρ elements h = flatten-agrees product out 1048560 112 module-text (is-written out l) is-read is-plain .1 ρ elements (not-zero ρ h)
+example out l ρ elements h = flatten-agrees product out 1048560 112 module-text (is-written out l) is-read (plain-has-plain-body module-text is-plain) .1 ρ elements (not-zero ρ h)

@@ -3,7 +3,10 @@ use Prim.Native.Nat.{ℕ}
 use mathlib.Core.List.{List}
 use lib.ListN.{replicate}
 
--- one byte more than the longest record has; 16 bytes for each node that a store may hold; no constraint record is longer
+-- the longest source record, and one byte more; 16 bytes for each node that a store may hold; no constraint record is longer
+abbrev pub LONGEST-SOURCE : ℕ
+LONGEST-SOURCE = 76052
+
 abbrev pub RECORD-BYTES : ℕ
 RECORD-BYTES = 76053
 

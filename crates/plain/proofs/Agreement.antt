@@ -24,19 +24,18 @@ use Rattle.numbering.proofs.Lists.{all-append, all-split, all-map, all-member, 
 use Rattle.numbering.proofs.Names.{none-some, falling-bounded, falling-named, registered-well}
 use Rattle.numbering.proofs.Facts.{publics-step, definitions-step, empty-scope, module-step}
 use Rattle.eval_trees.specs.Evaluation.{flat, evaluated}
-use Rattle.plain.specs.Plain.{arePlainPublics, arePlainDefinitions, isPlain}
+use Rattle.plain.specs.Plain.{arePlainDefinitions, isPlainBody}
 use Rattle.plain.specs.Meaning.{Equal-sides, sides, start, NoDivisorZero}
 use Rattle.plain.specs.Meaning
 use Rattle.plain.specs.Statements.{IsInput, Gives, PlainFlat, SaysTheSame, PlainModulesAgree}
-use Rattle.plain.proofs.Powers.{value-path}
-use Rattle.plain.proofs.Values.{false-true, Canonical, element-path, table}
+use Rattle.plain.proofs.Values.{false-true, table}
 use Rattle.plain.proofs.Modules.{ScopedDefinitions, ScopedEquations, flatSides, InTurnValued, evaluated-kept}
 use Rattle.plain.proofs.Order.{Input, not-true}
 use Rattle.plain.proofs.OrderModules.{SpansDefinitions, SpansEquations, InOrder, order-kept, input-undefined, ordered, known, ids-below, defined-ids, every-map}
 use Rattle.plain.proofs.OrderModules
 use Rattle.plain.proofs.Numbered.{both-true, Named, plain-definitions, plain-equations, PlainDefinitions, PlainEquations, Any, rises-split, pointwise-split, free-definitions, free-equations, numbered-definitions, numbered-equations, definitions-scoped, equations-scoped, definitions-spans, equations-spans, Means, Agreed, definitions-mean, equations-mean}
 use Rattle.plain.proofs.Working.{worked-elements, worked-keeps, definitions-hold, no-zero-in-turn, sides-hold}
-use Rattle.plain.proofs.Divisors.{definitions-valued, equations-valued}
+use Rattle.plain.proofs.Divisors.{definitions-valued, equations-valued, start-canonical}
 
 all-any : (xs : List ℕ) → All Any xs
 all-any [] = tt
@@ -47,17 +46,17 @@ rules-all : (Q : ℕ → Type 0) (xs : List ℕ) → All Q xs → Rules.All Q xs
 rules-all Q [] h = tt
 rules-all Q (x ∷ xs) h = (h .0, rules-all Q xs (h .1))
 
-module _ (m : Module) (plain : isPlain m ≡ true) where
-  R : Ids
+module _ (m : Module) (plain : isPlainBody m ≡ true) where
+  abbrev pub R : Ids
   R = registered (m .names) .globals
 
-  definitions-plain : PlainDefinitions (Named R) (m .definitions)
-  unfolding isPlain R
-  definitions-plain = plain-definitions R (m .definitions) (both-true (arePlainDefinitions R (m .definitions)) _ (both-true (arePlainPublics R (m .publics)) _ plain .1) .0)
+  pub definitions-plain : PlainDefinitions (Named R) (m .definitions)
+  unfolding isPlainBody
+  definitions-plain = plain-definitions R (m .definitions) (both-true (arePlainDefinitions R (m .definitions)) _ plain .0)
 
-  equations-plain : PlainEquations (Named R) (m .expressions)
-  unfolding isPlain R
-  equations-plain = plain-equations R (m .expressions) (both-true (arePlainDefinitions R (m .definitions)) _ (both-true (arePlainPublics R (m .publics)) _ plain .1) .1)
+  pub equations-plain : PlainEquations (Named R) (m .expressions)
+  unfolding isPlainBody
+  equations-plain = plain-equations R (m .expressions) (both-true (arePlainDefinitions R (m .definitions)) _ plain .1)
 
   names-plain : All (Named R) (inputs m)
   unfolding inputs freeInModule
@@ -84,7 +83,7 @@ module _ (m : Module) (plain : isPlain m ≡ true) where
 
   -- an input's id is below the next id, and not below 9
   inputs-low : All (λ i. (i < N) × (9 ≤ i)) (inputIds (numbered m))
-  unfolding N numbered registered R
+  unfolding N numbered registered
   inputs-low =
       let s = module-step m .rest in
       zipped (λ x i. found x (namesOf m .globals) ≡ some i) (Named R) (λ i. (i < namesOf m .next) × (9 ≤ i))
@@ -190,9 +189,6 @@ module _ (m : Module) (plain : isPlain m ≡ true) where
     }
 
     module _ (ρ : ℕ → ℤ) (elements : (x : ℕ) → elem P (ρ x) ≡ ρ x) (no-zero : NoDivisorZero m ρ) (υ : Assignment) (υ-elements : Elements υ) (gives : Gives m ρ υ) where
-      start-canonical : Canonical (start ρ)
-      start-canonical x z h = element-path (ρ x) z (value-path (ρ x) z h) (elements x)
-
       agreed : Pointwise (Agreed (start ρ) (table υ)) (inputs m) (inputIds (numbered m))
       agreed = pointwise-map (λ x i h. ap Value h) (inputs m) (inputIds (numbered m)) gives
 
@@ -213,7 +209,7 @@ module _ (m : Module) (plain : isPlain m ≡ true) where
           let k = pointwise-split (Agreed (start ρ) (table υ)) _ (freeInDefinitions [] (m .definitions)) (freeInExpressions (defining (m .definitions) []) (m .expressions)) _ _ (ds .step .free) agreed in
           let dm = definitions-mean definitions-plain [] [] [] g (start ρ) (table υ) (start ρ) (table υ) (p .grown .well) (empty-scope g) nothing-bound (k .0) in
           let em = equations-mean equations-plain (defining (m .definitions) []) _ _ _ (Meaning.defined (start ρ) (m .definitions)) (Meaning.defined (table υ) (numbered m .definitions)) (start ρ) (table υ) (ds .step .grown .well) (ds .scope) (dm .means) (k .1) in
-          let dv = definitions-valued definitions-plain (start ρ) start-canonical (λ x. (ρ x, refl)) (no-zero .0) in
+          let dv = definitions-valued definitions-plain (start ρ) (start-canonical ρ elements) (λ x. (ρ x, refl)) (no-zero .0) in
           let ev = equations-valued equations-plain (Meaning.defined (start ρ) (m .definitions)) (dv .canonical) (dv .total) (no-zero .1) in
           let kp = evaluated-kept bound N beyond υ υ-elements 256 capacity (numbered m) Δ f refl (intrinsic 0 (omega arith)) (intrinsic 2 (omega arith)) (intrinsic 5 (omega arith)) scoped-definitions scoped-equations (dm .valued (dv .valued)) (em .valued ev) e in
           record { in-turn = kp .in-turn; same-sides = kp .same-sides ∙ em .means }

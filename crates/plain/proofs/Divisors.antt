@@ -1,4 +1,4 @@
--- Where no divisor is zero, every expression of a plain module has a value.
+-- Where no divisor is zero, every expression of a plain module has a value; and where they have, no divisor is zero.
 use mathlib.Core.Path.{_≡_, refl, sym, ap, subst, subst₂, _∙_}
 use mathlib.Core.Bool.{Bool, true, false, cond}
 use mathlib.Core.List.{List}
@@ -12,18 +12,17 @@ use Rattle.field.specs.declared.InfixOp.the-variants.{Divide, DivideZ, Multiply
 use Rattle.field.specs.Prime.{P}
 use Rattle.field.specs.Element.{res, elem}
 use Rattle.field.specs.Operations.{pick, quotient, divideOf, divideZOf, intDivideOf, moduloOf, raised, exponentiateOf, infixOf}
-use Rattle.field.proofs.Elements.{elem-zero}
-use Rattle.field.proofs.ByResidues.{pick-else}
+use Rattle.field.proofs.Elements.{elem-zero, res-zero}
+use Rattle.field.proofs.ByResidues.{pick-zero, pick-else}
 use Rattle.source.specs.Trees.{Pat, Expr}
 use Rattle.flat.specs.Rules.{All}
 use Rattle.flat.specs.Meaning.{update}
 use Rattle.plain.specs.Plain.{isArithmetic}
-use Rattle.plain.specs.Meaning.{Table, write, valueOf, sidesOf, NotZeroAt, NotZeroIn, NotZeroInDefinitions}
+use Rattle.plain.specs.Meaning.{Table, write, valueOf, sidesOf, start, NotZeroAt, NotZeroIn, NotZeroInDefinitions, Valued, DefinitionsValued, EquationsValued}
 use Rattle.plain.specs.Meaning
-use Rattle.plain.proofs.Powers.{P-above, value-path}
-use Rattle.plain.proofs.Values.{false-true, on-values, negated-value, through-value, writing, Canonical, element-path, writing-canonical, value-element}
-use Rattle.plain.proofs.Terms.{Valued}
-use Rattle.plain.proofs.Modules.{DefinitionsValued, EquationsValued}
+use Rattle.plain.proofs.Powers.{P-above, value-path, nothing-value}
+use Rattle.plain.proofs.Values.{false-true, on-values, negated-value, through-value, through-back, negated-back, values-back, writing, Canonical, element-path, writing-canonical, value-element}
+use Rattle.plain.proofs.Working.{divisor-not-zero}
 use Rattle.plain.proofs.Numbered.{Plainly, pConstant, pVariable, pNegate, pBinary, pLet, PlainDefinitions, pNone, pDefinition, PlainEquations, pEnd, pEquation}
 
 not-residue : (y : ℤ) → elem P y ≡ y → (y ≡ pos 0 → ⊥) → res P y ≡ 0 → ⊥
@@ -101,3 +100,67 @@ definitions-valued (pDefinition {x = x} {v = d} {ds = more} p ps) t c h n =
     (subst (λ (o : Answer). Canonical (writing x o t)) (sym (u .1)) (writing-elements x z t c (value-element d t c z (u .1))))
     (subst (λ (o : Answer). Total (writing x o t)) (sym (u .1)) (writing-total x z t h)) (n .1) in
     record { valued = (u, rest .valued); canonical = rest .canonical; total = rest .total }
+
+pub start-canonical : (ρ : ℕ → ℤ) → ((x : ℕ) → elem P (ρ x) ≡ ρ x) → Canonical (start ρ)
+start-canonical ρ elements x z h = element-path (ρ x) z (value-path (ρ x) z h) (elements x)
+
+-- ---- the other way round
+
+-- 0 has no negative power
+power-not-zero : (x y z : ℤ) → elem P y ≡ y → infixOf P Exponentiate x y ≡ Value z → NotZeroAt Exponentiate (Value x) (Value y)
+unfolding infixOf exponentiateOf raised
+power-not-zero x y z cy h n e f =
+    let power : raised P x (negsuc n) ≡ Value z = ap (raised P x) (sym (cy ∙ value-path y (negsuc n) e)) ∙ h in
+    let of-zero : raised P (pos 0) (negsuc n) ≡ Value z = ap (λ (k : ℤ). raised P k (negsuc n)) (sym (value-path x (pos 0) f)) ∙ power in
+    nothing-value z (sym (pick-zero (res P (pos 0)) _ _ (res-zero P P-above)) ∙ of-zero)
+
+operation-not-zero : (o : InfixOp) (x y z : ℤ) → elem P y ≡ y → infixOf P o x y ≡ Value z → NotZeroAt o (Value x) (Value y)
+operation-not-zero Divide x y z cy h = divisor-not-zero Divide x y z h
+operation-not-zero DivideZ x y z cy h = divisor-not-zero DivideZ x y z h
+operation-not-zero Multiply x y z cy h = divisor-not-zero Multiply x y z h
+operation-not-zero Add x y z cy h = divisor-not-zero Add x y z h
+operation-not-zero Subtract x y z cy h = divisor-not-zero Subtract x y z h
+operation-not-zero Equal x y z cy h = divisor-not-zero Equal x y z h
+operation-not-zero Exponentiate x y z cy h = power-not-zero x y z cy h
+operation-not-zero IntDivide x y z cy h = divisor-not-zero IntDivide x y z h
+operation-not-zero Modulo x y z cy h = divisor-not-zero Modulo x y z h
+
+expr-not-zero : {W : ℕ → Type 0} {e : Expr} → Plainly W e → (t : Table) → Canonical t → (z : ℤ) → valueOf t e ≡ Value z → NotZeroIn t e
+unfolding valueOf write
+expr-not-zero pConstant t c z h = tt
+expr-not-zero (pVariable q) t c z h = tt
+expr-not-zero (pNegate {a = a} p) t c z h = let w = negated-back (valueOf t a) z h in expr-not-zero p t c (w .at) (w .arg)
+expr-not-zero (pBinary {o = o} {a = a} {b = b} ar p q) t c z h =
+    let w = values-back o (valueOf t a) (valueOf t b) z h in
+    let n = operation-not-zero o (w .x) (w .y) z (value-element b t c (w .y) (w .second)) (w .result) in
+    (expr-not-zero p t c (w .x) (w .first), expr-not-zero q t c (w .y) (w .second), subst₂ (NotZeroAt o) (sym (w .first)) (sym (w .second)) n)
+expr-not-zero (pLet {x = x} {v = d} {b = b} p q) t c z h =
+    let w = through-back (valueOf t d) (λ y. valueOf (writing x (Value y) t) b) z h in
+    let body = expr-not-zero q (writing x (Value (w .at)) t) (writing-elements x (w .at) t c (value-element d t c (w .at) (w .arg))) z (w .result) in
+    (expr-not-zero p t c (w .at) (w .arg), subst (λ (o : Answer). NotZeroIn (writing x o t) b) (sym (w .arg)) body)
+
+pub equations-not-zero :
+    {W : ℕ → Type 0} {es : List Expr} → PlainEquations W es → (t : Table) → Canonical t →
+    EquationsValued t es → All (NotZeroIn t) es
+unfolding sidesOf
+equations-not-zero pEnd t c v = tt
+equations-not-zero (pEquation p q more) t c v =
+    let first = v .0 in
+    let second = v .1 in
+    ((expr-not-zero p t c (first .0) (first .1), expr-not-zero q t c (second .0) (second .1), tt), equations-not-zero more t c (v .2))
+
+pub record Undivided (t : Table) (ds : List (Pat × Expr)) : Type 0 where
+  pub not-zero : NotZeroInDefinitions t ds
+  pub canonical : Canonical (Meaning.defined t ds)
+
+pub definitions-not-zero :
+    {W : ℕ → Type 0} {ds : List (Pat × Expr)} → PlainDefinitions W ds → (t : Table) → Canonical t →
+    DefinitionsValued t ds → Undivided t ds
+unfolding Meaning.defined write
+definitions-not-zero pNone t c v = record { not-zero = tt; canonical = c }
+definitions-not-zero (pDefinition {x = x} {v = d} p ps) t c v =
+    let first = v .0 in
+    let z = first .0 in
+    let next = subst (λ (o : Answer). Canonical (writing x o t)) (sym (first .1)) (writing-elements x z t c (value-element d t c z (first .1))) in
+    let rest = definitions-not-zero ps (writing x (valueOf t d) t) next (v .1) in
+    record { not-zero = (expr-not-zero p t c z (first .1), rest .not-zero); canonical = rest .canonical }

@@ -16,11 +16,12 @@ use Rattle.flat.specs.Meaning.{update, Assignment, Elements, onValues, negated,
 use Rattle.numbering.specs.Numbering.{found, sameText, named, registered}
 use Rattle.eval_trees.specs.Evaluation.{flat, evaluated}
 use Rattle.eval_trees.proofs.Compute.{answerOf}
-use Rattle.plain.specs.Plain.{isArithmetic, isFree, isPlainName, isPlainPattern, isPlainExpr, isEqual, isPlainEquation, arePlainPublics, arePlainDefinitions, arePlainEquations, isPlain}
+use Rattle.plain.specs.Plain.{isArithmetic, isFree, isPlainName, isPlainPattern, isPlainExpr, isEqual, isPlainEquation, arePlainPublics, arePlainDefinitions, arePlainEquations, isPlainBody, isPlain}
 use Rattle.plain.specs.Meaning.{write, through, valueOf, sidesOf, sides, start, NoDivisorZero}
 use Rattle.plain.specs.Meaning
 use Rattle.plain.specs.Statements.{Gives, PlainFlat, SaysTheSame}
 use Rattle.plain.proofs.Agreement.{plain-modules-agree}
+use Rattle.plain.proofs.Condition.{plain-has-plain-body}
 
 -- x is name 0, y 1, w 2
 abbrev pub source : Module
@@ -53,13 +54,40 @@ made = record {
 }
 
 pub is-plain : isPlain source ≡ true
-unfolding isPlain isArithmetic isFree isPlainName isPlainPattern isPlainExpr isEqual isPlainEquation arePlainPublics arePlainDefinitions arePlainEquations found sameText named registered
+unfolding isPlain isPlainBody isArithmetic isFree isPlainName isPlainPattern isPlainExpr isEqual isPlainEquation arePlainPublics arePlainDefinitions arePlainEquations found sameText named registered
 is-plain = refl
 
 -- a match is not plain
 match-not-plain : isPlain (record { names = []; publics = []; definitions = []; expressions = matching (constant (pos 1)) (arm (variableP 0) (variable 0) noArm) ∷ [] }) ≡ false
-unfolding isPlain isArithmetic isFree isPlainName isPlainPattern isPlainExpr isEqual isPlainEquation arePlainPublics arePlainDefinitions arePlainEquations found sameText named registered
+unfolding isPlain isPlainBody isArithmetic isFree isPlainName isPlainPattern isPlainExpr isEqual isPlainEquation arePlainPublics arePlainDefinitions arePlainEquations found sameText named registered
 match-not-plain = refl
+
+-- a public that is fresh: pub fresh; x = 1. The test on publics alone turns it down, and the theorem is about it too
+abbrev fresh-public : Module
+fresh-public = record {
+  names = (102 ∷ 114 ∷ 101 ∷ 115 ∷ 104 ∷ []) ∷ (120 ∷ []) ∷ [];
+  publics = 0 ∷ [];
+  definitions = [];
+  expressions = binary Equal (variable 1) (constant (pos 1)) ∷ [];
+}
+
+fresh-public-not-plain : isPlain fresh-public ≡ false
+unfolding isPlain isPlainBody isArithmetic isFree isPlainName isPlainPattern isPlainExpr isEqual isPlainEquation arePlainPublics arePlainDefinitions arePlainEquations found sameText named registered
+fresh-public-not-plain = refl
+
+fresh-public-body : isPlainBody fresh-public ≡ true
+unfolding isPlainBody isArithmetic isFree isPlainName isPlainPattern isPlainExpr isEqual isPlainEquation arePlainDefinitions arePlainEquations found sameText named registered
+fresh-public-body = refl
+
+abbrev fresh-public-made : FlatModule
+fresh-public-made = record { next = 10; publics = 0 ∷ []; provers = []; definitions = []; equations = record { left = Flat.variable 9; right = Flat.constant (pos 1) } ∷ [] }
+
+fresh-public-makes : evaluated 65535 (Rattle.numbering.specs.Numbering.numbered fresh-public) ≡ flat fresh-public-made
+unfolding answerOf
+fresh-public-makes = refl
+
+fresh-public-shape : PlainFlat fresh-public fresh-public-made
+fresh-public-shape = plain-modules-agree fresh-public fresh-public-body 65535 fresh-public-made fresh-public-makes .0
 
 makes : evaluated 65535 (Rattle.numbering.specs.Numbering.numbered source) ≡ flat made
 unfolding answerOf
@@ -79,8 +107,8 @@ unfolding answerOf update onValues negated value orZero workedOut
 flat-at-two = refl
 
 pub shape : PlainFlat source made
-shape = plain-modules-agree source is-plain 65535 made makes .0
+shape = plain-modules-agree source (plain-has-plain-body source is-plain) 65535 made makes .0
 
 -- for every x that is not 0
 pub agrees : (ρ : ℕ → ℤ) → ((x : ℕ) → elem P (ρ x) ≡ ρ x) → NoDivisorZero source ρ → (υ : Assignment) → Elements υ → Gives source ρ υ → SaysTheSame source ρ made υ (workedOut (made .definitions) υ)
-agrees = plain-modules-agree source is-plain 65535 made makes .1
+agrees = plain-modules-agree source (plain-has-plain-body source is-plain) 65535 made makes .1

@@ -10,4 +10,6 @@ pub mod Numbered
 pub mod Working
 pub mod Divisors
 pub mod Agreement
+pub mod OnInputs
+pub mod Condition
 pub mod Example

@@ -25,10 +25,10 @@ use Rattle.eval_trees.specs.Flatten.{flattenEquals, equates}
 use Rattle.eval_trees.specs.Evaluation.{evaluate, step, evaluateInfix, evaluateBinding, evaluateDef, evaluateDefs, evaluateExprs, evaluateModule, begin, flat, refusal, finished, evaluatedBy}
 use Rattle.eval_trees.proofs.Runs.{refused-gives, bind-case, then-case, bind-known, return-back, past, got, make-same, Equated, equation-back, set-back}
 use Rattle.eval_trees.proofs.Environments.{insert-same, insert-other}
-use Rattle.plain.specs.Meaning.{Table, write, valueOf, sidesOf, sides}
+use Rattle.plain.specs.Meaning.{Table, write, valueOf, sidesOf, sides, Valued, DefinitionsValued, EquationsValued}
 use Rattle.plain.specs.Meaning
 use Rattle.plain.proofs.Values.{false-true, writing, table, some-path, none-some, flat-value}
-use Rattle.plain.proofs.Terms.{run, Valued, RunValued, now, Term, ofConstant, ofVariable, ofNegate, Scoped, term-up, Core, Grew, Unbound, SameBindings, Agree, grew-trans, bindings-trans, unbound-same, kept-value, agree-grew, agree-kept}
+use Rattle.plain.proofs.Terms.{run, RunValued, now, Term, ofConstant, ofVariable, ofNegate, Scoped, term-up, Core, Grew, Unbound, SameBindings, Agree, grew-trans, bindings-trans, unbound-same, kept-value, agree-grew, agree-kept}
 use Rattle.plain.proofs.Lets.{Binds, binding-result, joined, key}
 
 -- definitions in order, each in the scope of those before; Δ is the scope behind them
@@ -39,15 +39,6 @@ pub data ScopedDefinitions (B : ℕ → Bool) (k : ℕ) : List ℕ → List (Pat
 pub data ScopedEquations (B : ℕ → Bool) (k : ℕ) (Γ : List ℕ) : List Expr → Type 0 where
   noEquation : ScopedEquations B k Γ []
   equation : {a b : Expr} {es : List Expr} → Scoped B k Γ a → Scoped B k Γ b → ScopedEquations B k Γ es → ScopedEquations B k Γ (binary Equal a b ∷ es)
-
--- every definition, and both sides of every equation, have a value
-abbrev pub DefinitionsValued : Table → List (Pat × Expr) → Type 0
-DefinitionsValued t [] = Unit {0}
-DefinitionsValued t (d ∷ ds) = Valued (valueOf t (d .1)) × DefinitionsValued (write (d .0) (valueOf t (d .1)) t) ds
-
-abbrev pub EquationsValued : Table → List Expr → Type 0
-EquationsValued t [] = Unit {0}
-EquationsValued t (e ∷ es) = Valued (sidesOf t e .0) × Valued (sidesOf t e .1) × EquationsValued t es
 
 -- the values of both sides of each flat equation
 unfoldable pub flatSides : Assignment → List Equation → List (Answer × Answer)

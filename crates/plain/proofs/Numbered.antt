@@ -22,11 +22,11 @@ use Rattle.numbering.proofs.Lists.{all-append, all-split, Rises}
 use Rattle.numbering.proofs.Names.{entry-case, Well}
 use Rattle.numbering.proofs.Facts.{has, Scope, scope-up, pattern-step, expr-step}
 use Rattle.plain.specs.Plain.{isArithmetic, isFree, isPlainName, isPlainPattern, isPlainExpr, isEqual, isPlainEquation, arePlainDefinitions, arePlainEquations}
-use Rattle.plain.specs.Meaning.{Table, write, through, valueOf, sidesOf, sides}
+use Rattle.plain.specs.Meaning.{Table, write, through, valueOf, sidesOf, sides, DefinitionsValued, EquationsValued}
 use Rattle.plain.specs.Meaning
 use Rattle.plain.proofs.Values.{false-true, writing, update-same, update-other}
 use Rattle.plain.proofs.Terms.{Scoped, sConstant, sBound, sFree, sNegate, sBinary, sLet}
-use Rattle.plain.proofs.Modules.{ScopedDefinitions, noDefinition, definition, ScopedEquations, noEquation, equation, DefinitionsValued, EquationsValued}
+use Rattle.plain.proofs.Modules.{ScopedDefinitions, noDefinition, definition, ScopedEquations, noEquation, equation}
 use Rattle.plain.proofs.Order.{Spans, spansConstant, spansVariable, spansNegate, spansBinary, spansLet}
 use Rattle.plain.proofs.OrderModules.{SpansDefinitions, spansNone, spansDefinition, SpansEquations, spansEnd, spansEquation}
 

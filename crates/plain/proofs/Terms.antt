@@ -27,7 +27,7 @@ use Rattle.eval_trees.specs.Simplify.{infixOp}
 use Rattle.eval_trees.proofs.Runs.{Same}
 use Rattle.eval_trees.proofs.Helpers.{infix-case}
 use Rattle.plain.specs.Plain.{isArithmetic}
-use Rattle.plain.specs.Meaning.{Table, valueOf}
+use Rattle.plain.specs.Meaning.{Table, valueOf, Valued}
 use Rattle.plain.proofs.Powers.{P-above, value-path}
 use Rattle.plain.proofs.Values.{false-true, negated-back, values-back, Canonical, element-path, table}
 
@@ -35,9 +35,6 @@ use Rattle.plain.proofs.Values.{false-true, negated-back, values-back, 
 unfoldable pub run : Assignment → List Definition → Assignment
 run t [] = t
 run t (d ∷ ds) = update (run t ds) (d .id) (orZero (value (run t ds) (d .right)))
-
-abbrev pub Valued : Answer → Type 0
-Valued a = (z : ℤ) × (a ≡ Value z)
 
 abbrev pub RunValued : Assignment → List Definition → Type 0
 RunValued t [] = Unit {0}

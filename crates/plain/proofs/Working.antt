@@ -71,7 +71,7 @@ definitions-hold (d ∷ ds) ρ o w = (
 at-zero : (o : InfixOp) (x y : ℤ) (z : ℤ) → y ≡ pos 0 → infixOf P o x y ≡ Value z → infixOf P o x (pos 0) ≡ Value z
 at-zero o x y z e h = ap (infixOf P o x) (sym e) ∙ h
 
-divisor-not-zero : (o : InfixOp) (x y z : ℤ) → infixOf P o x y ≡ Value z → DivisorNotZero o (Value y)
+pub divisor-not-zero : (o : InfixOp) (x y z : ℤ) → infixOf P o x y ≡ Value z → DivisorNotZero o (Value y)
 unfolding infixOf divideOf intDivideOf moduloOf
 divisor-not-zero Divide x y z h = λ e. nothing-value z (sym (pick-zero (res P (pos 0)) _ _ (res-zero P P-above)) ∙ at-zero Divide x y z (value-path _ _ e) h)
 divisor-not-zero DivideZ x y z h = tt

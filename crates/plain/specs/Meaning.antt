@@ -64,7 +64,8 @@ sides t (e ∷ es) = sidesOf t e ∷ sides t es
 abbrev pub Equal-sides : Answer × Answer → Type 0
 Equal-sides s = (z : ℤ) × (s .0 ≡ Value z) × (s .1 ≡ Value z)
 
--- "a table of names starts with the inputs' elements": ρ gives each name one. What ρ says of other names is never read
+-- "a table of names starts with the inputs' elements": ρ gives each name one. What ρ says of other names is never read (`InputsAlone`,
+-- specs/Statements.antt)
 abbrev pub start : (ℕ → ℤ) → Table
 start ρ = λ x. Value (ρ x)
 
@@ -106,3 +107,18 @@ NotZeroInDefinitions t (d ∷ ds) = NotZeroIn t (d .1) × NotZeroInDefinitions (
 
 abbrev pub NoDivisorZero : Module → (ℕ → ℤ) → Type 0
 NoDivisorZero m ρ = NotZeroInDefinitions (start ρ) (m .definitions) × All (NotZeroIn (defined (start ρ) (m .definitions))) (m .expressions)
+
+-- what this condition is for: every definition in its turn, and both sides of every equation, have a value, so that no operation in them has none
+abbrev pub Valued : Answer → Type 0
+Valued v = (z : ℤ) × (v ≡ Value z)
+
+abbrev pub DefinitionsValued : Table → List (Pat × Expr) → Type 0
+DefinitionsValued t [] = Unit {0}
+DefinitionsValued t (d ∷ ds) = Valued (valueOf t (d .1)) × DefinitionsValued (write (d .0) (valueOf t (d .1)) t) ds
+
+abbrev pub EquationsValued : Table → List Expr → Type 0
+EquationsValued t [] = Unit {0}
+EquationsValued t (e ∷ es) = Valued (sidesOf t e .0) × Valued (sidesOf t e .1) × EquationsValued t es
+
+abbrev pub AllValued : Module → (ℕ → ℤ) → Type 0
+AllValued m ρ = DefinitionsValued (start ρ) (m .definitions) × EquationsValued (defined (start ρ) (m .definitions)) (m .expressions)

@@ -71,7 +71,12 @@ module _ (R : Ids) where
   arePlainEquations [] = true
   arePlainEquations (e ∷ es) = isPlainEquation e && arePlainEquations es
 
-unfoldable pub isPlain : Module → Bool
-isPlain m =
+-- what the theorems ask: the definitions and the expressions are so, whatever is public
+unfoldable pub isPlainBody : Module → Bool
+isPlainBody m =
     let R = registered (m .names) .globals in
-    arePlainPublics R (m .publics) && (arePlainDefinitions R (m .definitions) && arePlainEquations R (m .expressions))
+    arePlainDefinitions R (m .definitions) && arePlainEquations R (m .expressions)
+
+-- and no public names fresh, iter or fold either
+unfoldable pub isPlain : Module → Bool
+isPlain m = arePlainPublics (registered (m .names) .globals) (m .publics) && isPlainBody m

@@ -1,4 +1,4 @@
--- What is proved of an accepted plain module and its flat module, in proofs/Agreement.antt.
+-- What is proved of an accepted plain module and its flat module, in proofs/Agreement.antt; then of what a plain module says, in proofs/Condition.antt.
 use mathlib.Core.Path.{_≡_}
 use mathlib.Core.Bool.{true, false}
 use mathlib.Core.List.{[]}
@@ -15,8 +15,8 @@ use Rattle.numbering.specs.Numbering.{numbered}
 use Rattle.numbering.specs.Inputs.{member, inputs, inputIds}
 use Rattle.numbering.specs.Statements.{Pointwise}
 use Rattle.eval_trees.specs.Evaluation.{flat, evaluated}
-use Rattle.plain.specs.Plain.{isPlain}
-use Rattle.plain.specs.Meaning.{Holds, NoDivisorZero}
+use Rattle.plain.specs.Plain.{isPlainBody, isPlain}
+use Rattle.plain.specs.Meaning.{Holds, NoDivisorZero, AllValued}
 
 -- "An input's id is the one numbering gives its name in those uses"
 abbrev pub IsInput : Module → ℕ → Type 0
@@ -51,7 +51,29 @@ pub record SaysTheSame (m : Module) (ρ : ℕ → ℤ) (f : FlatModule) (υ τ :
 abbrev pub PlainModulesAgree : Type 0
 PlainModulesAgree =
     (m : Module) →
-    isPlain m ≡ true →
+    isPlainBody m ≡ true →
     (capacity : ℕ) (f : FlatModule) →
     evaluated capacity (numbered m) ≡ flat f →
     PlainFlat m f × ((ρ : ℕ → ℤ) → ((x : ℕ) → elem P (ρ x) ≡ ρ x) → NoDivisorZero m ρ → (υ : Assignment) → Elements υ → Gives m ρ υ → SaysTheSame m ρ f υ (workedOut (f .definitions) υ))
+
+-- A PLAIN MODULE HAS A PLAIN BODY, which is all that the theorems ask
+abbrev pub PlainHasPlainBody : Type 0
+PlainHasPlainBody = (m : Module) → isPlain m ≡ true → isPlainBody m ≡ true
+
+-- NO DIVISOR IS ZERO JUST WHERE EVERY OPERATION HAS A VALUE: the condition leaves no module out that has its values, and lets none in that has not
+abbrev pub DivisorsPinned : Type 0
+DivisorsPinned =
+    (m : Module) →
+    isPlainBody m ≡ true →
+    (ρ : ℕ → ℤ) →
+    ((x : ℕ) → elem P (ρ x) ≡ ρ x) →
+    NoDivisorZero m ρ ↔ AllValued m ρ
+
+-- ONLY THE INPUTS COUNT: where ρ and τ give them the same elements, the module says the same
+abbrev pub InputsAlone : Type 0
+InputsAlone =
+    (m : Module) →
+    isPlainBody m ≡ true →
+    (ρ τ : ℕ → ℤ) →
+    All (λ x. ρ x ≡ τ x) (inputs m) →
+    (Holds m ρ ↔ Holds m τ) × (NoDivisorZero m ρ ↔ NoDivisorZero m τ)
