@@ -40,8 +40,9 @@ const TYPECHECK: &[Call] = &[
 
 const TRANSFORM: &[Call] = &[
     Before(29, "crate::twin::drawn(self.0);"),
-    // matching: a look-up, prover ids of a split, its entry in the bindings
+    // matching: a look-up, the halves of a pair or cons, prover ids of a split, its entry in the bindings
     Before(113, "let _look = crate::twin::Look::enter();"),
+    Before(126, "let _half = crate::twin::Half::enter();"),
     Before(136, "crate::twin::provers(prover_defs.len());"),
     Before(141, "crate::twin::expansion();"),
     Before(154, "crate::twin::provers(prover_defs.len());"),

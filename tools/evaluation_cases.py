@@ -213,6 +213,51 @@ def id_limits():
         yield number, ([], defs, [A(V("f"), X)] * n)
 
 
+# Chains of look-ups that the Rust follows; on the longer ones of oracle/model/directed.py its memory explodes.
+
+LINKS = 8  # variables bound in a call: each more doubles the Rust's work, and calls nest
+LAST = A(V("p"), U, U)  # the last variable of the call before, where it is not bound
+
+
+def links():
+    """A function that binds variables, the first to its argument, each other one to the one before. It gives a function that applies another where they are bound, and p."""
+    lost = F(["b"], F(["z"], V("y")))
+    body = L("y", V("l"), PR(F(["k"], A(V("k"), U)), lost))
+    for _ in range(LINKS - 1):
+        body = L(("pprod", PV("g"), PV("p")), body, L("y", LAST, PR(V("g"), lost)))
+    return F(["l"], body)
+
+
+def chained(n, bound, value):
+    """Definitions by n / LINKS calls: l is a variable from which n look-ups lead to the value where all of `bound` are applied, which those of the calls join."""
+    defs = []
+    for _ in range(n // LINKS):
+        bound.append("c%d" % len(bound))
+        defs.append((("pprod", PV(bound[-1]), PV("p")), A(V("links"), value)))
+        value = LAST
+    return defs + [D("l", value)]
+
+
+def where_bound(bound, value):
+    """A match of the value, which follows it through both halves of a pair, by an arm that does not fit."""
+    e = match(value, (("pprod", const(5), const(6)), C(1)), (PV("x"), C(2)))
+    return functools.reduce(lambda e, c: A(V(c), F(["k"], e)), bound, e)
+
+
+def not_by_nesting(n=200):
+    """Accepted by docs/DECISIONS.md, 17, refused 19 if look-ups counted by nesting or in all: n of them lead to a pair, and n from each half to 5."""
+    bound = []
+    defs = [D("links", links()), *chained(n, bound, C(5)), *chained(n, bound, PR(V("l"), V("l")))]
+    return [], defs, [where_bound(bound, V("l"))]
+
+
+def not_in_all(n=200):
+    """Accepted by 17 and if look-ups counted by nesting, refused 19 if all of a match counted: n of them lead from each half of a pair to 5."""
+    bound = []
+    defs = [D("links", links()), *chained(n, bound, C(5))]
+    return [], defs, [where_bound(bound, PR(V("l"), V("l")))]
+
+
 def damaged(records):
     """Each record with one word changed or its end cut."""
     for k, r in enumerate(records):
@@ -350,6 +395,7 @@ def write(oracle, twin):
         w.put_small(*chosen)
         print("%d records: %s" % (w.groups - before, chosen), file=sys.stderr)
     w.put_all([*damaged([r for r in generated(oracle, 30001, 150, "mixed") if len(r) < 900])])
+    w.put_all(modules((not_by_nesting(), not_in_all())), 0)
     write_counts(w)
     if w.tested[ALL] < ENOUGH:
         raise SystemExit("%d accepted records with all three, of %d" % (w.tested[ALL], ENOUGH))

@@ -204,7 +204,7 @@ impl Drop for Level {
     }
 }
 
-/* Variables looked up in turn by one match. */
+/* Variables looked up in turn by one match, for one pair of pattern and value (docs/DECISIONS.md, 17). */
 pub struct Look;
 impl Look {
     pub fn enter() -> Look {
@@ -223,5 +223,20 @@ impl Look {
 impl Drop for Look {
     fn drop(&mut self) {
         with(|c| c.look -= 1);
+    }
+}
+
+/* Where the halves of a pair or cons are matched: each counts its look-ups from 0 (the first leaves 0 behind), and the count of the whole comes back. */
+pub struct Half(u32);
+impl Half {
+    pub fn enter() -> Half {
+        let mut before = 0;
+        with(|c| before = std::mem::take(&mut c.look));
+        Half(before)
+    }
+}
+impl Drop for Half {
+    fn drop(&mut self) {
+        with(|c| c.look = self.0);
     }
 }
