@@ -13,7 +13,7 @@ use Rattle.constraint.specs.Record.{equalitiesWords}
 use Rattle.pass_trees.specs.Passes.{Substitutions, copyPropagateExpr, copyPropagateDefs, afterDefs, copyPropagateEquations, alive, flattenExprTo3ac, flattenDefs, flattenEquations, Cut as Cutting, Cuts}
 use Rattle.pass_classify.specs.Arrays.{proversOf, usedOf}
 use Rattle.pass_copies.specs.declared.Copied.{Copied}
-use Rattle.pass_copies.specs.Substituted.{substOf}
+use Rattle.pass_copies.specs.Substituted.{substOf, SUBSTITUTION-WORDS}
 use Rattle.pass_3ac.specs.declared.Target.{Target}
 use Rattle.pass_3ac.specs.declared.Target.the-variants.{New, Given}
 use Rattle.pass_3ac.specs.declared.Cut.{Cut}
@@ -49,10 +49,14 @@ cutFrom at c = record { term = c .term; next = c .next; at = after at (c .equali
 abbrev pub CutPut : List ℕ → List ℕ → ℕ → Cutting → Cut → Type 0
 CutPut body body′ at c r = (body′ ≡ putEqualities body at (c .equalities)) × (r ≡ cutFrom at c)
 
+-- more ids than a flat record's and one for each of its nodes: a sum of them never wraps
+abbrev pub DRAWN : ℕ
+DRAWN = 131072
+
 -- room for an equality of each of n nodes, and ids for them
 pub record Room (n at next : ℕ) (body : List ℕ) : Type 0 where
   pub words : 4 * (at + 7 * n) ≤ length body
-  pub ids : next + n ≤ 131072
+  pub ids : next + n ≤ DRAWN
 
 -- ---- lists
 
@@ -66,7 +70,7 @@ CutsPut body body′ at c r = (body′ ≡ putEqualities body at (c .equalities)
 
 -- and those of definitions: the array of the substitutions after them too
 abbrev pub DefsPut : List ℕ → List ℕ → ℕ → Cuts → Place → List ℕ → Substitutions → Type 0
-DefsPut body body′ at c r subs′ s = (body′ ≡ putEqualities body at (c .equalities)) × (r ≡ placeFrom at c) × (substOf subs′ ≡ s) × (length subs′ ≡ 131072)
+DefsPut body body′ at c r subs′ s = (body′ ≡ putEqualities body at (c .equalities)) × (r ≡ placeFrom at c) × (substOf subs′ ≡ s) × (length subs′ ≡ SUBSTITUTION-WORDS)
 
 -- definitions of a record with the bytes b, those that are used, with the substitutions made one after the other: cut, and the substitutions after them
 unfoldable pub defsCut : List ℕ → ℕ → Substitutions → List Definition → ℕ → Cuts

@@ -30,7 +30,7 @@ ghost use Rattle.constraint.specs.Record.{writtenWords};
 ghost use Rattle.pass_trees.specs.Passes.{copyPropagateExpr, orVariable, copied, cutsOf, both, flattenSides};
 ghost use Rattle.pass_classify.specs.Arrays.{Classified};
 ghost use Rattle.pass_copies.specs.Substituted.{substOf, SUBSTITUTION-WORDS};
-ghost use Rattle.pass_3ac.specs.Cutting.{targetOf, treeCut, CutPut, Room, CutsPut, DefsPut, defsCut, defsAfter, equationsCut, sidesOf};
+ghost use Rattle.pass_3ac.specs.Cutting.{DRAWN, targetOf, treeCut, CutPut, Room, CutsPut, DefsPut, defsCut, defsAfter, equationsCut, sidesOf};
 ghost use Rattle.records.specs.FlatRecord.{IDS};
 
 // The left side of what is cut: a new variable, or the term that is given.
@@ -57,7 +57,7 @@ fn left_term(target: Target, next: u32) -> Term
 
 // An equality of an operation: an id is drawn, also where the left side is given.
 fn push_constraint_def(body: &mut [u8], at: usize, next: u32, equality: Equality) -> Cut
-    requires { ⌜ (4 * at + 28 ≤ length (now body)) × (next < 131072) ⌝ }
+    requires { ⌜ (4 * at + 28 ≤ length (now body)) × (next < DRAWN) ⌝ }
     ensures { λ r. ⌜ (now (body .exit) ≡ setWords (now (body .entry)) at (writtenWords equality)) × (r ≡ record { term = equality .left; next = next + 1; at = at + 7 }) ⌝ }
 {
     let term = equality.left;

@@ -2,6 +2,7 @@
 // input: the words record length, expected answer (the next id, or 4,294,901,760 and the number of a refusal), counts of ids and
 // of publics, the record, and the expected entries of both arrays.
 use numbering::Numbered;
+use records::source_record::NODES;
 use words::word_at;
 ghost use mathlib.Core.Path.{_≡_};
 ghost use Prim.Native.Nat.{_+_, _*_, _≤_, _<_};
@@ -32,11 +33,11 @@ fn expected_entry(s: &[u8], from: usize, n: usize, i: usize) -> u32
     }
 }
 
-fn ids_are(ids: &[u32; 2048], s: &[u8], n: usize) -> bool
+fn ids_are(ids: &[u32; NODES], s: &[u8], n: usize) -> bool
     requires { ⌜ 4 * (0 + n) ≤ length (now s) ⌝ }
 {
     let mut i = 0usize;
-    while i < 2048 {
+    while i < NODES {
         if ids[i] != expected_entry(s, 0, n, i) {
             return false;
         }

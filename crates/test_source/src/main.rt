@@ -3,6 +3,7 @@
 // the length of a case: so many bytes of the base, with two words of it written anew. A case's words: length, expected answer (the
 // next id, or 4,294,901,760 and the number of a refusal), and twice the index of a word and the word that it becomes.
 use numbering::Numbered;
+use records::source_record::NODES;
 use words::put_word;
 use words::word_at;
 ghost use mathlib.Core.Path.{_≡_};
@@ -23,9 +24,9 @@ enum Seen {
     End,
 }
 
-fn no_ids(ids: &[u32; 2048]) -> bool {
+fn no_ids(ids: &[u32; NODES]) -> bool {
     let mut i = 0usize;
-    while i < 2048 {
+    while i < NODES {
         if ids[i] != 0 {
             return false;
         }
