@@ -18,6 +18,13 @@ use Rattle.field.proofs.Modular.{inv-lt}
 use Rattle.field.proofs.Elements.{res-lt, res-centre, res-elem, elem-elem, elem-zero, res-zero}
 use Rattle.field.proofs.ByResidues.{sum-res, difference-res, product-res, quotient-res}
 
+-- a value is one number, and is not nothing
+pub value-path : (x z : ℤ) → Value x ≡ Value z → x ≡ z
+value-path x z e = cc
+
+pub nothing-value : (z : ℤ) → Nothing ≡ Value z → ⊥
+nothing-value z e = let o : _≡_ {A = ℕ} 0 1 = cc in omega arith
+
 module _ (p : ℕ) (prime : Prime p) where
   above : 0 < p
   above = omega (arith, prime .above)
@@ -38,7 +45,7 @@ module _ (p : ℕ) (prime : Prime p) where
   unfolding power
   power-element a n = centre-element _ (mod-lt _ above)
 
-  inverse-element : (a : ℤ) → elem p (inverse p a) ≡ inverse p a
+  pub inverse-element : (a : ℤ) → elem p (inverse p a) ≡ inverse p a
   unfolding inverse
   inverse-element a = centre-element _ (inv-lt p prime _ (res-lt p above a))
 
@@ -48,10 +55,10 @@ module _ (p : ℕ) (prime : Prime p) where
 
   -- an answer by its case
   given : (x z : ℤ) → elem p x ≡ x → Value x ≡ Value z → elem p z ≡ z
-  given x z h e = let k : x ≡ z = cc in subst (λ (w : ℤ). elem p w ≡ w) k h
+  given x z h e = subst (λ (w : ℤ). elem p w ≡ w) (value-path x z e) h
 
   none-given : (z : ℤ) → Nothing ≡ Value z → elem p z ≡ z
-  none-given z e = absurd (let k : _≡_ {A = ℕ} 0 1 = cc in omega arith)
+  none-given z e = absurd (nothing-value z e)
 
   picked : (t : Bool) (x y : Answer) (z : ℤ) → ((w : ℤ) → x ≡ Value w → elem p w ≡ w) → ((w : ℤ) → y ≡ Value w → elem p w ≡ w) → pick t x y ≡ Value z → elem p z ≡ z
   picked true x y z f g e = f z e

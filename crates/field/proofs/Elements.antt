@@ -2,7 +2,7 @@
 use mathlib.Core.Path.{_≡_, refl, sym, ap, ap₂, subst, _∙_}
 use mathlib.Core.Bool.{Bool, true, false, cond}
 use Prim.Native.Nat.{ℕ, zero, suc, _+_, _*_, _/_, _%_, _-_, _<_, _≤_}
-use native.Mathlib.Nat.{mod-add-mod, add-mod-mod, add-comm, mod-lt, mod-eq-of-lt, mod-add-div, zero-mod}
+use native.Mathlib.Nat.{mod-add-mod, add-mod-mod, add-comm, mod-lt, mod-eq-of-lt, mod-add-div, zero-mod, le-trans}
 use native.Mathlib.Omega.{arith}
 use native.Mathlib.Decide.{decLt}
 use lib.IntN.{ℤ, pos, negsuc, negℤ, natAbs, _+ℤ_, _-ℤ_, _*ℤ_, subℕ}
@@ -150,6 +150,10 @@ module _ (p : ℕ) (h : 0 < p) where
   pub zero-elem : (a : ℤ) → elem p a ≡ pos 0 → res p a ≡ 0
   zero-elem a e = sym (res-elem a) ∙ ap (res p) e ∙ res-zero
 
+  pub elem-one : 1 < p → elem p (pos 1) ≡ pos 1
+  unfolding elem centre res
+  elem-one l = ap (centre p) (mod-eq-of-lt l) ∙ ap (λ (b : Bool). cond b (pos 1) (negsuc (p - suc 1))) (le-leb 1 (p / 2) (omega arith))
+
   -- an element is at most half of p away from 0
   pub elem-range : (a : ℤ) → natAbs (elem p a) ≤ p / 2
   unfolding elem centre
@@ -171,6 +175,13 @@ module _ (p : ℕ) (h : 0 < p) where
 
   pub elem-neg : p % 2 ≡ 1 → (a : ℤ) → elem p (negℤ (elem p a)) ≡ negℤ (elem p a)
   elem-neg odd a = elem-small odd (negℤ (elem p a)) (subst (λ (k : ℕ). k ≤ p / 2) (sym (abs-neg (elem p a))) (elem-range a))
+
+  -- below an element from 0 on, and its opposite
+  pub elem-below : p % 2 ≡ 1 → (n k : ℕ) → elem p (pos n) ≡ pos n → k ≤ n → elem p (pos k) ≡ pos k
+  elem-below odd n k e l = elem-small odd (pos k) (le-trans l (subst (λ (z : ℤ). natAbs z ≤ p / 2) e (elem-range (pos n))))
+
+  pub elem-opposite : p % 2 ≡ 1 → (n : ℕ) → elem p (negsuc n) ≡ negsuc n → elem p (pos (suc n)) ≡ pos (suc n)
+  elem-opposite odd n e = subst (λ (z : ℤ). elem p (negℤ z) ≡ negℤ z) e (elem-neg odd (negsuc n))
 
   pub add-elem : (a b : ℤ) → elem p (a +ℤ elem p b) ≡ elem p (a +ℤ b)
   add-elem a b = elem-of-res _ _ (res-add a (elem p b) ∙ ap (λ (k : ℕ). (res p a + k) % p) (res-elem b) ∙ sym (res-add a b))

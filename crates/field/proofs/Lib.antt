@@ -4,6 +4,8 @@ pub mod Elements
 pub mod ByResidues
 pub mod Laws
 pub mod Answers
+pub mod Values
+pub mod Powers
 pub mod Units
 pub mod Rounding
 pub mod Counting

@@ -50,3 +50,9 @@ prime-by p k above small t = record { above = above; only = only }
 pub P-prime : Prime P
 unfolding noneFrom
 P-prime = prime-by P 46340 (omega arith) (omega arith) tt
+
+pub P-above : 0 < P
+P-above = omega arith
+
+pub P-odd : P % 2 ≡ 1
+P-odd = refl

@@ -1,8 +1,8 @@
--- Operations with 0 and 1 of the field: what the simplifications of `infix_op` rely on.
+-- Operations with 0 and 1, for any prime: what the simplifications of `infix_op` rely on.
 -- Assumes nothing.
 use mathlib.Core.Path.{_≡_, refl, sym, ap, _∙_}
 use Prim.Native.Nat.{ℕ, suc, _<_}
-use native.Mathlib.Nat.{zero-mul}
+use native.Mathlib.Nat.{zero-mul, mod-eq-of-lt}
 use native.Mathlib.Omega.{arith}
 use native.Mathlib.Decide.{ℕ-discrete}
 use lib.Dec.{eqb}
@@ -10,17 +10,14 @@ use lib.IntN.{ℤ, pos, negsuc, negℤ, +ℤ-idr, +ℤ-invr}
 use Rattle.field.specs.declared.Answer.{Answer}
 use Rattle.field.specs.declared.Answer.the-variants.{Value}
 use Rattle.field.specs.declared.InfixOp.the-variants.{Divide, DivideZ, Multiply, Add, Subtract, IntDivide, Modulo}
-use Rattle.field.specs.Prime.{P}
+use Rattle.field.specs.Prime.{Prime, P}
 use Rattle.field.specs.Element.{res, centre, elem}
 use Rattle.field.specs.Operations.{pick, difference, product, quotient, overBy, wholeQuotient, divideOf, divideZOf, intDivideOf, moduloOf, infixOf}
-use Rattle.field.proofs.Primality.{P-prime}
-use Rattle.field.proofs.Elements.{elem-elem}
+use Rattle.field.proofs.Elements.{res-zero, elem-zero, elem-one, elem-elem}
 use Rattle.field.proofs.ByResidues.{pick-zero, pick-else}
 use Rattle.field.proofs.Laws.{sum-commutes, sum-zero, product-commutes, product-one, quotient-only}
 
-above : 0 < P
-above = omega arith
-
+-- of the field's own prime
 pub one-element : elem P (pos 1) ≡ pos 1
 unfolding elem centre res
 one-element = refl
@@ -28,13 +25,6 @@ one-element = refl
 pub zero-element : elem P (pos 0) ≡ pos 0
 unfolding elem centre res
 zero-element = refl
-
-one-counts : res P (pos 1) ≡ 0 → ⊥
-unfolding res
-one-counts e = omega arith
-
-by-one : (x z : Answer) → pick (eqb (res P (pos 1)) 0) x z ≡ z
-by-one x z = pick-else (res P (pos 1)) x z one-counts
 
 over-one : (x : ℤ) → overBy x 1 ≡ x
 unfolding overBy
@@ -45,82 +35,97 @@ whole-one : (x : ℤ) → wholeQuotient x (pos 1) ≡ x
 unfolding wholeQuotient
 whole-one x = over-one x
 
-zero-times : (y : ℤ) → product P (pos 0) y ≡ pos 0
-unfolding product
-zero-times (pos n) = ap (λ (k : ℕ). elem P (pos k)) (zero-mul n) ∙ zero-element
-zero-times (negsuc n) = ap (λ (k : ℕ). elem P (negℤ (pos k))) (zero-mul (suc n)) ∙ zero-element
+-- of any prime
+module _ (p : ℕ) (prime : Prime p) where
+  above : 0 < p
+  above = omega (arith, prime .above)
 
-zero-over : (y : ℤ) → (res P y ≡ 0 → ⊥) → quotient P (pos 0) y ≡ pos 0
-zero-over y k = sym (quotient-only P P-prime y k (pos 0) (pos 0) (zero-times y ∙ sym zero-element)) ∙ zero-element
+  zero-is : elem p (pos 0) ≡ pos 0
+  zero-is = elem-zero p above (pos 0) (res-zero p above)
 
-less-self : (y : ℤ) → difference P y y ≡ pos 0
-unfolding difference
-less-self y = ap (elem P) (+ℤ-invr y) ∙ zero-element
+  one-counts : res p (pos 1) ≡ 0 → ⊥
+  unfolding res
+  one-counts e = omega (arith, e, mod-eq-of-lt (prime .above))
 
-over-by-one : (x : ℤ) → quotient P x (pos 1) ≡ elem P x
-over-by-one x = sym (quotient-only P P-prime (pos 1) one-counts x x (product-one P P-prime x))
+  by-one : (x z : Answer) → pick (eqb (res p (pos 1)) 0) x z ≡ z
+  by-one x z = pick-else (res p (pos 1)) x z one-counts
 
--- 1 * e, e * 1, 0 * e, e * 0
-pub one-multiply : (x : ℤ) → infixOf P Multiply (pos 1) x ≡ Value (elem P x)
-unfolding infixOf
-one-multiply x = ap Value (product-commutes P P-prime (pos 1) x ∙ product-one P P-prime x)
+  zero-times : (y : ℤ) → product p (pos 0) y ≡ pos 0
+  unfolding product
+  zero-times (pos n) = ap (λ (k : ℕ). elem p (pos k)) (zero-mul n) ∙ zero-is
+  zero-times (negsuc n) = ap (λ (k : ℕ). elem p (negℤ (pos k))) (zero-mul (suc n)) ∙ zero-is
 
-pub multiply-one : (x : ℤ) → infixOf P Multiply x (pos 1) ≡ Value (elem P x)
-unfolding infixOf
-multiply-one x = ap Value (product-one P P-prime x)
+  zero-over : (y : ℤ) → (res p y ≡ 0 → ⊥) → quotient p (pos 0) y ≡ pos 0
+  zero-over y k = sym (quotient-only p prime y k (pos 0) (pos 0) (zero-times y ∙ sym zero-is)) ∙ zero-is
 
-pub zero-multiply : (x : ℤ) → infixOf P Multiply (pos 0) x ≡ Value (pos 0)
-unfolding infixOf
-zero-multiply x = ap Value (zero-times x)
+  less-self : (y : ℤ) → difference p y y ≡ pos 0
+  unfolding difference
+  less-self y = ap (elem p) (+ℤ-invr y) ∙ zero-is
 
-pub multiply-zero : (x : ℤ) → infixOf P Multiply x (pos 0) ≡ Value (pos 0)
-unfolding infixOf
-multiply-zero x = ap Value (product-commutes P P-prime x (pos 0) ∙ zero-times x)
+  over-by-one : (x : ℤ) → quotient p x (pos 1) ≡ elem p x
+  over-by-one x = sym (quotient-only p prime (pos 1) one-counts x x (product-one p prime x))
 
--- e / 1, e | 1, 0 | e, e \ 1, e % 1
-pub divide-one : (x : ℤ) → infixOf P Divide x (pos 1) ≡ Value (elem P x)
-unfolding infixOf divideOf
-divide-one x = by-one _ _ ∙ ap Value (over-by-one x)
+  -- 1 * e, e * 1, 0 * e, e * 0
+  pub one-multiply : (x : ℤ) → infixOf p Multiply (pos 1) x ≡ Value (elem p x)
+  unfolding infixOf
+  one-multiply x = ap Value (product-commutes p prime (pos 1) x ∙ product-one p prime x)
 
-pub divide-z-one : (x : ℤ) → infixOf P DivideZ x (pos 1) ≡ Value (elem P x)
-unfolding infixOf divideZOf
-divide-z-one x = by-one _ _ ∙ ap Value (over-by-one x)
+  pub multiply-one : (x : ℤ) → infixOf p Multiply x (pos 1) ≡ Value (elem p x)
+  unfolding infixOf
+  multiply-one x = ap Value (product-one p prime x)
 
-pub zero-divide-z : (y : ℤ) → infixOf P DivideZ (pos 0) y ≡ Value (pos 0)
-unfolding infixOf divideZOf
-zero-divide-z y = go (ℕ-discrete (res P y) 0)
-  where
-    go : Dec (res P y ≡ 0) → divideZOf P (pos 0) y ≡ Value (pos 0)
-    go (yes k) = pick-zero (res P y) _ _ k
-    go (no k) = pick-else (res P y) _ _ k ∙ ap Value (zero-over y k)
+  pub zero-multiply : (x : ℤ) → infixOf p Multiply (pos 0) x ≡ Value (pos 0)
+  unfolding infixOf
+  zero-multiply x = ap Value (zero-times x)
 
-pub int-divide-one : (x : ℤ) → infixOf P IntDivide x (pos 1) ≡ Value (elem P x)
-unfolding infixOf intDivideOf
-int-divide-one x =
-    by-one _ _
-    ∙ ap (λ (y : ℤ). Value (elem P (wholeQuotient (elem P x) y))) one-element
-    ∙ ap (λ (y : ℤ). Value (elem P y)) (whole-one (elem P x))
-    ∙ ap Value (elem-elem P above x)
+  pub multiply-zero : (x : ℤ) → infixOf p Multiply x (pos 0) ≡ Value (pos 0)
+  unfolding infixOf
+  multiply-zero x = ap Value (product-commutes p prime x (pos 0) ∙ zero-times x)
 
-pub modulo-one : (x : ℤ) → infixOf P Modulo x (pos 1) ≡ Value (pos 0)
-unfolding infixOf moduloOf
-modulo-one x =
-    by-one _ _
-    ∙ ap Value
-    (ap (λ (y : ℤ). difference P (elem P x) (product P y (wholeQuotient (elem P x) y))) one-element
-    ∙ ap (λ (y : ℤ). difference P (elem P x) (product P (pos 1) y)) (whole-one (elem P x))
-    ∙ ap (difference P (elem P x)) (product-commutes P P-prime (pos 1) (elem P x) ∙ product-one P P-prime (elem P x) ∙ elem-elem P above x)
-    ∙ less-self (elem P x))
+  -- e / 1, e | 1, 0 | e, e \ 1, e % 1
+  pub divide-one : (x : ℤ) → infixOf p Divide x (pos 1) ≡ Value (elem p x)
+  unfolding infixOf divideOf
+  divide-one x = by-one _ _ ∙ ap Value (over-by-one x)
 
--- 0 + e, e + 0, e - 0
-pub zero-add : (x : ℤ) → infixOf P Add (pos 0) x ≡ Value (elem P x)
-unfolding infixOf
-zero-add x = ap Value (sum-commutes P P-prime (pos 0) x ∙ sum-zero P P-prime x)
+  pub divide-z-one : (x : ℤ) → infixOf p DivideZ x (pos 1) ≡ Value (elem p x)
+  unfolding infixOf divideZOf
+  divide-z-one x = by-one _ _ ∙ ap Value (over-by-one x)
 
-pub add-zero : (x : ℤ) → infixOf P Add x (pos 0) ≡ Value (elem P x)
-unfolding infixOf
-add-zero x = ap Value (sum-zero P P-prime x)
+  pub zero-divide-z : (y : ℤ) → infixOf p DivideZ (pos 0) y ≡ Value (pos 0)
+  unfolding infixOf divideZOf
+  zero-divide-z y = go (ℕ-discrete (res p y) 0)
+    where
+      go : Dec (res p y ≡ 0) → divideZOf p (pos 0) y ≡ Value (pos 0)
+      go (yes k) = pick-zero (res p y) _ _ k
+      go (no k) = pick-else (res p y) _ _ k ∙ ap Value (zero-over y k)
 
-pub subtract-zero : (x : ℤ) → infixOf P Subtract x (pos 0) ≡ Value (elem P x)
-unfolding infixOf difference
-subtract-zero x = ap (λ (y : ℤ). Value (elem P y)) (+ℤ-idr x)
+  pub int-divide-one : (x : ℤ) → infixOf p IntDivide x (pos 1) ≡ Value (elem p x)
+  unfolding infixOf intDivideOf
+  int-divide-one x =
+      by-one _ _
+      ∙ ap (λ (y : ℤ). Value (elem p (wholeQuotient (elem p x) y))) (elem-one p above (prime .above))
+      ∙ ap (λ (y : ℤ). Value (elem p y)) (whole-one (elem p x))
+      ∙ ap Value (elem-elem p above x)
+
+  pub modulo-one : (x : ℤ) → infixOf p Modulo x (pos 1) ≡ Value (pos 0)
+  unfolding infixOf moduloOf
+  modulo-one x =
+      by-one _ _
+      ∙ ap Value
+      (ap (λ (y : ℤ). difference p (elem p x) (product p y (wholeQuotient (elem p x) y))) (elem-one p above (prime .above))
+      ∙ ap (λ (y : ℤ). difference p (elem p x) (product p (pos 1) y)) (whole-one (elem p x))
+      ∙ ap (difference p (elem p x)) (product-commutes p prime (pos 1) (elem p x) ∙ product-one p prime (elem p x) ∙ elem-elem p above x)
+      ∙ less-self (elem p x))
+
+  -- 0 + e, e + 0, e - 0
+  pub zero-add : (x : ℤ) → infixOf p Add (pos 0) x ≡ Value (elem p x)
+  unfolding infixOf
+  zero-add x = ap Value (sum-commutes p prime (pos 0) x ∙ sum-zero p prime x)
+
+  pub add-zero : (x : ℤ) → infixOf p Add x (pos 0) ≡ Value (elem p x)
+  unfolding infixOf
+  add-zero x = ap Value (sum-zero p prime x)
+
+  pub subtract-zero : (x : ℤ) → infixOf p Subtract x (pos 0) ≡ Value (elem p x)
+  unfolding infixOf difference
+  subtract-zero x = ap (λ (y : ℤ). Value (elem p y)) (+ℤ-idr x)

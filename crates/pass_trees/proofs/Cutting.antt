@@ -10,7 +10,7 @@ use Rattle.field.specs.declared.Answer.{Answer}
 use Rattle.field.specs.declared.Answer.the-variants.{Value, Nothing}
 use Rattle.field.specs.Prime.{P}
 use Rattle.field.proofs.Primality.{P-prime}
-use Rattle.field.proofs.Answers.{opposite-element, infix-element}
+use Rattle.field.proofs.Answers.{value-path, nothing-value, opposite-element, infix-element}
 use Rattle.field.specs.Element.{elem}
 use Rattle.field.specs.Operations.{opposite, infixOf}
 use Rattle.field.specs.declared.InfixOp.{InfixOp}
@@ -25,22 +25,16 @@ use Rattle.pass_trees.proofs.Lists.{update-all, update-same, update-oth
 use Rattle.pass_trees.proofs.Simplified.{infix-value}
 
 -- values taken apart
-pub same-value : (x y : ℤ) → Value x ≡ Value y → x ≡ y
-same-value x y e = cc
-
-pub no-value : {A : Type 0} (x : ℤ) → Nothing ≡ Value x → A
-no-value x e = absurd (let z : _≡_ {A = ℕ} 0 1 = cc in omega arith)
-
 pub negated-value : (a : Answer) (z : ℤ) → negated a ≡ Value z → (y : ℤ) × (a ≡ Value y) × (opposite P y ≡ z)
 unfolding negated
-negated-value (Value y) z e = (y, refl, same-value _ _ e)
-negated-value Nothing z e = no-value z e
+negated-value (Value y) z e = (y, refl, value-path _ _ e)
+negated-value Nothing z e = absurd (nothing-value z e)
 
 pub both-values : (o : InfixOp) (a b : Answer) (z : ℤ) → onValues o a b ≡ Value z → (x y : ℤ) × (a ≡ Value x) × (b ≡ Value y) × (infixOf P o x y ≡ Value z)
 unfolding onValues
 both-values o (Value x) (Value y) z e = (x, y, refl, refl, e)
-both-values o (Value x) Nothing z e = no-value z e
-both-values o Nothing b z e = no-value z e
+both-values o (Value x) Nothing z e = absurd (nothing-value z e)
+both-values o Nothing b z e = absurd (nothing-value z e)
 
 -- the equalities of a cut expression give its term the expression's value
 module _ (σ : Assignment) (el : Elements σ) where
@@ -67,7 +61,7 @@ module _ (σ τ : Assignment) where
   Same v = σ v ≡ τ v
 
   pub left-same : (l : Term) (s : Side) → InSide Same s → sideValue σ s ≡ Value (termValue σ l) → sideValue τ s ≡ Value (termValue τ l) → InTerm Same l
-  left-same l s h p q = agree-term σ τ l (same-value _ _ (sym p ∙ side-agrees σ τ s h ∙ q))
+  left-same l s h p q = agree-term σ τ l (value-path _ _ (sym p ∙ side-agrees σ τ s h ∙ q))
 
   pub determined : (out : Option Term) (e : Flat) (n : ℕ) → Every Same e → All (EqualityHolds σ) (flattenExprTo3ac out e n .equalities) → All (EqualityHolds τ) (flattenExprTo3ac out e n .equalities) → All (InEquality Same) (flattenExprTo3ac out e n .equalities) × InTerm Same (flattenExprTo3ac out e n .term)
   unfolding flattenExprTo3ac copied pushConstraintDef
@@ -217,9 +211,9 @@ in-turn σ n x y zx zy b a c =
 
 pub write : (σ : Assignment) → Elements σ → (out : Option Term) (e : Flat) (n : ℕ) → Every (λ v. v < n) e → OutBelow n out → (z : ℤ) → value σ e ≡ Value z → OutValue σ z out → Extended σ n (flattenExprTo3ac out e n) z
 unfolding flattenExprTo3ac copied value sideValue
-write σ el none (Flat.constant c) n h o z e g = record { assignment = σ; elements = el; same = λ v k. refl; holds = tt; gives = same-value _ _ e }
+write σ el none (Flat.constant c) n h o z e g = record { assignment = σ; elements = el; same = λ v k. refl; holds = tt; gives = value-path _ _ e }
 write σ el (some l) (Flat.constant c) n h o z e g = record { assignment = σ; elements = el; same = λ v k. refl; holds = (e ∙ ap Value (sym g), tt); gives = g }
-write σ el none (Flat.variable v) n h o z e g = record { assignment = σ; elements = el; same = λ v k. refl; holds = tt; gives = same-value _ _ e }
+write σ el none (Flat.variable v) n h o z e g = record { assignment = σ; elements = el; same = λ v k. refl; holds = tt; gives = value-path _ _ e }
 write σ el (some l) (Flat.variable v) n h o z e g = record { assignment = σ; elements = el; same = λ v k. refl; holds = (e ∙ ap Value (sym g), tt); gives = g }
 write σ el out (Flat.negate a) n h o z e g =
     let p = negated-value (value σ a) z e in

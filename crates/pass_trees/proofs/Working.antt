@@ -3,15 +3,14 @@ use mathlib.Core.Path.{_≡_, refl, sym, ap, ap₂, subst, _∙_}
 use mathlib.Core.List.{List, [], _∷_}
 use mathlib.Core.Bool.{Bool, true, false, _||_}
 use Prim.Native.Nat.{ℕ}
-use native.Mathlib.Omega.{arith}
 use lib.Dec.{eqb}
 use lib.IntN.{ℤ}
 use borrow.Author.Tests.{eqb-true}
 use Rattle.field.specs.declared.Answer.{Answer}
 use Rattle.field.specs.declared.Answer.the-variants.{Value, Nothing}
 use Rattle.field.specs.Prime.{P}
-use Rattle.field.proofs.Primality.{P-prime}
-use Rattle.field.proofs.Answers.{opposite-element, infix-element}
+use Rattle.field.proofs.Primality.{P-prime, P-above}
+use Rattle.field.proofs.Answers.{value-path, opposite-element, infix-element}
 use Rattle.field.proofs.Units.{zero-element}
 use Rattle.field.specs.Element.{elem}
 use Rattle.field.proofs.Elements.{elem-elem}
@@ -23,7 +22,7 @@ use Rattle.pass_trees.specs.Passes.{keepIf, those, cuttable, cuttableExp
 use Rattle.pass_trees.specs.Statements.{InTurnIsAtEnd}
 use Rattle.pass_trees.proofs.Lists.{update-all, update-same, update-other, both-true, both-false, defines-cons, every-map, every-both, or-false, defines-those, value-agrees}
 use Rattle.pass_trees.proofs.Simplified.{has-value}
-use Rattle.pass_trees.proofs.Cutting.{same-value, both-values, negated-value}
+use Rattle.pass_trees.proofs.Cutting.{both-values, negated-value}
 
 -- a value is an element
 pub value-element : (σ : Assignment) → Elements σ → (e : Flat) (z : ℤ) → value σ e ≡ Value z → elem P z ≡ z
@@ -32,8 +31,8 @@ value-element σ el (Flat.infixed o a b) z h = let p = both-values o (value σ a
 value-element σ el (Flat.negate a) z h =
     let p = negated-value (value σ a) z h in
     subst (λ (w : ℤ). elem P w ≡ w) (p .2) (opposite-element P P-prime (p .0))
-value-element σ el (Flat.constant c) z h = subst (λ (w : ℤ). elem P w ≡ w) (same-value _ _ h) (elem-elem P (omega arith) c)
-value-element σ el (Flat.variable v) z h = subst (λ (w : ℤ). elem P w ≡ w) (same-value _ _ h) (el v)
+value-element σ el (Flat.constant c) z h = subst (λ (w : ℤ). elem P w ≡ w) (value-path _ _ h) (elem-elem P P-above c)
+value-element σ el (Flat.variable v) z h = subst (λ (w : ℤ). elem P w ≡ w) (value-path _ _ h) (el v)
 
 -- an expression with no `^`, no `=` and no zero divisor has a value
 pub expression-value : (σ : Assignment) → Elements σ → (e : Flat) → cuttableExpr e ≡ true → NoZeroDivisor σ e → (z : ℤ) × (value σ e ≡ Value z)
@@ -114,7 +113,7 @@ agree-all S σ τ (d ∷ ds) o b h i s u below =
     agree-all S σ τ ds (o .2) (b .1) (h .1) (i .1) (λ v l n. go v l n (eqb v (d .id)) refl) u below
   where
     here : σ (d .id) ≡ τ (d .id)
-    here = same-value _ _ (sym (h .0) ∙ value-agrees σ τ (d .right) (every-map (λ v r. s v (r .0) (r .1)) (d .right) (every-both S (λ v. defines (d ∷ ds) v ≡ false) (d .right) (b .0) (o .1))) ∙ i .0)
+    here = value-path _ _ (sym (h .0) ∙ value-agrees σ τ (d .right) (every-map (λ v r. s v (r .0) (r .1)) (d .right) (every-both S (λ v. defines (d ∷ ds) v ≡ false) (d .right) (b .0) (o .1))) ∙ i .0)
 
     go : (v : ℕ) → S v → defines ds v ≡ false → (t : Bool) → eqb v (d .id) ≡ t → σ v ≡ τ v
     go v l n true e = subst (λ (w : ℕ). σ w ≡ τ w) (sym (eqb-true v (d .id) e)) here

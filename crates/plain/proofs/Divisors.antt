@@ -3,51 +3,40 @@ use mathlib.Core.Path.{_≡_, refl, sym, ap, subst, subst₂, _∙_}
 use mathlib.Core.Bool.{Bool, true, false, cond}
 use mathlib.Core.List.{List}
 use Prim.Native.Nat.{ℕ}
-use lib.IntN.{ℤ, pos, negsuc}
+use lib.IntN.{ℤ, negsuc}
 use lib.Dec.{eqb}
 use Rattle.field.specs.declared.Answer.{Answer}
-use Rattle.field.specs.declared.Answer.the-variants.{Value, Nothing}
+use Rattle.field.specs.declared.Answer.the-variants.{Value}
 use Rattle.field.specs.declared.InfixOp.{InfixOp}
 use Rattle.field.specs.declared.InfixOp.the-variants.{Divide, DivideZ, Multiply, Add, Subtract, Equal, Exponentiate, IntDivide, Modulo}
 use Rattle.field.specs.Prime.{P}
-use Rattle.field.specs.Element.{res, elem}
-use Rattle.field.specs.Operations.{pick, quotient, divideOf, divideZOf, intDivideOf, moduloOf, raised, exponentiateOf, infixOf}
-use Rattle.field.proofs.Elements.{elem-zero, res-zero}
-use Rattle.field.proofs.ByResidues.{pick-zero, pick-else}
+use Rattle.field.specs.Element.{elem}
+use Rattle.field.specs.Operations.{infixOf}
+use Rattle.field.proofs.Primality.{P-prime}
+use Rattle.field.proofs.Answers.{value-path}
+use Rattle.field.proofs.Values.{zero-value, not-zero-value, multiply-answer, add-answer, subtract-answer}
+use Rattle.field.proofs.Values.{divide-valued, int-divide-valued, modulo-valued, power-valued, divide-z-total}
 use Rattle.source.specs.Trees.{Pat, Expr}
 use Rattle.flat.specs.Rules.{All}
 use Rattle.flat.specs.Meaning.{update}
 use Rattle.plain.specs.Plain.{isArithmetic}
 use Rattle.plain.specs.Meaning.{Table, write, valueOf, sidesOf, start, NotZeroAt, NotZeroIn, NotZeroInDefinitions, Valued, DefinitionsValued, EquationsValued}
 use Rattle.plain.specs.Meaning
-use Rattle.plain.proofs.Powers.{P-above, value-path, nothing-value}
 use Rattle.plain.proofs.Values.{false-true, on-values, negated-value, through-value, through-back, negated-back, values-back, writing, Canonical, element-path, writing-canonical, value-element}
 use Rattle.plain.proofs.Working.{divisor-not-zero}
 use Rattle.plain.proofs.Numbered.{Plainly, pConstant, pVariable, pNegate, pBinary, pLet, PlainDefinitions, pNone, pDefinition, PlainEquations, pEnd, pEquation}
 
-not-residue : (y : ℤ) → elem P y ≡ y → (y ≡ pos 0 → ⊥) → res P y ≡ 0 → ⊥
-not-residue y c h e = h (sym c ∙ elem-zero P P-above y e)
-
-power-valued : (x y : ℤ) → elem P x ≡ x → NotZeroAt Exponentiate (Value x) (Value y) → Valued (raised P x y)
-unfolding raised
-power-valued x (pos n) c h = (_, refl)
-power-valued x (negsuc n) c h = (_, pick-else (res P x) Nothing _ (not-residue x c (λ e. h n refl (ap Value e))))
-
 operation-valued : (o : InfixOp) (x y : ℤ) → isArithmetic o ≡ true → elem P x ≡ x → elem P y ≡ y → NotZeroAt o (Value x) (Value y) → Valued (infixOf P o x y)
-unfolding isArithmetic infixOf divideOf divideZOf intDivideOf moduloOf exponentiateOf
-operation-valued Divide x y a cx cy h = (_, pick-else (res P y) Nothing _ (not-residue y cy (λ e. h (ap Value e))))
-operation-valued DivideZ x y a cx cy h = either (eqb (res P y) 0) (pos 0) (quotient P x y)
-  where
-    either : (c : Bool) (u v : ℤ) → Valued (pick c (Value u) (Value v))
-    either true u v = (u, refl)
-    either false u v = (v, refl)
-operation-valued Multiply x y a cx cy h = (_, refl)
-operation-valued Add x y a cx cy h = (_, refl)
-operation-valued Subtract x y a cx cy h = (_, refl)
+unfolding isArithmetic
+operation-valued Divide x y a cx cy h = divide-valued P P-prime x y .1 (not-zero-value P P-prime y cy h)
+operation-valued DivideZ x y a cx cy h = divide-z-total P P-prime x y
+operation-valued Multiply x y a cx cy h = (_, multiply-answer P x y)
+operation-valued Add x y a cx cy h = (_, add-answer P x y)
+operation-valued Subtract x y a cx cy h = (_, subtract-answer P x y)
 operation-valued Equal x y a cx cy h = absurd (false-true a)
-operation-valued Exponentiate x y a cx cy h = subst (λ (k : ℤ). Valued (raised P x k)) (sym cy) (power-valued x y cx h)
-operation-valued IntDivide x y a cx cy h = (_, pick-else (res P y) Nothing _ (not-residue y cy (λ e. h (ap Value e))))
-operation-valued Modulo x y a cx cy h = (_, pick-else (res P y) Nothing _ (not-residue y cy (λ e. h (ap Value e))))
+operation-valued Exponentiate x y a cx cy h = power-valued P P-prime x y .1 (λ n e z. h n (ap Value (sym cy ∙ e)) (ap Value (sym cx ∙ z)))
+operation-valued IntDivide x y a cx cy h = int-divide-valued P P-prime x y .1 (not-zero-value P P-prime y cy h)
+operation-valued Modulo x y a cx cy h = modulo-valued P P-prime x y .1 (not-zero-value P P-prime y cy h)
 
 abbrev pub Total : Table → Type 0
 Total t = (x : ℕ) → Valued (t x)
@@ -108,11 +97,7 @@ start-canonical ρ elements x z h = element-path (ρ x) z (value-path (ρ x) z h
 
 -- 0 has no negative power
 power-not-zero : (x y z : ℤ) → elem P y ≡ y → infixOf P Exponentiate x y ≡ Value z → NotZeroAt Exponentiate (Value x) (Value y)
-unfolding infixOf exponentiateOf raised
-power-not-zero x y z cy h n e f =
-    let power : raised P x (negsuc n) ≡ Value z = ap (raised P x) (sym (cy ∙ value-path y (negsuc n) e)) ∙ h in
-    let of-zero : raised P (pos 0) (negsuc n) ≡ Value z = ap (λ (k : ℤ). raised P k (negsuc n)) (sym (value-path x (pos 0) f)) ∙ power in
-    nothing-value z (sym (pick-zero (res P (pos 0)) _ _ (res-zero P P-above)) ∙ of-zero)
+power-not-zero x y z cy h n e f = power-valued P P-prime x y .0 (z, h) n (cy ∙ value-path y (negsuc n) e) (zero-value P P-prime x f)
 
 operation-not-zero : (o : InfixOp) (x y z : ℤ) → elem P y ≡ y → infixOf P o x y ≡ Value z → NotZeroAt o (Value x) (Value y)
 operation-not-zero Divide x y z cy h = divisor-not-zero Divide x y z h

@@ -12,7 +12,9 @@ use borrow.Author.Tests.{eqb-true, eqb-false}
 use Rattle.field.specs.declared.Answer.the-variants.{Value}
 use Rattle.field.specs.Prime.{P}
 use Rattle.field.specs.Element.{elem}
+use Rattle.field.proofs.Primality.{P-above}
 use Rattle.field.proofs.Elements.{elem-elem}
+use Rattle.field.proofs.Answers.{value-path}
 use Rattle.source.specs.Trees.{variableP, Expr, constant, variable, Env, empty, entry}
 use Rattle.flat.specs.Trees.{Definition}
 use Rattle.flat.specs.Meaning.{Assignment, Elements}
@@ -29,7 +31,6 @@ use Rattle.eval_trees.proofs.Runs.{refused-gives, gives-value, gives-state, bin
 use Rattle.eval_trees.proofs.Environments.{insert-same, insert-other}
 use Rattle.eval_trees.proofs.Exchange.{restored, restored-step, Exchanged, exchange-back, binding, one-bound}
 use Rattle.plain.specs.Meaning.{Table, write, valueOf}
-use Rattle.plain.proofs.Powers.{P-above, value-path}
 use Rattle.plain.proofs.Values.{false-true, through-back, negated-back, values-back, writing, update-same, update-other, flat-value}
 use Rattle.plain.proofs.Terms.{run, RunValued, now, Term, ofConstant, ofVariable, ofNegate, Scoped, sConstant, sBound, sFree, sNegate, sBinary, sLet, term-up, term-value, Core, Grew, Unbound, SameBindings, Result, Stands, Agree, grew-trans, bindings-trans, unbound-same, kept-value, agree-grew, counted, following}
 use Rattle.plain.proofs.Steps.{Keeps, grew-by, core-by, infix-result, negate-result, variable-bound, variable-free}

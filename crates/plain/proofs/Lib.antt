@@ -1,4 +1,3 @@
-pub mod Powers
 pub mod Values
 pub mod Terms
 pub mod Steps

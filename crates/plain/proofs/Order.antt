@@ -19,7 +19,7 @@ use Rattle.field.specs.declared.InfixOp.the-variants.{Divide, DivideZ, Multiply
 use Rattle.field.specs.Prime.{P}
 use Rattle.field.specs.Element.{elem}
 use Rattle.field.specs.Operations.{opposite, infixOf}
-use Rattle.field.proofs.Primality.{P-prime}
+use Rattle.field.proofs.Primality.{P-prime, P-above}
 use Rattle.field.proofs.Elements.{elem-elem}
 use Rattle.field.proofs.Answers.{infix-element, opposite-element}
 use Rattle.field.proofs.Units.{one-element}
@@ -42,7 +42,6 @@ use Rattle.eval_trees.proofs.Environments.{insert-same, insert-other}
 use Rattle.eval_trees.proofs.Exchange.{restored, restored-step, Exchanged, exchange-back, one-bound}
 use Rattle.eval_trees.proofs.Helpers.{infix-case}
 use Rattle.plain.specs.Plain.{isArithmetic}
-use Rattle.plain.proofs.Powers.{P-above}
 use Rattle.plain.proofs.Values.{false-true, some-path, none-some}
 use Rattle.plain.proofs.Terms.{Term, ofConstant, ofVariable, ofNegate, Scoped, sConstant, sBound, sFree, sNegate, sBinary, sLet, term-up, term-scoped, infix-scoped}
 use Rattle.plain.proofs.Lets.{capture-term, expand-term, define-term, match-term}

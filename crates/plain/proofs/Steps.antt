@@ -15,10 +15,11 @@ use Rattle.field.specs.declared.InfixOp.{InfixOp}
 use Rattle.field.specs.declared.InfixOp.the-variants.{Divide, DivideZ, Multiply, Add, Subtract, Equal, Exponentiate, IntDivide, Modulo}
 use Rattle.field.specs.Prime.{P}
 use Rattle.field.specs.Element.{elem}
-use Rattle.field.specs.Operations
 use Rattle.field.specs.Operations.{opposite, power, infixOf}
-use Rattle.field.proofs.Primality.{P-prime}
-use Rattle.field.proofs.Answers.{infix-element, opposite-element}
+use Rattle.field.proofs.Primality.{P-prime, P-above, P-odd}
+use Rattle.field.proofs.Elements.{elem-below, elem-opposite}
+use Rattle.field.proofs.Answers.{value-path, nothing-value, infix-element, opposite-element}
+use Rattle.field.proofs.Powers.{power-one, power-zero, multiply-powers, multiply-base, power-natural, power-negative}
 use Rattle.field.proofs.Units.{one-element}
 use Rattle.source.specs.Trees.{Expr, binary, negate, constant, variable}
 use Rattle.flat.specs.Trees.{Flat, Definition}
@@ -33,13 +34,16 @@ use Rattle.eval_trees.specs.Evaluation.{defined, answered, boundTo, numbers, ev
 use Rattle.eval_trees.proofs.Runs.{refused-gives, gives-value, gives-state, bind-case, then-case, bind-known, return-back, passed, past, got, Same, same-refl, same-trans, same-by, make-same, generate-back, push-back}
 use Rattle.plain.specs.Plain.{isArithmetic}
 use Rattle.plain.specs.Meaning.{Table, valueOf}
-use Rattle.plain.proofs.Powers.{value-path, nothing-value, elem-below, elem-opposite, power-sum, power-one, power-none, multiplied, raised-by, raised-value, divided}
 use Rattle.plain.proofs.Values.{false-true, negated-value, update-same, update-other, value-element, table, flat-value, cond-case, binary-value, infix-value}
 use Rattle.plain.proofs.Terms.{run, RunValued, now, now-canonical, Term, ofConstant, ofVariable, ofNegate, Scoped, sConstant, sBinary, term-up, term-scoped, infix-scoped, Core, Grew, Unbound, SameBindings, Result, Stands, Agree, grew-trans, bindings-trans, same-grew, same-core, same-bindings, unbound-same, kept-value, counted, following, own-table}
 
 -- what evaluates at one level less keeps the promise
 abbrev pub Keeps : (ℕ → Bool) → ℕ → Assignment → (Expr → Run Expr) → Type 0
 Keeps B N t ev = (Γ : List ℕ) (k : ℕ) (τ : Table) (e : Expr) (s u : State) (v : Expr) (z : ℤ) → Scoped B k Γ e → ev e s ≡ gives v u → k ≤ s .next → Core B N t s → Unbound B N t s → Agree B N t k Γ τ s → valueOf τ e ≡ Value z → Result B N t s u v z
+
+-- the value of `^` with an exponent from 0 on
+raised-value : (x : ℤ) (n : ℕ) (z : ℤ) → elem P (pos n) ≡ pos n → infixOf P Exponentiate x (pos n) ≡ Value z → power P x n ≡ z
+raised-value x n z c h = value-path _ z (sym (power-natural P P-prime x (pos n) n c) ∙ h)
 
 module _ (B : ℕ → Bool) (N : ℕ) (beyond : (x : ℕ) → N ≤ x → B x ≡ false) (t : Assignment) (elements : Elements t) where
   -- a definition was pushed
@@ -119,25 +123,19 @@ module _ (B : ℕ → Bool) (N : ℕ) (beyond : (x : ℕ) → N ≤ x → B x �
   -- the power of a term, as an expression
   power-value : (s : State) (a : Expr) (x : ℤ) (n : ℕ) → valueOf (now t s) a ≡ Value x → elem P (pos n) ≡ pos n → valueOf (now t s) (binary Exponentiate a (constant (pos n))) ≡ Value (power P x n)
   unfolding valueOf
-  power-value s a x n p c = binary-value _ Exponentiate a (constant (pos n)) x (pos n) (power P x n) p (ap Value c) (raised-by x n c)
+  power-value s a x n p c = binary-value _ Exponentiate a (constant (pos n)) x (pos n) (power P x n) p (ap Value c) (power-natural P P-prime x (pos n) n c)
 
   -- the square, times the base where the exponent is odd
   whole-value : (s : State) (a r : Expr) (x : ℤ) (n : ℕ) → 0 < n → valueOf (now t s) a ≡ Value x → valueOf (now t s) r ≡ Value (power P x (n / 2)) →
       valueOf (now t s) ((cond (eqb (n % 2) 1) (infixOp Multiply (infixOp Multiply r r .0) a) (infixOp Multiply r r .0, 0)) .0) ≡ Value (power P x n)
   whole-value s a r x n o p q = cond-case (eqb (n % 2) 1) _ _ (λ e. valueOf (now t s) e ≡ Value (power P x n)) odd even
     where
-      cx : elem P x ≡ x
-      cx = value-element a _ (now-canonical t elements s) x p
-
-      h : ℕ
-      h = n / 2
-
       square : valueOf (now t s) (infixOp Multiply r r .0) ≡ Value (power P x (n / 2 + n / 2))
-      square = by-infix s (power P x (n / 2)) (power P x (n / 2)) (power P x (n / 2 + n / 2)) r r q q Multiply (multiplied _ _ ∙ ap Value (power-sum x (n / 2) (n / 2)))
+      square = by-infix s (power P x (n / 2)) (power P x (n / 2)) (power P x (n / 2 + n / 2)) r r q q Multiply (multiply-powers P P-prime x (n / 2) (n / 2))
 
       odd : eqb (n % 2) 1 ≡ true → valueOf (now t s) (infixOp Multiply (infixOp Multiply r r .0) a .0) ≡ Value (power P x n)
       odd e = by-infix s (power P x (n / 2 + n / 2)) x (power P x n) (infixOp Multiply r r .0) a square p Multiply
-          (multiplied _ _ ∙ ap Value (ap (Operations.product P (power P x (n / 2 + n / 2))) (sym (power-one x cx)) ∙ power-sum x (n / 2 + n / 2) 1 ∙ ap (power P x) (let w : n % 2 ≡ 1 = eqb-true (n % 2) 1 e in omega arith)))
+          (multiply-base P P-prime x (n / 2 + n / 2) ∙ ap (λ (k : ℕ). Value (power P x k)) (let w : n % 2 ≡ 1 = eqb-true (n % 2) 1 e in omega arith))
 
       even : eqb (n % 2) 1 ≡ false → valueOf (now t s) (infixOp Multiply r r .0) ≡ Value (power P x n)
       even e = square ∙ ap (λ (k : ℕ). Value (power P x k)) (let w : n % 2 ≡ 1 → ⊥ = eqb-false (n % 2) 1 e in omega arith)
@@ -154,7 +152,8 @@ module _ (B : ℕ → Bool) (N : ℕ) (beyond : (x : ℕ) → N ≤ x → B x �
   -- 1 over the power
   inverse-value : (s : State) (a : Expr) (x : ℤ) (n : ℕ) (z : ℤ) → valueOf (now t s) a ≡ Value x → elem P (negsuc n) ≡ negsuc n → infixOf P Exponentiate x (negsuc n) ≡ Value z → valueOf (now t s) (binary Divide (constant (pos 1)) (binary Exponentiate a (constant (pos (suc n))))) ≡ Value z
   inverse-value s a x n z p c h =
-      binary-value _ Divide (constant (pos 1)) (binary Exponentiate a (constant (pos (suc n)))) (pos 1) (power P x (suc n)) z (one-value s) (power-value s a x (suc n) p (elem-opposite n c)) (divided x n z c h)
+      binary-value _ Divide (constant (pos 1)) (binary Exponentiate a (constant (pos (suc n)))) (pos 1) (power P x (suc n)) z (one-value s)
+      (power-value s a x (suc n) p (elem-opposite P P-above P-odd n c)) (sym (power-negative P P-prime x (negsuc n) n c) ∙ h)
 
   squares : (ev : Expr → Run Expr) → Keeps B N t ev → (a r : Expr) (n : ℕ) (s s2 s3 s5 u : State) (v : Expr) (x z : ℤ) → 0 < n → Term B (s .next) a → valueOf (now t s) a ≡ Value x → elem P (pos n) ≡ pos n → infixOf P Exponentiate x (pos n) ≡ Value z →
       Same s s2 → ev (binary Exponentiate a (constant (pos (n / 2)))) s2 ≡ gives r s3 → Same s3 s5 → ev ((cond (eqb (n % 2) 1) (infixOp Multiply (infixOp Multiply r r .0) a) (infixOp Multiply r r .0, 0)) .0) s5 ≡ gives v u → Core B N t s → Unbound B N t s → Result B N t s u v z
@@ -163,7 +162,9 @@ module _ (B : ℕ → Bool) (N : ℕ) (beyond : (x : ℕ) → N ≤ x → B x �
       let ta2 : Term B (s2 .next) a = term-up (same-grew B N t m2 .next) ta in
       let p2 : valueOf (now t s2) a ≡ Value x = kept-value B N t (same-grew B N t m2) ta p in
       let f2 : Unbound B N t s2 = unbound-same B N t (same-bindings B N t m2) f in
-      let one : Result B N t s2 s3 r (power P x (n / 2)) = made-result ev ih (binary Exponentiate a (constant (pos (n / 2)))) s2 s3 r (power P x (n / 2)) (sBinary refl (term-scoped ta2) sConstant) third (same-core B N t m2 k) f2 (power-value s2 a x (n / 2) p2 (elem-below n (n / 2) c (omega arith))) in
+      let root : elem P (pos (n / 2)) ≡ pos (n / 2) = elem-below P P-above P-odd n (n / 2) c (omega arith) in
+      let one : Result B N t s2 s3 r (power P x (n / 2)) = made-result ev ih (binary Exponentiate a (constant (pos (n / 2)))) s2 s3 r (power P x (n / 2))
+      (sBinary refl (term-scoped ta2) sConstant) third (same-core B N t m2 k) f2 (power-value s2 a x (n / 2) p2 root) in
       let g : Grew B N t s2 s5 = grew-trans B N t (one .grew) (same-grew B N t m5) in
       let b : SameBindings B N t s2 s5 = bindings-trans B N t (one .bindings) (same-bindings B N t m5) in
       let two : Result B N t s5 u v (power P x n) = made-result ev ih _ s5 u v (power P x n) (whole-scoped (eqb (n % 2) 1) (term-up (g .next) ta2) (term-up (same-grew B N t m5 .next) (one .term))) e5 (same-core B N t m5 (one .core)) (unbound-same B N t b f2)
@@ -184,10 +185,12 @@ module _ (B : ℕ → Bool) (N : ℕ) (beyond : (x : ℕ) → N ≤ x → B x �
   power-result ev ih (pos zero) s u v x z ta p c h e k f =
       then-case (make 1) _ s v u e λ y w first second.
       let b = return-back (constant (pos 1)) v w u second in
-      renamed (b .value) (counted B N t (same-by (make-same 1 s y w first) (b .state)) k (ofConstant one-element) (one-value s ∙ ap Value (sym (sym (raised-value x 0 z c h) ∙ power-none x))))
+      renamed (b .value) (counted B N t (same-by (make-same 1 s y w first) (b .state)) k (ofConstant one-element)
+      (one-value s ∙ ap Value (sym (power-zero P P-prime x) ∙ raised-value x 0 z c h)))
   power-result ev ih (pos (suc zero)) s u v x z ta p c h e k f =
       let b = return-back _ v s u e in
-      renamed (b .value) (counted B N t (same-by (same-refl s) (b .state)) k ta (p ∙ ap Value (sym (power-one x (value-element _ _ (now-canonical t elements s) x p)) ∙ raised-value x 1 z c h)))
+      renamed (b .value) (counted B N t (same-by (same-refl s) (b .state)) k ta
+      (p ∙ ap Value (sym (power-one P P-prime x ∙ value-element _ _ (now-canonical t elements s) x p) ∙ raised-value x 1 z c h)))
   power-result ev ih {a = a} (pos (suc (suc n))) s u v x z ta p c h e k f =
       then-case (refuseIf _ 31) _ s v u (bind-known get _ s s s v u (got s) e) λ y1 s1 first e1.
       then-case (make 2) _ s1 v u e1 λ y2 s2 second e2.

@@ -13,9 +13,9 @@ use Rattle.field.specs.declared.Answer.the-variants.{Value, Nothing}
 use Rattle.field.specs.declared.InfixOp.{InfixOp}
 use Rattle.field.specs.Prime.{P}
 use Rattle.field.specs.Element.{elem}
-use Rattle.field.proofs.Primality.{P-prime}
+use Rattle.field.proofs.Primality.{P-prime, P-above}
 use Rattle.field.proofs.Elements.{elem-elem}
-use Rattle.field.proofs.Answers.{infix-element, opposite-element}
+use Rattle.field.proofs.Answers.{value-path, infix-element, opposite-element}
 use Rattle.field.proofs.Units.{zero-element}
 use Rattle.source.specs.Trees.{variableP, Expr, binary, negate, constant, variable, letting}
 use Rattle.flat.specs.Trees.{Flat, Definition}
@@ -28,7 +28,6 @@ use Rattle.eval_trees.proofs.Runs.{Same}
 use Rattle.eval_trees.proofs.Helpers.{infix-case}
 use Rattle.plain.specs.Plain.{isArithmetic}
 use Rattle.plain.specs.Meaning.{Table, valueOf, Valued}
-use Rattle.plain.proofs.Powers.{P-above, value-path}
 use Rattle.plain.proofs.Values.{false-true, negated-back, values-back, Canonical, element-path, table}
 
 -- the definitions, the newest first, worked out from the oldest on; each has a value

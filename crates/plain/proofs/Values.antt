@@ -14,9 +14,9 @@ use Rattle.field.specs.declared.InfixOp.the-variants.{Divide, DivideZ, Multiply
 use Rattle.field.specs.Prime.{P}
 use Rattle.field.specs.Element.{elem}
 use Rattle.field.specs.Operations.{opposite, infixOf}
-use Rattle.field.proofs.Primality.{P-prime}
+use Rattle.field.proofs.Primality.{P-prime, P-above}
 use Rattle.field.proofs.Elements.{elem-elem}
-use Rattle.field.proofs.Answers.{infix-element, opposite-element}
+use Rattle.field.proofs.Answers.{value-path, nothing-value, infix-element, opposite-element}
 use Rattle.field.proofs.Units.{one-element, zero-element, one-multiply, multiply-one, zero-multiply, multiply-zero, divide-one, divide-z-one, zero-divide-z, int-divide-one, modulo-one, zero-add, add-zero, subtract-zero}
 use Rattle.source.specs.Trees.{Pat, unitP, nilP, asP, productP, consP, variableP, constantP, Expr, unit, nil, sequence, product, cons, binary, negate, application, constant, variable, function, intrinsic, letting, matching}
 use Rattle.flat.specs.Trees.{Flat}
@@ -24,7 +24,6 @@ use Rattle.flat.specs.Meaning.{update, Assignment, onValues, negated, value}
 use Rattle.eval_trees.specs.Forms.{onConstant, flatOf, joined, opposed}
 use Rattle.eval_trees.specs.Simplify.{isPos, isConstant, infixOp}
 use Rattle.plain.specs.Meaning.{Table, write, through, valueOf}
-use Rattle.plain.proofs.Powers.{P-above, value-path, nothing-value}
 
 pub false-true : false ≡ true → ⊥
 false-true e = let o : _≡_ {A = ℕ} 0 1 = cc in omega arith
@@ -228,24 +227,33 @@ module _ (t : Table) (a b : Expr) (x y z : ℤ) (p : valueOf t a ≡ Value x) (q
   pub infix-value : (o : InfixOp) → infixOf P o x y ≡ Value z → valueOf t (infixOp o a b .0) ≡ Value z
   unfolding infixOp Q valueOf
   infix-value Multiply e =
-      cond-case _ _ _ Q (λ c. on-right Multiply _ e (at-left Multiply (pos 1) (is-one t a x c p)) (one-multiply y))
-      λ _. cond-case _ _ _ Q (λ c. on-left Multiply _ e (at-right Multiply (pos 1) (is-one t b y c q)) (multiply-one x))
-      λ _. cond-case _ _ _ Q (λ c. on-left Multiply _ e (at-left Multiply (pos 0) (is-zero t a x c p)) (zero-multiply y ∙ zero-left (is-zero t a x c p)))
-      λ _. cond-case _ _ _ Q (λ c. on-right Multiply _ e (at-right Multiply (pos 0) (is-zero t b y c q)) (multiply-zero x ∙ zero-right (is-zero t b y c q)))
+      cond-case _ _ _ Q (λ c. on-right Multiply _ e (at-left Multiply (pos 1) (is-one t a x c p)) (one-multiply P P-prime y))
+      λ _. cond-case _ _ _ Q (λ c. on-left Multiply _ e (at-right Multiply (pos 1) (is-one t b y c q)) (multiply-one P P-prime x))
+      λ _. cond-case _ _ _ Q
+      (λ c. on-left Multiply _ e (at-left Multiply (pos 0) (is-zero t a x c p)) (zero-multiply P P-prime y ∙ zero-left (is-zero t a x c p)))
+      λ _. cond-case _ _ _ Q
+      (λ c. on-right Multiply _ e (at-right Multiply (pos 0) (is-zero t b y c q)) (multiply-zero P P-prime x ∙ zero-right (is-zero t b y c q)))
       λ _. binary-value t Multiply a b x y z p q e
-  infix-value Divide e = cond-case _ _ _ Q (λ c. on-left Divide _ e (at-right Divide (pos 1) (is-one t b y c q)) (divide-one x)) λ _. binary-value t Divide a b x y z p q e
+  infix-value Divide e =
+      cond-case _ _ _ Q (λ c. on-left Divide _ e (at-right Divide (pos 1) (is-one t b y c q)) (divide-one P P-prime x))
+      λ _. binary-value t Divide a b x y z p q e
   infix-value DivideZ e =
-      cond-case _ _ _ Q (λ c. on-left DivideZ _ e (at-right DivideZ (pos 1) (is-one t b y c q)) (divide-z-one x))
-      λ _. cond-case _ _ _ Q (λ c. on-left DivideZ _ e (at-left DivideZ (pos 0) (is-zero t a x c p)) (zero-divide-z y ∙ zero-left (is-zero t a x c p)))
+      cond-case _ _ _ Q (λ c. on-left DivideZ _ e (at-right DivideZ (pos 1) (is-one t b y c q)) (divide-z-one P P-prime x))
+      λ _. cond-case _ _ _ Q
+      (λ c. on-left DivideZ _ e (at-left DivideZ (pos 0) (is-zero t a x c p)) (zero-divide-z P P-prime y ∙ zero-left (is-zero t a x c p)))
       λ _. binary-value t DivideZ a b x y z p q e
-  infix-value IntDivide e = cond-case _ _ _ Q (λ c. on-left IntDivide _ e (at-right IntDivide (pos 1) (is-one t b y c q)) (int-divide-one x)) λ _. binary-value t IntDivide a b x y z p q e
+  infix-value IntDivide e =
+      cond-case _ _ _ Q (λ c. on-left IntDivide _ e (at-right IntDivide (pos 1) (is-one t b y c q)) (int-divide-one P P-prime x))
+      λ _. binary-value t IntDivide a b x y z p q e
   infix-value Modulo e =
-      cond-case _ _ _ Q (λ c. ap Value zero-element ∙ sym (modulo-one x) ∙ sym (at-right Modulo (pos 1) (is-one t b y c q)) ∙ e)
+      cond-case _ _ _ Q (λ c. ap Value zero-element ∙ sym (modulo-one P P-prime x) ∙ sym (at-right Modulo (pos 1) (is-one t b y c q)) ∙ e)
       λ _. binary-value t Modulo a b x y z p q e
   infix-value Add e =
-      cond-case _ _ _ Q (λ c. on-right Add _ e (at-left Add (pos 0) (is-zero t a x c p)) (zero-add y))
-      λ _. cond-case _ _ _ Q (λ c. on-left Add _ e (at-right Add (pos 0) (is-zero t b y c q)) (add-zero x))
+      cond-case _ _ _ Q (λ c. on-right Add _ e (at-left Add (pos 0) (is-zero t a x c p)) (zero-add P P-prime y))
+      λ _. cond-case _ _ _ Q (λ c. on-left Add _ e (at-right Add (pos 0) (is-zero t b y c q)) (add-zero P P-prime x))
       λ _. binary-value t Add a b x y z p q e
-  infix-value Subtract e = cond-case _ _ _ Q (λ c. on-left Subtract _ e (at-right Subtract (pos 0) (is-zero t b y c q)) (subtract-zero x)) λ _. binary-value t Subtract a b x y z p q e
+  infix-value Subtract e =
+      cond-case _ _ _ Q (λ c. on-left Subtract _ e (at-right Subtract (pos 0) (is-zero t b y c q)) (subtract-zero P P-prime x))
+      λ _. binary-value t Subtract a b x y z p q e
   infix-value Equal e = binary-value t Equal a b x y z p q e
   infix-value Exponentiate e = binary-value t Exponentiate a b x y z p q e

@@ -4,7 +4,7 @@ use mathlib.Core.Bool.{Bool, true, false, _||_}
 use mathlib.Core.List.{List, [], _∷_}
 use mathlib.Core.Logic.{_↔_}
 use Prim.Native.Nat.{ℕ}
-use lib.IntN.{ℤ, pos}
+use lib.IntN.{ℤ}
 use lib.Dec.{eqb}
 use borrow.Author.Tests.{eqb-false}
 use Rattle.field.specs.declared.Answer.{Answer}
@@ -12,15 +12,13 @@ use Rattle.field.specs.declared.Answer.the-variants.{Value}
 use Rattle.field.specs.declared.InfixOp.{InfixOp}
 use Rattle.field.specs.declared.InfixOp.the-variants.{Divide, DivideZ, Multiply, Add, Subtract, Equal, Exponentiate, IntDivide, Modulo}
 use Rattle.field.specs.Prime.{P}
-use Rattle.field.specs.Element.{res}
-use Rattle.field.specs.Operations.{divideOf, intDivideOf, moduloOf, infixOf}
-use Rattle.field.proofs.Elements.{res-zero}
-use Rattle.field.proofs.ByResidues.{pick-zero}
+use Rattle.field.specs.Operations.{infixOf}
+use Rattle.field.proofs.Primality.{P-prime}
+use Rattle.field.proofs.Values.{zero-value, divide-valued, int-divide-valued, modulo-valued}
 use Rattle.flat.specs.Trees.{Flat, Definition, Equation, defines}
 use Rattle.flat.specs.Rules.{All, Every, Ordered}
 use Rattle.flat.specs.Meaning.{Assignment, Elements, onValues, negated, value, DefinitionHolds, EquationHolds, DivisorNotZero, NoZeroDivisor, orZero, workedOut, NoZeroInTurn}
 use Rattle.plain.specs.Meaning.{Equal-sides}
-use Rattle.plain.proofs.Powers.{P-above, value-path, nothing-value}
 use Rattle.plain.proofs.Values.{false-true, negated-back, values-back, update-same, update-other}
 use Rattle.plain.proofs.Terms.{update-elements}
 use Rattle.plain.proofs.Modules.{flatSides, InTurnValued}
@@ -68,20 +66,16 @@ definitions-hold (d ∷ ds) ρ o w = (
 )
 
 -- a division with a value has a divisor that is not zero
-at-zero : (o : InfixOp) (x y : ℤ) (z : ℤ) → y ≡ pos 0 → infixOf P o x y ≡ Value z → infixOf P o x (pos 0) ≡ Value z
-at-zero o x y z e h = ap (infixOf P o x) (sym e) ∙ h
-
 pub divisor-not-zero : (o : InfixOp) (x y z : ℤ) → infixOf P o x y ≡ Value z → DivisorNotZero o (Value y)
-unfolding infixOf divideOf intDivideOf moduloOf
-divisor-not-zero Divide x y z h = λ e. nothing-value z (sym (pick-zero (res P (pos 0)) _ _ (res-zero P P-above)) ∙ at-zero Divide x y z (value-path _ _ e) h)
+divisor-not-zero Divide x y z h = λ e. divide-valued P P-prime x y .0 (z, h) (zero-value P P-prime y e)
 divisor-not-zero DivideZ x y z h = tt
 divisor-not-zero Multiply x y z h = tt
 divisor-not-zero Add x y z h = tt
 divisor-not-zero Subtract x y z h = tt
 divisor-not-zero Equal x y z h = tt
 divisor-not-zero Exponentiate x y z h = tt
-divisor-not-zero IntDivide x y z h = λ e. nothing-value z (sym (pick-zero (res P (pos 0)) _ _ (res-zero P P-above)) ∙ at-zero IntDivide x y z (value-path _ _ e) h)
-divisor-not-zero Modulo x y z h = λ e. nothing-value z (sym (pick-zero (res P (pos 0)) _ _ (res-zero P P-above)) ∙ at-zero Modulo x y z (value-path _ _ e) h)
+divisor-not-zero IntDivide x y z h = λ e. int-divide-valued P P-prime x y .0 (z, h) (zero-value P P-prime y e)
+divisor-not-zero Modulo x y z h = λ e. modulo-valued P P-prime x y .0 (z, h) (zero-value P P-prime y e)
 
 divisor-of : (o : InfixOp) (v : Answer) (y : ℤ) → v ≡ Value y → DivisorNotZero o (Value y) → DivisorNotZero o v
 divisor-of o v y e h = subst (DivisorNotZero o) (sym e) h
