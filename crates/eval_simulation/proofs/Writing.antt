@@ -1,4 +1,3 @@
-pub mod ReadBack
 pub mod Trees
 pub mod Bytes
 pub mod Lists
