@@ -4,3 +4,4 @@ pub mod Cuttable
 pub mod Example
 pub mod Never
 pub mod Operators
+pub mod Ending

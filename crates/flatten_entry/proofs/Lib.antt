@@ -4,3 +4,4 @@ pub mod Long
 pub mod Longest
 pub mod Cases
 pub mod Example
+pub mod Ending

@@ -7,13 +7,8 @@ use mathlib.Core.List.{List, [], _∷_}
 use mathlib.Core.Option.{none}
 use native.Mathlib.Omega.{arith}
 use lib.ListN.{length, length-append}
-use Rattle.words.specs.Words.{wordAt}
 use Rattle.source.specs.Trees.{Module}
-use Rattle.source.specs.Indices
-use Rattle.source.specs.Layout.{publics, publicsAt}
-use Rattle.source.specs.Readable.{Readable}
-use Rattle.source.specs.Record.{Read, sourceOf, moduleOf}
-use Rattle.source.proofs.Accepted.{accepted-readable, accepted-module}
+use Rattle.source.specs.Record.{Read, sourceOf}
 use Rattle.flat.specs.Trees.{Definition, FlatModule, treeNodes, definitionsNodes, moduleNodes}
 use Rattle.constraint.specs.declared.Term.{Term}
 use Rattle.constraint.specs.Trees.{ConstraintModule}
@@ -25,17 +20,17 @@ use Rattle.pass_3ac.specs.declared.Target.the-variants.{Given}
 use Rattle.pass_3ac.specs.Cutting.{targetOf, treeCut, equationsCut}
 use Rattle.pass_3ac.proofs.Trees.{copied-nodes, cut-few}
 use Rattle.pass_3ac.proofs.Equations.{few-equations}
-use Rattle.numbering.specs.Numbering.{Names, _>>=_, return, numberPublics, numberModuleVariables, numbered}
+use Rattle.numbering.specs.Numbering.{numbered}
 use Rattle.eval_trees.specs.State as State
 use Rattle.eval_trees.specs.Evaluation.{Evaluated, flat, refusal, evaluateModule, begin, finished, evaluatedBy, evaluated}
 use Rattle.eval_trees.specs.Statements.{Made}
 use Rattle.eval_trees.proofs.Made.{evaluated-is-made}
-use Rattle.eval_simulation.proofs.Beginning.Sized.{next-small}
 use Rattle.eval_entry.specs.Source.{capacityOf}
+use Rattle.eval_entry.proofs.Recorded.{flat-path, publics-few, next-fits}
 use Rattle.agreement.specs.Flattened.{passed, flattenedOf}
 use Rattle.flatten_entry.specs.Flatten.{flattenedRead, flattened}
 use Rattle.flatten_entry.specs.Statement.{LongestRecord}
-use Rattle.flatten_entry.proofs.Answers.{flat-path, refused-cut}
+use Rattle.flatten_entry.proofs.Answers.{refused-cut}
 
 -- ---- the passes leave no more than they are given
 
@@ -131,32 +126,9 @@ module _ (f : FlatModule) where
   unfolding passes flattenModuleTo3ac eliminateDeadEqualities copyPropagate classifyDefs
   passes-publics = refl
 
--- ---- the publics are the record's
-
-numbered-publics : (xs : List ℕ) (n : Names) → length (numberPublics xs n .0) ≡ length xs
-unfolding numberPublics _>>=_ return
-numbered-publics [] n = refl
-numbered-publics (x ∷ xs) n = ap suc (numbered-publics xs _)
-
-publics-same : (m : Module) → length (numbered m .publics) ≡ length (m .publics)
-unfolding numbered numberModuleVariables _>>=_ return
-publics-same m = numbered-publics (m .publics) _
-
-rows-few : {A : Type 0} (n k : ℕ) (f : ℕ → A) → length (Indices.rows n k f) ≡ n
-unfolding Indices.rows
-rows-few zero k f = refl
-rows-few (suc n) k f = ap suc (rows-few n (suc k) f)
-
 module _ (b : List ℕ) (m : Module) (r : sourceOf b ≡ Read.module-of m) (capacity : ℕ) (f : FlatModule) (e : evaluated capacity (numbered m) ≡ flat f) where
-  readable : Readable b
-  readable = accepted-readable b m r
-
   made : Made f
-  made = evaluated-is-made m (subst (λ (x : Module). numbered x .next ≤ 65536) (sym (accepted-module b m r)) (next-small b readable)) capacity f e
-
-  module-publics : length (m .publics) ≤ 64
-  unfolding moduleOf
-  module-publics = omega (arith, ap (λ (x : Module). length (x .publics)) (accepted-module b m r), rows-few (publics b) 0 (λ k. wordAt b (publicsAt b + k)), readable .publics-few)
+  made = evaluated-is-made m (next-fits b m r) capacity f e
 
   flat-publics : f .publics ≡ numbered m .publics
   unfolding evaluated evaluatedBy finished
@@ -175,8 +147,7 @@ module _ (b : List ℕ) (m : Module) (r : sourceOf b ≡ Read.module-of m) (capa
         length-bytes (passes f),
         ap length (passes-publics f),
         ap length flat-publics,
-        publics-same m,
-        module-publics,
+        publics-few b m r,
         passes-provers f,
         passes-equalities f,
         passes-kept f .0,

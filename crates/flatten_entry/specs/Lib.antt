@@ -1,3 +1,4 @@
 pub mod Buffers
 pub mod Flatten
 pub mod Statement
+pub mod Ending

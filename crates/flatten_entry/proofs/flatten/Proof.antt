@@ -16,7 +16,7 @@ enum-known-answer c = search needs
 
 pass-on-requires : tie.Need-pass-on-requires
 pass-on-requires c κs =
-    let p = passable _ _ _ _ _ (c .before .before .before .before .before .before .before .before .before .evaluate-source .ensures .0) (c .before .before .before .before .before .answer .given .1) in
+    let p = passable _ _ _ _ (c .before .before .before .before .before .before .before .before .before .evaluate-source .ensures .0) (c .before .before .before .before .before .answer .given .1) in
     let long : length (c .before .before .before .before .before .before .before .before .before .evaluate-source .result .bytes) ≡ 344344 = search needs in
     (omega (arith, p .within, long), (p .readable, p .small))
 
@@ -31,7 +31,7 @@ same-length-2 c = search needs
 
 returns : tie.Need-returns
 returns c =
-    let p = passable _ _ _ _ _ (c .before .before .before .before .before .before .before .before .before .before .before .before .evaluate-source .ensures .0) (c .before .before .before .before .before .before .before .before .answer .given .1) in
+    let p = passable _ _ _ _ (c .before .before .before .before .before .before .before .before .before .before .before .before .evaluate-source .ensures .0) (c .before .before .before .before .before .before .before .before .answer .given .1) in
     let g = gives-as (c .before .before .before .before .before .before .before .before .before .before .before .before .before .before .before .before .before .args .out .now) _ _ (p .gives) (c .before .before .pass-on .ensures) in
     (g .0, (g .1, c .before .before .before .before .before .before .before .before .before .before .before .before .evaluate-source .ensures .1))
 
@@ -40,7 +40,7 @@ same-length-3 c = search needs
 
 returns-2 : tie.Need-returns-2
 returns-2 c =
-    let e = refused-gives _ _ _ _ _ (c .before .before .before .before .before .evaluate-source .ensures .0) (c .before .answer2 .given .1) in
+    let e = refused-gives _ _ _ _ (c .before .before .before .before .before .evaluate-source .ensures .0) (c .before .answer2 .given .1) in
     let g = gives-as (c .before .before .before .before .before .before .before .before .before .before .args .out .now) _ _ e (gives-refused (c .before .before .before .before .before .before .before .before .before .before .args .out .now) _) in
     (g .0, (g .1, c .before .before .before .before .before .evaluate-source .ensures .1))
 
