@@ -135,7 +135,7 @@ module _ (b : List ℕ) (Q : Readable b) where
       used-by (nodes b) (expressions b) r w expression-root ∙ sym (sum-all (expressions b) (λ j. w (r j)))
 
   -- THE LISTS WEIGH as much as all nodes
-  lists-weigh : (own : ℕ → ℕ) → definitionsWeight b (nodesAt b) (definitionsAt b) (definitions b) 0 own + expressionsWeight b (nodesAt b) (expressionsAt b) (expressions b) 0 own ≡ total (nodes b) own
+  pub lists-weigh : (own : ℕ → ℕ) → definitionsWeight b (nodesAt b) (definitionsAt b) (definitions b) 0 own + expressionsWeight b (nodesAt b) (expressionsAt b) (expressions b) 0 own ≡ total (nodes b) own
   lists-weigh own =
       sym (ap₂ (λ (x y : ℕ). x + y) (definitions-weigh own) (expressions-weigh own))
       ∙ sym (total-add (nodes b) (byDefinitions b (definitionsAt b) (definitions b)) (byExpressions b (expressionsAt b) (expressions b)) (weight b (nodesAt b) own))

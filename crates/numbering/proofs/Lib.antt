@@ -14,3 +14,6 @@ mod Ways
 mod Listed
 mod First
 pub mod Entire
+pub mod Parts
+pub mod Counts
+pub mod Unique

@@ -5,3 +5,4 @@ pub mod Statements
 pub mod Numbers
 pub mod Walks
 pub mod Outcome
+pub mod Places

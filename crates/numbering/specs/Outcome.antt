@@ -1,4 +1,5 @@
--- What number_module_variables leaves, for every byte string.
+-- What number_module_variables leaves, for every byte string. It is one answer: `numberingOf` (Places.antt) has this outcome and nothing else has
+-- (`outcome-exists`, `outcome-unique` in proofs/Unique.antt).
 use mathlib.Core.Path.{_≡_}
 use mathlib.Core.List.{List}
 use Prim.Native.Nat.{ℕ}
