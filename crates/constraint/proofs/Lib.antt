@@ -1,3 +1,4 @@
 pub mod Lengths
 pub mod Written
 pub mod ReadBack
+pub mod Read

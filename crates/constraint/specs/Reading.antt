@@ -6,42 +6,119 @@ use lib.Dec.{eqb}
 use mir.Val.{toZ, SFits}
 use mir.Syntax.{w32}
 use Rattle.words.specs.Words.{wordAt}
-use Rattle.flat.specs.Trees.{Flat}
+use Rattle.flat.specs.Trees.{Definition}
 use Rattle.flat.specs.Rules.{All}
-use Rattle.flat.specs.Record.{rows, pick, operatorOf, definitionAt}
+use Rattle.flat.specs.Record.{rows, pick, operatorOf, tree}
+pub use Rattle.flat.specs.Writer.{SignedTree}
+use Rattle.records.specs.Kinds.{NODE-WORDS}
 use Rattle.constraint.specs.declared.Term.{Term}
-use Rattle.constraint.specs.Trees.{Side, Equality, ConstraintModule}
-use Rattle.constraint.specs.Record.{constraintBytes, COPY, NEGATE}
+use Rattle.constraint.specs.declared.Equality.{Equality as Written}
+use Rattle.constraint.specs.declared.reading.Layout.{Layout}
+use Rattle.constraint.specs.declared.reading.KeptEntry.{KeptEntry}
+use Rattle.constraint.specs.Trees.{Side, Equality, ConstraintModule, written}
+use Rattle.constraint.specs.Record.{constraintBytes, COPY, EQUALITY-WORDS, KEPT-WORDS, NEGATE}
 
--- the term at word i; the right side of an operation's number and two terms; the equality k of those from word `at` on
+-- ---- the layout
+
+abbrev pub HEADER : ℕ
+HEADER = 6
+
+-- "words: next id, counts of publics, prover ids, equalities, kept definitions, nodes; then the lists"
+module _ (b : List ℕ) where
+  abbrev pub next : ℕ
+  next = wordAt b 0
+
+  abbrev pub publics : ℕ
+  publics = wordAt b 1
+
+  abbrev pub provers : ℕ
+  provers = wordAt b 2
+
+  abbrev pub equalities : ℕ
+  equalities = wordAt b 3
+
+  abbrev pub kept : ℕ
+  kept = wordAt b 4
+
+  abbrev pub nodes : ℕ
+  nodes = wordAt b 5
+
+  -- where each list starts, in words, and where the record ends; the public ids start behind the header
+  abbrev pub proversAt : ℕ
+  proversAt = HEADER + publics
+
+  abbrev pub equalitiesAt : ℕ
+  equalitiesAt = proversAt + provers
+
+  abbrev pub keptAt : ℕ
+  keptAt = equalitiesAt + EQUALITY-WORDS * equalities
+
+  abbrev pub nodesAt : ℕ
+  nodesAt = keptAt + KEPT-WORDS * kept
+
+  abbrev pub size : ℕ
+  size = nodesAt + NODE-WORDS * nodes
+
+-- the header's numbers and the places of the lists, as the code has them
+unfoldable pub layoutOf : List ℕ → Layout
+layoutOf b = record {
+  next = next b;
+  publics = publics b;
+  provers = provers b;
+  equalities = equalities b;
+  kept = kept b;
+  nodes = nodes b;
+  «provers_at» = proversAt b;
+  «equalities_at» = equalitiesAt b;
+  «kept_at» = keptAt b;
+  «nodes_at» = nodesAt b;
+  size = size b;
+}
+
+-- ---- entry k of a list that starts at word `at`
+
+abbrev pub publicAt : List ℕ → ℕ → ℕ
+publicAt b k = wordAt b (HEADER + k)
+
+abbrev pub proverAt : List ℕ → ℕ → ℕ → ℕ
+proverAt b at k = wordAt b (at + k)
+
+-- the term at word i: "0 and an id, or 1 and a number"; what is not 0 reads as 1
 unfoldable pub termAt : List ℕ → ℕ → Term
 termAt b i = pick (eqb (wordAt b i) 0) (Term.Variable (wordAt b (i + 1))) (Term.Constant (toZ w32 (wordAt b (i + 1))))
 
+-- the right side of an operation's number and two terms; negate and copy have no second, and a number above 10 reads as 8
 unfoldable pub sideFor : ℕ → Term → Term → Side
 sideFor n x y = pick (eqb n NEGATE) (Side.negate x) (pick (eqb n COPY) (Side.copy x) (Side.infixed (operatorOf n) x y))
 
+unfoldable pub equalityFor : Term → ℕ → Term → Term → Equality
+equalityFor left n x y = record { left = left; right = sideFor n x y }
+
 unfoldable pub equalityAt : List ℕ → ℕ → ℕ → Equality
 equalityAt b at k =
-    let i = at + 7 * k in
-    record { left = termAt b i; right = sideFor (wordAt b (i + 2)) (termAt b (i + 3)) (termAt b (i + 5)) }
+    let i = at + EQUALITY-WORDS * k in
+    equalityFor (termAt b i) (wordAt b (i + 2)) (termAt b (i + 3)) (termAt b (i + 5))
 
--- the module, with the six numbers of its header; the lists stand one after the other from word 6 on
-unfoldable pub constraintWith : List ℕ → ℕ → ℕ → ℕ → ℕ → ℕ → ℕ → ConstraintModule
-constraintWith b next publics provers equalities kept nodes =
-    let proversAt = 6 + publics in
-    let equalitiesAt = proversAt + provers in
-    let keptAt = equalitiesAt + 7 * equalities in
-    let nodesAt = keptAt + 2 * kept in
-    record {
-      next = next;
-      publics = rows publics 0 (λ k. wordAt b (6 + k));
-      provers = rows provers 0 (λ k. wordAt b (proversAt + k));
-      equalities = rows equalities 0 (equalityAt b equalitiesAt);
-      kept = rows kept 0 (definitionAt b keptAt nodesAt nodes);
-    }
+-- the same as the code's struct
+unfoldable pub writtenAt : List ℕ → ℕ → ℕ → Written
+writtenAt b at k = written (equalityAt b at k)
+
+abbrev pub keptEntry : List ℕ → ℕ → ℕ → KeptEntry
+keptEntry b at k = record { id = wordAt b (at + KEPT-WORDS * k); node = wordAt b (at + KEPT-WORDS * k + 1) }
+
+unfoldable pub keptDefinition : List ℕ → ℕ → ℕ → ℕ → ℕ → Definition
+keptDefinition b at treesAt count k = record { id = keptEntry b at k .id; right = tree b treesAt count (keptEntry b at k .node) }
+
+-- ---- the module
 
 unfoldable pub constraintOf : List ℕ → ConstraintModule
-constraintOf b = constraintWith b (wordAt b 0) (wordAt b 1) (wordAt b 2) (wordAt b 3) (wordAt b 4) (wordAt b 5)
+constraintOf b = record {
+  next = next b;
+  publics = rows (publics b) 0 (publicAt b);
+  provers = rows (provers b) 0 (proverAt b (proversAt b));
+  equalities = rows (equalities b) 0 (equalityAt b (equalitiesAt b));
+  kept = rows (kept b) 0 (keptDefinition b (keptAt b) (nodesAt b) (nodes b));
+}
 
 -- the constants of a module are signed 32-bit
 abbrev pub SignedTerm : Term → Type 0
@@ -53,14 +130,11 @@ SignedSide (Side.infixed o x y) = SignedTerm x × SignedTerm y
 SignedSide (Side.negate x) = SignedTerm x
 SignedSide (Side.copy x) = SignedTerm x
 
-abbrev pub SignedTree : Flat → Type 0
-SignedTree (Flat.infixed o x y) = SignedTree x × SignedTree y
-SignedTree (Flat.negate x) = SignedTree x
-SignedTree (Flat.constant c) = SFits w32 c
-SignedTree (Flat.variable v) = Unit {0}
+abbrev pub SignedEquality : Equality → Type 0
+SignedEquality q = SignedTerm (q .left) × SignedSide (q .right)
 
 pub record Signed (m : ConstraintModule) : Type 0 where
-  pub equalities : All (λ q. SignedTerm (q .left) × SignedSide (q .right)) (m .equalities)
+  pub equalities : All SignedEquality (m .equalities)
   pub kept : All (λ d. SignedTree (d .right)) (m .kept)
 
 -- THE RECORD SAYS THE MODULE: no two modules have the same bytes

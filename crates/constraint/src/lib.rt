@@ -1,4 +1,6 @@
 // The constraint record: its parts, and how each is written. Places are counted in words.
+pub mod reading;
+
 use field::InfixOp;
 use records::operators::ADD;
 use records::operators::DIVIDE;
@@ -24,6 +26,11 @@ pub const HEADER: usize = 6;
 pub const NEGATE: u32 = 9;
 
 pub const COPY: u32 = 10;
+
+// The words of an equality and of a kept definition.
+pub const EQUALITY_WORDS: usize = 7;
+
+pub const KEPT_WORDS: usize = 2;
 
 // "A term is either a variable or a constant."
 pub enum Term {

@@ -1,7 +1,6 @@
 pub mod Bytes
 pub mod Decimal
 pub mod Parts
-pub mod Read
 pub mod Forms
 pub mod Wide
 pub mod Lines

@@ -7,42 +7,55 @@ use native.Mathlib.Omega.{arith}
 use lib.Dec.{ltb}
 use lib.ListN.{length, length-append}
 use borrow.Author.Tests.{lt-ltb, le-ltb, ltb-true, ltb-false}
-use Rattle.words.specs.Words.{wordAt}
+use Rattle.flat.specs.Record.{pick}
 use Rattle.constraint.specs.declared.Equality.{Equality as Written}
+use Rattle.constraint.specs.declared.reading.Layout.{Layout}
+use Rattle.constraint.specs.Record.{EQUALITY-WORDS}
+use Rattle.constraint.specs.Reading.{HEADER, next, equalities, equalitiesAt, layoutOf, writtenAt}
+use Rattle.constraint.proofs.Read.{next-is, equalities-is, equalities-at-is}
 use Rattle.constraint_text.specs.Text.{setBytes, lineText, nextText, equalityText, between}
-use Rattle.constraint_text.specs.Reading.{equalityAt, firstEquality, whole, lines, lineOf, lineAt}
-use Rattle.constraint_text.proofs.Read.{yes, no}
+use Rattle.constraint_text.specs.Reading.{whole, lines, lineOf, lineAt}
+
+yes : {A : Type 0} (t : Bool) (a b : A) → t ≡ true → pick t a b ≡ a
+unfolding pick
+yes t a b e = rw e
+
+no : {A : Type 0} (t : Bool) (a b : A) → t ≡ false → pick t a b ≡ b
+unfolding pick
+no t a b e = rw e
 
 -- ---- how many there are
 
-pub no-line : (b : List ℕ) → length b < 24 → 0 ≡ lines b
+pub no-line : (b : List ℕ) → length b < 4 * HEADER → 0 ≡ lines b
 unfolding lines
-no-line b h = sym (yes (ltb (length b) 24) _ _ (lt-ltb (length b) 24 h))
+no-line b h = sym (yes (ltb (length b) (4 * HEADER)) _ _ (lt-ltb (length b) (4 * HEADER) h))
 
-pub with-header : (b : List ℕ) → 24 ≤ length b → lines b ≡ 1 + min (wordAt b 3) (whole b)
+pub with-header : (b : List ℕ) → 4 * HEADER ≤ length b → lines b ≡ 1 + min (equalities b) (whole b)
 unfolding lines
-with-header b h = no (ltb (length b) 24) _ _ (le-ltb (length b) 24 h)
+with-header b h = no (ltb (length b) (4 * HEADER)) _ _ (le-ltb (length b) (4 * HEADER) h)
 
-pub counted : (b : List ℕ) (first w n : ℕ) → 24 ≤ length b → first ≡ firstEquality b → w ≡ wordAt b 3 → n ≡ min w ((length b / 4 - first) / 7) → 1 + n ≡ lines b
+pub counted : (b : List ℕ) {l : Layout} (n : ℕ) → l ≡ layoutOf b → 4 * HEADER ≤ length b →
+    n ≡ min (l .equalities) ((length b / 4 - l .«equalities_at») / EQUALITY-WORDS) → 1 + n ≡ lines b
 unfolding whole
-counted b first w n h f e i = omega (arith, with-header b h)
+counted b n e h i = omega (arith, with-header b h, equalities-is b e, equalities-at-is b e)
 
-header-by : (b : List ℕ) (t : Bool) → ltb (length b) 24 ≡ t → 0 < lines b → 24 ≤ length b
-header-by b true e h = omega (arith, no-line b (ltb-true (length b) 24 e))
-header-by b false e h = ltb-false (length b) 24 e
+header-by : (b : List ℕ) (t : Bool) → ltb (length b) (4 * HEADER) ≡ t → 0 < lines b → 4 * HEADER ≤ length b
+header-by b true e h = omega (arith, no-line b (ltb-true (length b) (4 * HEADER) e))
+header-by b false e h = ltb-false (length b) (4 * HEADER) e
 
 -- ---- a line that there is, of n lines
 
-pub has-header : (b : List ℕ) (k n : ℕ) → n ≡ lines b → k < n → 24 ≤ length b
-has-header b k n e h = header-by b (ltb (length b) 24) refl (omega arith)
+pub has-header : (b : List ℕ) (k n : ℕ) → n ≡ lines b → k < n → 4 * HEADER ≤ length b
+has-header b k n e h = header-by b (ltb (length b) (4 * HEADER)) refl (omega arith)
 
-pub has-equality : (b : List ℕ) (k n first : ℕ) → n ≡ lines b → k < n → (k ≡ 0 → ⊥) → first ≡ firstEquality b → 4 * (first + 7 * (k - 1)) + 28 ≤ length b
+pub has-equality : (b : List ℕ) (k n : ℕ) {l : Layout} → l ≡ layoutOf b → n ≡ lines b → k < n → (k ≡ 0 → ⊥) →
+    4 * (l .«equalities_at» + EQUALITY-WORDS * (k - 1) + EQUALITY-WORDS) ≤ length b
 unfolding whole
-has-equality b k n first e h z f = omega (arith, with-header b (has-header b k n e h))
+has-equality b k n e i h z = omega (arith, with-header b (has-header b k n i h), equalities-at-is b e)
 
 pub line-few : (b : List ℕ) (k : ℕ) → k < lines b → k < length b
 unfolding whole
-line-few b k h = let g : 24 ≤ length b = has-header b k (lines b) refl h in omega (arith, with-header b g)
+line-few b k h = let g = has-header b k (lines b) refl h in omega (arith, with-header b g)
 
 pub line-there : (b : List ℕ) (k n : ℕ) → n ≡ lines b → k < n → lineOf b k ≡ lineAt b k
 unfolding lineAt
@@ -52,14 +65,15 @@ pub line-behind : (b : List ℕ) (k n : ℕ) → n ≡ lines b → n ≤ k → [
 unfolding lineAt
 line-behind b k n e h = sym (no (ltb k (lines b)) _ _ (le-ltb k (lines b) (omega arith)))
 
-pub line-next : (b : List ℕ) (k w : ℕ) → k ≡ 0 → w ≡ wordAt b 0 → nextText w ≡ lineOf b k
+pub line-next : (b : List ℕ) (k : ℕ) {l : Layout} → l ≡ layoutOf b → k ≡ 0 → nextText (l .next) ≡ lineOf b k
 unfolding lineOf
-line-next b k w z e = rw (e, z)
+line-next b k e z = rw (z, next-is b e)
 
-pub line-equality : (b : List ℕ) (k first : ℕ) (q : Written) → (k ≡ 0 → ⊥) → first ≡ firstEquality b → q ≡ equalityAt b (first + 7 * (k - 1)) → equalityText q ≡ lineOf b k
+pub line-equality : (b : List ℕ) (k : ℕ) {l : Layout} (q : Written) → l ≡ layoutOf b → (k ≡ 0 → ⊥) →
+    q ≡ writtenAt b (l .«equalities_at») (k - 1) → equalityText q ≡ lineOf b k
 unfolding lineOf
-line-equality b zero first q z f e = absurd (z refl)
-line-equality b (suc k) first q z f e = let i : suc k - 1 ≡ k = omega arith in rw (e, f, i)
+line-equality b zero q e z i = absurd (z refl)
+line-equality b (suc k) q e z i = let j : suc k - 1 ≡ k = omega arith in rw (i, equalities-at-is b e, j)
 
 -- ---- where they end: a line has a byte, and behind the last there is none
 

@@ -1,17 +1,17 @@
 // The text of a constraint record, in ASCII: "next N", then an equality a line. A line is made in an array of the caller's
 // and written by one call. No contract can speak of standard output: what is proved is each line, and how many there are.
 mod line;
-mod reading;
 
+use constraint::EQUALITY_WORDS;
 use constraint::HEADER;
+use constraint::reading::equality_at;
+use constraint::reading::layout_of;
 pub use line::LINE;
 pub use line::equality_line;
 pub use line::next_line;
 pub use line::refused_line;
-pub use reading::equality_at;
 use streams::Output;
 use streams::write_output;
-use words::word_at;
 ghost use mathlib.Core.Path.{_≡_};
 ghost use Prim.Native.Nat.{_≤_};
 ghost use lib.ListN.{length};
@@ -19,20 +19,9 @@ ghost use Rattle.io.specs.Counts.{Counts};
 ghost use Rattle.constraint_text.specs.Text.{setBytes, refusedText};
 ghost use Rattle.streams.specs.Streams.{Whole};
 ghost use Rattle.constraint_text.specs.Printing.{AllLines};
-ghost use Rattle.constraint_text.specs.Reading.{firstEquality, lines, lineAt};
+ghost use Rattle.constraint_text.specs.Reading.{lines, lineAt};
 
 const HEADER_BYTES: usize = 4 * HEADER;
-
-// The bound, 6 and twice the largest word, is what keeps the sums below from wrapping.
-fn first_equality(s: &[u8]) -> usize
-    requires { ⌜ 24 ≤ length (now s) ⌝ }
-    ensures { λ r. ⌜ r ≡ firstEquality (now (s .entry)) ⌝ }
-    ensures { λ r. ⌜ r ≤ 8589934596 ⌝ }
-{
-    let publics = word_at(s, 1) as usize;
-    let provers = word_at(s, 2) as usize;
-    HEADER + publics + provers
-}
 
 // The counts of a record are any words, so lines are counted only as far as its bytes go.
 fn line_count(s: &[u8]) -> usize
@@ -41,13 +30,14 @@ fn line_count(s: &[u8]) -> usize
     if s.len() < HEADER_BYTES {
         return 0;
     }
-    let first = first_equality(s);
+    let l = layout_of(s);
+    let first = l.equalities_at;
     let words = s.len() / 4;
     if words < first {
         return 1;
     }
-    let whole = (words - first) / 7;
-    let counted = word_at(s, 3) as usize;
+    let whole = (words - first) / EQUALITY_WORDS;
+    let counted = l.equalities;
     if counted < whole {
         return 1 + counted;
     }
@@ -62,11 +52,11 @@ pub fn line_at(s: &[u8], k: usize, out: &mut [u8; LINE]) -> usize
     if line_count(s) <= k {
         return 0;
     }
+    let l = layout_of(s);
     if k == 0 {
-        return next_line(word_at(s, 0), out);
+        return next_line(l.next, out);
     }
-    let at = first_equality(s) + 7 * (k - 1);
-    equality_line(equality_at(s, at), out)
+    equality_line(equality_at(s, l.equalities_at, k - 1), out)
 }
 
 // All lines were printed, so many; or a write failed, which was said, and no more was written.

@@ -153,7 +153,7 @@ fn put_line(out: &mut [u8; LINE], word: &[u8], n: u64) -> usize
 }
 
 // "next" and the next free id.
-pub fn next_line(next: u32, out: &mut [u8; LINE]) -> usize
+pub fn next_line(next: usize, out: &mut [u8; LINE]) -> usize
     ensures { λ r. ⌜ (r ≡ length (nextText next)) × (now (out .exit) ≡ setBytes (now (out .entry)) 0 (nextText next)) ⌝ }
     ensures { λ r. ⌜ Counts r (now (out .exit)) ⌝ }
 {

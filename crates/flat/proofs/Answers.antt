@@ -2,14 +2,15 @@
 use Prim.Native.Nat.{ℕ, _+_, _*_, _≤_}
 use mathlib.Core.Path.{_≡_, sym, ap, _∙_}
 use mathlib.Core.List.{List}
-use mathlib.Core.Bool.{Bool, true, false}
+use mathlib.Core.Bool.{Bool, true, false, _&&_}
 use native.Mathlib.Omega.{arith}
 use lib.ListN.{length, getD, replicate, length-replicate}
 use lib.Dec.{eqb, leb}
 use borrow.Author.Tests.{leb-true, eqb-true}
 use Rattle.words.specs.Words.{wordAt}
+use Rattle.records.specs.Kinds.{NODE-WORDS}
 use Rattle.words.proofs.Laws.{getD-cleared}
-use Rattle.flat.specs.Record.{every, layoutOf, measured, publics, provers, definitions, equations, nodes, next, size, rules, rulesOf, flatOf, checked, pick, allBelow, definitionsFit, nodesFit, usedOnce, treesHold, byDefinitions, byEquations, byNodes}
+use Rattle.flat.specs.Record.{every, layoutOf, measured, publics, provers, definitions, equations, nodes, next, size, DEFINITION-WORDS, EQUATION-WORDS, proversAt, definitionsAt, equationsAt, nodesAt, rules, flatOf, checked, pick, rows, allBelow, rising, definitionsFit, equationsFit, nodesFit, ordered, definitionAt, usedOnce, treesHold, byDefinitions, byEquations, byNodes}
 use Rattle.flat.specs.Marks.{capped, Marked, Adds, noMarks}
 use Rattle.flat.specs.declared.Layout.{Layout}
 use Rattle.flat.specs.declared.Checked.the-variants.{Accepted, Refused}
@@ -45,13 +46,13 @@ module _ (b : List ℕ) (next d ds e es t ts : ℕ) (h : treesHold b next d ds e
   unfolding treesHold
   hold-definitions = and-left (definitionsFit b d ds next ts) _ h
 
-  pub hold-sides : allBelow b e es ts ≡ true
+  pub hold-equations : equationsFit b e es ts ≡ true
   unfolding treesHold
-  hold-sides = and-left (allBelow b e es ts) _ (and-right (definitionsFit b d ds next ts) _ h)
+  hold-equations = and-left (equationsFit b e es ts) _ (and-right (definitionsFit b d ds next ts) _ h)
 
   pub hold-nodes : nodesFit b t ts next ≡ true
   unfolding treesHold
-  hold-nodes = and-left (nodesFit b t ts next) _ (and-right (allBelow b e es ts) _ (and-right (definitionsFit b d ds next ts) _ h))
+  hold-nodes = and-left (nodesFit b t ts next) _ (and-right (equationsFit b e es ts) _ (and-right (definitionsFit b d ds next ts) _ h))
 
 -- what a record of the right length has
 pub record Measured (b : List ℕ) : Type 0 where
@@ -89,9 +90,9 @@ pub laid-out : (b : List ℕ) {a0 a1 a2 a3 a4 a5 : ℕ} → a0 ≡ wordAt b 0 �
   nodes = a5;
   «provers_at» = 6 + a1;
   «definitions_at» = 6 + a1 + a2;
-  «equations_at» = 6 + a1 + a2 + 2 * a3;
-  «nodes_at» = 6 + a1 + a2 + 2 * a3 + 2 * a4;
-  size = 6 + a1 + a2 + 2 * a3 + 2 * a4 + 4 * a5;
+  «equations_at» = 6 + a1 + a2 + DEFINITION-WORDS * a3;
+  «nodes_at» = 6 + a1 + a2 + DEFINITION-WORDS * a3 + EQUATION-WORDS * a4;
+  size = 6 + a1 + a2 + DEFINITION-WORDS * a3 + EQUATION-WORDS * a4 + NODE-WORDS * a5;
 } ≡ layoutOf b
 unfolding layoutOf
 laid-out b e0 e1 e2 e3 e4 e5 = rw (e0, e1, e2, e3, e4, e5)
@@ -101,20 +102,31 @@ pub is-20 : (b : List ℕ) {r : Bool} → r ≡ measured b → r ≡ false → R
 unfolding flatOf checked pick
 is-20 b e f = rw (← e, f)
 
-module _ (b : List ℕ) {r : Bool} {l : Layout} (m : r ≡ measured b) (yes : r ≡ true) (e : l ≡ layoutOf b) where
-  pub laid : (4 * (6 + l .publics + l .provers + 2 * l .definitions + 2 * l .equations + 4 * l .nodes) ≤ length b) × (l .nodes ≤ 16384)
+module _ (b : List ℕ) {r t : Bool} (m : r ≡ measured b) (yes : r ≡ true) (q : t ≡ rules b) where
+  pub is-21 : t ≡ false → Refused 21 ≡ checked (flatOf b)
+  unfolding flatOf checked pick
+  is-21 f = rw (← m, yes, ← q, f)
+
+  pub is-accepted : t ≡ true → Accepted ≡ checked (flatOf b)
+  unfolding flatOf checked pick
+  is-accepted f = rw (← m, yes, ← q, f)
+
+-- the rules, by the numbers of the layout
+module _ (b : List ℕ) {l : Layout} (e : l ≡ layoutOf b) where
+  pub rules-by :
+      (leb (l .next) 65536
+      && (allBelow b 6 (l .publics) (l .next)
+      && (allBelow b (l .«provers_at») (l .provers) (l .next)
+      && (rising b (l .«provers_at») (l .provers)
+      && (treesHold b (l .next) (l .«definitions_at») (l .definitions) (l .«equations_at») (l .equations) (l .«nodes_at») (l .nodes)
+      && ordered (rows (l .definitions) 0 (definitionAt b (l .«definitions_at») (l .«nodes_at») (l .nodes)))))))) ≡ rules b
+  unfolding rules layoutOf
+  rules-by = rw e
+
+  -- where the lists stand
+  pub laid : length b ≡ 4 * size b → nodes b ≤ 16384 →
+      ((4 * (6 + l .publics) ≤ length b) × (4 * (l .«provers_at» + l .provers) ≤ length b))
+      × (((4 * (l .«definitions_at» + DEFINITION-WORDS * l .definitions) ≤ length b) × (4 * (l .«equations_at» + EQUATION-WORDS * l .equations) ≤ length b))
+      × ((4 * (l .«nodes_at» + NODE-WORDS * l .nodes) ≤ length b) × (l .nodes ≤ 16384)))
   unfolding layoutOf
-  laid = let w = measured-has b (sym m ∙ yes) in rw e (omega arith, w .nodes-few)
-
-  module _ {t : Bool} (q : t ≡ rulesOf b (l .next) (l .publics) (l .provers) (l .definitions) (l .equations) (l .nodes)) where
-    same-rules : t ≡ rules b
-    unfolding rules layoutOf
-    same-rules = rw e at q
-
-    pub is-21 : t ≡ false → Refused 21 ≡ checked (flatOf b)
-    unfolding flatOf checked pick
-    is-21 f = rw (← m, yes, ← same-rules, f)
-
-    pub is-accepted : t ≡ true → Accepted ≡ checked (flatOf b)
-    unfolding flatOf checked pick
-    is-accepted f = rw (← m, yes, ← same-rules, f)
+  laid long few = rw e ((omega arith, omega arith), ((omega arith, omega arith), (omega arith, few)))

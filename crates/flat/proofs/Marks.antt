@@ -11,9 +11,9 @@ use lib.Dec.{eqb, ltb}
 use borrow.Author.Tests.{eq-eqb, ne-eqb, ltb-true, lt-ltb}
 use Rattle.words.specs.Words.{wordAt}
 use Rattle.flat.specs.Marks.{capped, bump, Marked, Adds}
-use Rattle.flat.specs.Record.{pick, same, every, total, usedBy, nodeFits, nodeAt, nodesFit, byNodes, byDefinitions, byEquations, definitionsFit, allBelow}
+use Rattle.flat.specs.Record.{pick, same, every, total, usedBy, nodeFits, nodeAt, nodesFit, byNodes, byDefinitions, byEquations, definitionsFit, equationsFit, definitionEntry, equationEntry}
 use Rattle.flat.proofs.Nodes.{fits-4, fits-5, node-is}
-use Rattle.flat.proofs.Laws.{alike, and-right, every-fails, every-more, every-same, total-more}
+use Rattle.flat.proofs.Laws.{alike, and-left, and-right, every-fails, every-more, every-same, total-more}
 
 pub same-yes : (x k : ℕ) → x ≡ k → same x k ≡ 1
 unfolding same pick
@@ -111,35 +111,45 @@ unfolding nodesFit byNodes every total
 nodes-none b at limit m = (refl, adds-none m _ (λ k. refl))
 
 -- a turn of the loop over definitions
-pub defs-fail : (b : List ℕ) (at n limit count k id node : ℕ) → k < n → id ≡ wordAt b (at + 2 * k) → node ≡ wordAt b (at + 2 * k + 1) → (ltb id limit && ltb node count) ≡ false → false ≡ definitionsFit b at n limit count
+pub defs-fail : (b : List ℕ) (at n limit count k id node : ℕ) → k < n → id ≡ definitionEntry b at k .id → node ≡ definitionEntry b at k .node → (ltb id limit && ltb node count) ≡ false → false ≡ definitionsFit b at n limit count
 unfolding definitionsFit
-defs-fail b at n limit count k id node l p q h = every-fails n k (λ j. ltb (wordAt b (at + 2 * j)) limit && ltb (wordAt b (at + 2 * j + 1)) count) l (rw (p, q) at h)
+defs-fail b at n limit count k id node l p q h = every-fails n k (λ j. ltb (definitionEntry b at j .id) limit && ltb (definitionEntry b at j .node) count) l (rw (p, q) at h)
 
-pub defs-more : (b : List ℕ) (at limit count k id node : ℕ) {m m′ m″ : List ℕ} → (definitionsFit b at k limit count ≡ true) → Adds m m′ (byDefinitions b at k) → id ≡ wordAt b (at + 2 * k) → node ≡ wordAt b (at + 2 * k + 1) → (ltb id limit && ltb node count) ≡ true → m″ ≡ set m′ node (bump (getD m′ node 0)) → (definitionsFit b at (k + 1) limit count ≡ true) × Adds m m″ (byDefinitions b at (k + 1))
+pub defs-more : (b : List ℕ) (at limit count k id node : ℕ) {m m′ m″ : List ℕ} → (definitionsFit b at k limit count ≡ true) → Adds m m′ (byDefinitions b at k) → id ≡ definitionEntry b at k .id → node ≡ definitionEntry b at k .node → (ltb id limit && ltb node count) ≡ true → m″ ≡ set m′ node (bump (getD m′ node 0)) → (definitionsFit b at (k + 1) limit count ≡ true) × Adds m m″ (byDefinitions b at (k + 1))
 unfolding definitionsFit byDefinitions
 defs-more b at limit count k id node a c p q h d = (
-  every-more k (λ j. ltb (wordAt b (at + 2 * j)) limit && ltb (wordAt b (at + 2 * j + 1)) count) a (rw (p, q) at h),
-  adds-more (byDefinitions b at (k + 1)) c (adds-use node d) (λ j. total-more k (λ i. same (wordAt b (at + 2 * i + 1)) j) ∙ ap (λ (w : ℕ). byDefinitions b at k j + same w j) (sym q)),
+  every-more k (λ j. ltb (definitionEntry b at j .id) limit && ltb (definitionEntry b at j .node) count) a (rw (p, q) at h),
+  adds-more (byDefinitions b at (k + 1)) c (adds-use node d) (λ j. total-more k (λ i. same (definitionEntry b at i .node) j) ∙ ap (λ (w : ℕ). byDefinitions b at k j + same w j) (sym q)),
 )
 
 pub defs-none : (b : List ℕ) (at limit count : ℕ) (m : List ℕ) → (definitionsFit b at 0 limit count ≡ true) × Adds m m (byDefinitions b at 0)
 unfolding definitionsFit byDefinitions every total
 defs-none b at limit count m = (refl, adds-none m _ (λ k. refl))
 
-pub node-below : (id limit node count : ℕ) → (ltb id limit && ltb node count) ≡ true → node < count
-node-below id limit node count h = ltb-true node count (and-right (ltb id limit) (ltb node count) h)
+pub both-below : (a limit b count : ℕ) → (ltb a limit && ltb b count) ≡ true → (a < limit) × (b < count)
+both-below a limit b count h = (ltb-true a limit (and-left (ltb a limit) (ltb b count) h), ltb-true b count (and-right (ltb a limit) (ltb b count) h))
 
--- a turn of the loop over the sides of equations
-pub sides-more : (b : List ℕ) (at count k node : ℕ) {m m′ m″ : List ℕ} → (allBelow b at k count ≡ true) → Adds m m′ (byEquations b at k) → node ≡ wordAt b (at + k) → node < count → m″ ≡ set m′ node (bump (getD m′ node 0)) → (allBelow b at (k + 1) count ≡ true) × Adds m m″ (byEquations b at (k + 1))
-unfolding allBelow byEquations
-sides-more b at count k node a c q h d = (
-  every-more k (λ j. ltb (wordAt b (at + j)) count) a (lt-ltb (wordAt b (at + k)) count (rw q at h)),
-  adds-more (byEquations b at (k + 1)) c (adds-use node d) (λ j. total-more k (λ i. same (wordAt b (at + i)) j) ∙ ap (λ (w : ℕ). byEquations b at k j + same w j) (sym q)),
+-- a turn of the loop over equations
+abbrev sidesFit : List ℕ → ℕ → ℕ → ℕ → Bool
+sidesFit b at count j = ltb (equationEntry b at j .left) count && ltb (equationEntry b at j .right) count
+
+pub equations-fail : (b : List ℕ) (at n count k left right : ℕ) → k < n → left ≡ equationEntry b at k .left → right ≡ equationEntry b at k .right → (ltb left count && ltb right count) ≡ false → false ≡ equationsFit b at n count
+unfolding equationsFit
+equations-fail b at n count k left right l p q h = every-fails n k (sidesFit b at count) l (rw (p, q) at h)
+
+pub equations-more : (b : List ℕ) (at count k left right : ℕ) {m m′ m₂ m₃ : List ℕ} → (equationsFit b at k count ≡ true) → Adds m m′ (byEquations b at k) →
+    left ≡ equationEntry b at k .left → right ≡ equationEntry b at k .right → (ltb left count && ltb right count) ≡ true →
+    m₂ ≡ set m′ left (bump (getD m′ left 0)) → m₃ ≡ set m₂ right (bump (getD m₂ right 0)) → (equationsFit b at (k + 1) count ≡ true) × Adds m m₃ (byEquations b at (k + 1))
+unfolding equationsFit byEquations
+equations-more b at count k left right a c p q h d e = (
+  every-more k (sidesFit b at count) a (rw (p, q) at h),
+  adds-more (byEquations b at (k + 1)) c (adds-more (λ j. same left j + same right j) (adds-use left d) (adds-use right e) (λ j. refl))
+      (λ j. total-more k (λ i. same (equationEntry b at i .left) j + same (equationEntry b at i .right) j) ∙ rw (p, q)),
 )
 
-pub sides-none : (b : List ℕ) (at count : ℕ) (m : List ℕ) → (allBelow b at 0 count ≡ true) × Adds m m (byEquations b at 0)
-unfolding allBelow byEquations every total
-sides-none b at count m = (refl, adds-none m _ (λ k. refl))
+pub equations-none : (b : List ℕ) (at count : ℕ) (m : List ℕ) → (equationsFit b at 0 count ≡ true) × Adds m m (byEquations b at 0)
+unfolding equationsFit byEquations every total
+equations-none b at count m = (refl, adds-none m _ (λ k. refl))
 
 pub marks-once : (m : List ℕ) (n : ℕ) (f : ℕ → ℕ) → n ≤ length m → Marked m f → every n (λ k. eqb (getD m k 0) 1) ≡ every n (λ k. eqb (f k) 1)
 marks-once m n f l h = every-same n _ _ (λ k g. let w : k < length m = omega arith in ap (λ (x : ℕ). eqb x 1) (h k w) ∙ once (f k))

@@ -14,7 +14,7 @@ use Rattle.words.specs.Words.{wordAt}
 use Rattle.flat.specs.Trees.{Flat, Definition, everyId, defines}
 use Rattle.flat.specs.Marks.{Later, noLater}
 use Rattle.flat.specs.declared.Node.the-variants.{Infix, Negate, Constant, Variable}
-use Rattle.flat.specs.Record.{rows, nodeOf, tree, ordered, definitionAt, definitionsFit}
+use Rattle.flat.specs.Record.{rows, nodeOf, tree, ordered, definitionEntry, definitionAt, definitionsFit}
 use Rattle.flat.proofs.Laws.{alike, and-left, and-right, every-at}
 use Rattle.flat.proofs.Nodes.{settled, tree-infix, tree-negate, tree-constant, tree-variable}
 use Rattle.field.specs.declared.InfixOp.{InfixOp}
@@ -71,7 +71,7 @@ order-start n f e =
 pub order-end : (n k : ℕ) (f : ℕ → Definition) → k ≡ 0 → ordered (rows (n - k) k f) ≡ true → true ≡ ordered (rows n 0 f)
 order-end n k f z h = let e : n - 0 ≡ n = omega arith in sym (rw (z, e) at h)
 
-module _ (b : List ℕ) (at n trees nodes k : ℕ) (pos : 0 < k) (le : k ≤ n) (m : List ℕ) (known : Later m (rows (n - k) k (definitionAt b at trees nodes))) (id node : ℕ) (e1 : id ≡ wordAt b (at + 2 * (k - 1))) (e2 : node ≡ wordAt b (at + 2 * (k - 1) + 1)) where
+module _ (b : List ℕ) (at n trees nodes k : ℕ) (pos : 0 < k) (le : k ≤ n) (m : List ℕ) (known : Later m (rows (n - k) k (definitionAt b at trees nodes))) (id node : ℕ) (e1 : id ≡ definitionEntry b at (k - 1) .id) (e2 : node ≡ definitionEntry b at (k - 1) .node) where
   pub order-double : (getD m id 0 ≡ 0 → ⊥) → false ≡ ordered (rows n 0 (definitionAt b at trees nodes))
   unfolding ordered definitionAt
   order-double f = fails n (k - 1) _ (omega arith) (rw (rows-step n k (definitionAt b at trees nodes) pos le, ← e1, ← known id, ne-eqb (getD m id 0) 0 f))
@@ -98,11 +98,12 @@ module _ (b : List ℕ) (at n trees nodes k : ℕ) (pos : 0 < k) (le : k ≤ n) 
     order-more h g = rw (rows-step n k (definitionAt b at trees nodes) pos le) (first ∙ rw (h, g), later-set-on)
 
 -- what the code knows of a definition that fits
-pub definition-fits : (b : List ℕ) (at n limit count k id node : ℕ) → definitionsFit b at n limit count ≡ true → k < n → id ≡ wordAt b (at + 2 * k) → node ≡ wordAt b (at + 2 * k + 1) → (id < limit) × (node < count)
+pub definition-fits : (b : List ℕ) (at n limit count k id node : ℕ) → definitionsFit b at n limit count ≡ true → k < n → id ≡ definitionEntry b at k .id → node ≡ definitionEntry b at k .node → (id < limit) × (node < count)
 unfolding definitionsFit
 definition-fits b at n limit count k id node h l p q =
-    let g = every-at n k (λ j. ltb (wordAt b (at + 2 * j)) limit && ltb (wordAt b (at + 2 * j + 1)) count) h l in
-    (ltb-true id limit (rw p (and-left (ltb (wordAt b (at + 2 * k)) limit) (ltb (wordAt b (at + 2 * k + 1)) count) g)), ltb-true node count (rw q (and-right (ltb (wordAt b (at + 2 * k)) limit) (ltb (wordAt b (at + 2 * k + 1)) count) g)))
+    let d = definitionEntry b at k in
+    let g = every-at n k (λ j. ltb (definitionEntry b at j .id) limit && ltb (definitionEntry b at j .node) count) h l in
+    (ltb-true id limit (rw p (and-left (ltb (d .id) limit) (ltb (d .node) count) g)), ltb-true node count (rw q (and-right (ltb (d .id) limit) (ltb (d .node) count) g)))
 
 -- the walk at a node: what it finds is what its children's walks find
 module _ (b : List ℕ) (at k : ℕ) (p : ℕ → Bool) where

@@ -10,12 +10,12 @@ use lib.Dec.{ltb, leb}
 use borrow.Author.Tests.{ltb-true, leb-true, lt-ltb, le-leb, eq-eqb, ne-eqb}
 use Rattle.words.specs.Words.{wordAt}
 use Rattle.flat.specs.Trees.{FlatModule}
-use Rattle.flat.specs.Record.{pick, next, publics, provers, definitions, equations, nodes, proversAt, definitionsAt, equationsAt, nodesAt, size, measured, nodeAt, moduleOf, allBelow, rising, definitionsFit, nodeFits, nodesFit, treesHold, ordered, definitionAt, equationAt, tree, rows, rules, rulesOf, Read, flatOf, checked}
+use Rattle.flat.specs.Record.{pick, next, publics, provers, definitions, equations, nodes, proversAt, definitionsAt, equationsAt, nodesAt, size, measured, nodeAt, moduleOf, allBelow, rising, definitionsFit, equationsFit, nodeFits, nodesFit, treesHold, ordered, publicAt, proverAt, definitionEntry, equationEntry, definitionAt, equationAt, tree, rows, rules, Read, flatOf, checked}
 use Rattle.flat.specs.Readable.{Readable}
 use Rattle.flat.specs.declared.Checked.the-variants.{Accepted, Refused}
 use Rattle.flat.proofs.Laws.{and-left, and-right, every-at, every-from}
 use Rattle.flat.proofs.Nodes.{settled}
-use Rattle.flat.proofs.Answers.{measured-has, hold-definitions, hold-sides, hold-nodes}
+use Rattle.flat.proofs.Answers.{measured-has, hold-definitions, hold-equations, hold-nodes}
 
 -- ---- accepted records
 
@@ -56,14 +56,14 @@ checked-refused b n e = answer (flatOf b) .1 n e
 -- ---- accepted records are readable
 
 pub tests-readable : (b : List ℕ) → measured b ≡ true → rules b ≡ true → Readable b
-unfolding rules rulesOf
+unfolding rules
 tests-readable b m r0 =
     let w = measured-has b m in
     let r1 = and-right (leb (next b) 65536) _ r0 in
     let r2 = and-right (allBelow b 6 (publics b) (next b)) _ r1 in
     let r3 = and-right (allBelow b (proversAt b) (provers b) (next b)) _ r2 in
     let r4 = and-right (rising b (proversAt b) (provers b)) _ r3 in
-    let t : treesHold b (next b) (definitionsAt b) (definitions b) (equationsAt b) (2 * equations b) (nodesAt b) (nodes b) ≡ true = and-left _ (ordered (rows (definitions b) 0 (definitionAt b (definitionsAt b) (nodesAt b) (nodes b)))) r4 in
+    let t : treesHold b (next b) (definitionsAt b) (definitions b) (equationsAt b) (equations b) (nodesAt b) (nodes b) ≡ true = and-left _ (ordered (rows (definitions b) 0 (definitionAt b (definitionsAt b) (nodesAt b) (nodes b)))) r4 in
     record {
       long = w .long;
       publics-few = w .publics-few;
@@ -76,7 +76,7 @@ tests-readable b m r0 =
       provers-below = and-left (allBelow b (proversAt b) (provers b) (next b)) _ r2;
       provers-rise = and-left (rising b (proversAt b) (provers b)) _ r3;
       definitions-fit = hold-definitions b _ _ _ _ _ _ _ t;
-      sides-below = hold-sides b _ _ _ _ _ _ _ t;
+      equations-fit = hold-equations b _ _ _ _ _ _ _ t;
       nodes-fit = hold-nodes b _ _ _ _ _ _ _ t;
     }
 
@@ -97,43 +97,46 @@ pub rising-at : (b : List ℕ) (at n : ℕ) → rising b at n ≡ true → (k : 
 unfolding rising
 rising-at b at n h k l = ltb-true _ _ (every-at (n - 1) k (λ j. ltb (wordAt b (at + j)) (wordAt b (at + j + 1))) h (omega arith))
 
-pub definition-at : (b : List ℕ) (at n limit count : ℕ) → definitionsFit b at n limit count ≡ true → (k : ℕ) → k < n → (wordAt b (at + 2 * k) < limit) × (wordAt b (at + 2 * k + 1) < count)
+pub definition-at : (b : List ℕ) (at n limit count : ℕ) → definitionsFit b at n limit count ≡ true → (k : ℕ) → k < n → (definitionEntry b at k .id < limit) × (definitionEntry b at k .node < count)
 unfolding definitionsFit
 definition-at b at n limit count h k l =
-    let g = every-at n k (λ j. ltb (wordAt b (at + 2 * j)) limit && ltb (wordAt b (at + 2 * j + 1)) count) h l in
-    (ltb-true _ _ (and-left (ltb (wordAt b (at + 2 * k)) limit) _ g), ltb-true _ _ (and-right (ltb (wordAt b (at + 2 * k)) limit) _ g))
+    let g = every-at n k (λ j. ltb (definitionEntry b at j .id) limit && ltb (definitionEntry b at j .node) count) h l in
+    let id-fits = ltb (definitionEntry b at k .id) limit in
+    (ltb-true _ _ (and-left id-fits _ g), ltb-true _ _ (and-right id-fits _ g))
+
+pub equation-at : (b : List ℕ) (at n count : ℕ) → equationsFit b at n count ≡ true → (k : ℕ) → k < n → (equationEntry b at k .left < count) × (equationEntry b at k .right < count)
+unfolding equationsFit
+equation-at b at n count h k l =
+    let g = every-at n k (λ j. ltb (equationEntry b at j .left) count && ltb (equationEntry b at j .right) count) h l in
+    let left-fits = ltb (equationEntry b at k .left) count in
+    (ltb-true _ _ (and-left left-fits _ g), ltb-true _ _ (and-right left-fits _ g))
 
 module _ {b : List ℕ} (r : Readable b) where
-  pub public-below : (k : ℕ) → k < publics b → wordAt b (6 + k) < next b
+  pub public-below : (k : ℕ) → k < publics b → publicAt b k < next b
   public-below = below-at b 6 (publics b) (next b) (r .publics-below)
 
-  pub prover-below : (k : ℕ) → k < provers b → wordAt b (proversAt b + k) < next b
+  pub prover-below : (k : ℕ) → k < provers b → proverAt b (proversAt b) k < next b
   prover-below = below-at b (proversAt b) (provers b) (next b) (r .provers-below)
 
   pub prover-rises : (k : ℕ) → k + 1 < provers b → wordAt b (proversAt b + k) < wordAt b (proversAt b + k + 1)
   prover-rises = rising-at b (proversAt b) (provers b) (r .provers-rise)
 
-  pub definition-below : (k : ℕ) → k < definitions b → (wordAt b (definitionsAt b + 2 * k) < next b) × (wordAt b (definitionsAt b + 2 * k + 1) < nodes b)
+  pub definition-below : (k : ℕ) → k < definitions b → (definitionEntry b (definitionsAt b) k .id < next b) × (definitionEntry b (definitionsAt b) k .node < nodes b)
   definition-below = definition-at b (definitionsAt b) (definitions b) (next b) (nodes b) (r .definitions-fit)
 
-  pub side-below : (k : ℕ) → k < 2 * equations b → wordAt b (equationsAt b + k) < nodes b
-  side-below = below-at b (equationsAt b) (2 * equations b) (nodes b) (r .sides-below)
-
-  pub equation-below : (k : ℕ) → k < equations b → (wordAt b (equationsAt b + 2 * k) < nodes b) × (wordAt b (equationsAt b + 2 * k + 1) < nodes b)
-  equation-below k l =
-      let e : equationsAt b + (2 * k + 1) ≡ equationsAt b + 2 * k + 1 = omega arith in
-      (side-below (2 * k) (omega arith), rw e at (side-below (2 * k + 1) (omega arith)))
+  pub equation-below : (k : ℕ) → k < equations b → (equationEntry b (equationsAt b) k .left < nodes b) × (equationEntry b (equationsAt b) k .right < nodes b)
+  equation-below = equation-at b (equationsAt b) (equations b) (nodes b) (r .equations-fit)
 
   -- the trees of the lists, as a walk from their nodes meets them
-  pub definition-tree : (k : ℕ) → k < definitions b → definitionAt b (definitionsAt b) (nodesAt b) (nodes b) k .right ≡ tree b (nodesAt b) (wordAt b (definitionsAt b + 2 * k + 1) + 1) (wordAt b (definitionsAt b + 2 * k + 1))
+  pub definition-tree : (k : ℕ) → k < definitions b → definitionAt b (definitionsAt b) (nodesAt b) (nodes b) k .right ≡ tree b (nodesAt b) (definitionEntry b (definitionsAt b) k .node + 1) (definitionEntry b (definitionsAt b) k .node)
   unfolding definitionAt
   definition-tree k l = settled b (nodesAt b) (nodes b) _ (definition-below k l .1)
 
-  pub left-tree : (k : ℕ) → k < equations b → equationAt b (equationsAt b) (nodesAt b) (nodes b) k .left ≡ tree b (nodesAt b) (wordAt b (equationsAt b + 2 * k) + 1) (wordAt b (equationsAt b + 2 * k))
+  pub left-tree : (k : ℕ) → k < equations b → equationAt b (equationsAt b) (nodesAt b) (nodes b) k .left ≡ tree b (nodesAt b) (equationEntry b (equationsAt b) k .left + 1) (equationEntry b (equationsAt b) k .left)
   unfolding equationAt
   left-tree k l = settled b (nodesAt b) (nodes b) _ (equation-below k l .0)
 
-  pub right-tree : (k : ℕ) → k < equations b → equationAt b (equationsAt b) (nodesAt b) (nodes b) k .right ≡ tree b (nodesAt b) (wordAt b (equationsAt b + 2 * k + 1) + 1) (wordAt b (equationsAt b + 2 * k + 1))
+  pub right-tree : (k : ℕ) → k < equations b → equationAt b (equationsAt b) (nodesAt b) (nodes b) k .right ≡ tree b (nodesAt b) (equationEntry b (equationsAt b) k .right + 1) (equationEntry b (equationsAt b) k .right)
   unfolding equationAt
   right-tree k l = settled b (nodesAt b) (nodes b) _ (equation-below k l .1)
 
@@ -152,9 +155,13 @@ pub rising-from : (b : List ℕ) (at n : ℕ) → ((k : ℕ) → k + 1 < n → w
 unfolding rising
 rising-from b at n h = every-from (n - 1) _ (λ k l. lt-ltb _ _ (h k (omega arith)))
 
-pub definitions-from : (b : List ℕ) (at n limit count : ℕ) → ((k : ℕ) → k < n → (wordAt b (at + 2 * k) < limit) × (wordAt b (at + 2 * k + 1) < count)) → definitionsFit b at n limit count ≡ true
+pub definitions-from : (b : List ℕ) (at n limit count : ℕ) → ((k : ℕ) → k < n → (definitionEntry b at k .id < limit) × (definitionEntry b at k .node < count)) → definitionsFit b at n limit count ≡ true
 unfolding definitionsFit
-definitions-from b at n limit count h = every-from n _ (λ k l. rw (lt-ltb (wordAt b (at + 2 * k)) limit (h k l .0), lt-ltb (wordAt b (at + 2 * k + 1)) count (h k l .1)))
+definitions-from b at n limit count h = every-from n _ (λ k l. rw (lt-ltb (definitionEntry b at k .id) limit (h k l .0), lt-ltb (definitionEntry b at k .node) count (h k l .1)))
+
+pub equations-from : (b : List ℕ) (at n count : ℕ) → ((k : ℕ) → k < n → (equationEntry b at k .left < count) × (equationEntry b at k .right < count)) → equationsFit b at n count ≡ true
+unfolding equationsFit
+equations-from b at n count h = every-from n _ (λ k l. rw (lt-ltb (equationEntry b at k .left) count (h k l .0), lt-ltb (equationEntry b at k .right) count (h k l .1)))
 
 pub nodes-from : (b : List ℕ) (at n limit : ℕ) → ((k : ℕ) → k < n → nodeAt b at k (nodeFits limit k) ≡ true) → nodesFit b at n limit ≡ true
 unfolding nodesFit

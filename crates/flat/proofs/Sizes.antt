@@ -11,11 +11,11 @@ use lib.Dec.{eqb, leb}
 use borrow.Author.Tests.{eq-eqb, ne-eqb, eqb-true}
 use Rattle.words.specs.Words.{wordAt}
 use Rattle.flat.specs.Trees.{Flat, Definition, Equation, FlatModule, treeNodes, definitionsNodes, equationsNodes, moduleNodes}
-use Rattle.flat.specs.Record.{pick, every, total, rows, next, publics, provers, definitions, equations, nodes, proversAt, definitionsAt, equationsAt, nodesAt, allBelow, rising, definitionsFit, same, usedBy, nodeAt, nodeOf, nodesFit, tree, byNodes, byDefinitions, byEquations, usedOnce, treesHold, ordered, definitionAt, equationAt, moduleOf, rules, rulesOf, Read, flatOf}
+use Rattle.flat.specs.Record.{pick, every, total, rows, next, publics, provers, definitions, equations, nodes, proversAt, definitionsAt, equationsAt, nodesAt, allBelow, rising, definitionsFit, equationsFit, same, usedBy, nodeAt, nodeOf, nodesFit, tree, byNodes, byDefinitions, byEquations, usedOnce, treesHold, ordered, definitionEntry, equationEntry, definitionAt, equationAt, moduleOf, rules, Read, flatOf}
 use Rattle.flat.specs.Readable.{Readable}
 use Rattle.flat.proofs.Laws.{alike, every-at, and-left, and-right}
 use Rattle.flat.proofs.Nodes.{by-kind, for-4, for-5, for-7, for-8, at-infix, at-negate, at-constant, at-variable, settled}
-use Rattle.flat.proofs.Reading.{accepted-rules, accepted-readable, definition-below, side-below, equation-below}
+use Rattle.flat.proofs.Reading.{accepted-rules, accepted-readable, definition-below, equation-below}
 
 -- ---- sums
 
@@ -153,7 +153,8 @@ module _ (b : List ℕ) (at n limit : ℕ) (h : nodesFit b at n limit ≡ true) 
       ∙ total-same m _ _ (λ j l. once n (root j) weight (below j l))
 
   -- the trees of the definitions and of the equations' sides together have n nodes
-  module _ (d ds e es : ℕ) (o : usedOnce b d ds e es at n ≡ true) (dh : (j : ℕ) → j < ds → wordAt b (d + 2 * j + 1) < n) (eh : (j : ℕ) → j < es → wordAt b (e + j) < n) where
+  module _ (d ds e es : ℕ) (o : usedOnce b d ds e es at n ≡ true) (dh : (j : ℕ) → j < ds → definitionEntry b d j .node < n)
+      (eh : (j : ℕ) → j < es → (equationEntry b e j .left < n) × (equationEntry b e j .right < n)) where
     one-use : (k : ℕ) → k < n → byDefinitions b d ds k + byEquations b e es k + byNodes b at n k ≡ 1
     unfolding usedOnce
     one-use k l = eqb-true _ 1 (every-at n k (λ i. eqb (byDefinitions b d ds i + byEquations b e es i + byNodes b at n i) 1) o l)
@@ -175,16 +176,20 @@ module _ (b : List ℕ) (at n limit : ℕ) (h : nodesFit b at n limit ≡ true) 
         ∙ total-suc n (λ j. total n (λ k. nodeAt b at j (usedBy k) * weight k))
         ∙ ap (λ (x : ℕ). n + x) (sym used-by-nodes)
 
-    roots-weigh : total ds (λ j. weight (wordAt b (d + 2 * j + 1))) + total es (λ j. weight (wordAt b (e + j))) ≡ n
-    unfolding byDefinitions byEquations
-    roots-weigh =
-        omega (
-          arith,
-          weighed,
-          grown,
-          used-by ds (λ j. wordAt b (d + 2 * j + 1)) dh,
-          used-by es (λ j. wordAt b (e + j)) eh,
-        )
+    -- the two sides of the equations
+    used-by-sides : total n (λ k. byEquations b e es k * weight k) ≡ total es (λ j. weight (equationEntry b e j .left) + weight (equationEntry b e j .right))
+    unfolding byEquations
+    used-by-sides =
+        let left : ℕ → ℕ = λ j. equationEntry b e j .left in
+        let right : ℕ → ℕ = λ j. equationEntry b e j .right in
+        total-same n _ _ (λ k l. ap (λ (x : ℕ). x * weight k) (total-sum es (λ j. same (left j) k) (λ j. same (right j) k)) ∙ add-mul _ _ (weight k))
+        ∙ total-sum n (λ k. total es (λ j. same (left j) k) * weight k) (λ k. total es (λ j. same (right j) k) * weight k)
+        ∙ ap₂ (λ (x y : ℕ). x + y) (used-by es left (λ j l. eh j l .0)) (used-by es right (λ j l. eh j l .1))
+        ∙ sym (total-sum es (λ j. weight (left j)) (λ j. weight (right j)))
+
+    roots-weigh : total ds (λ j. weight (definitionEntry b d j .node)) + total es (λ j. weight (equationEntry b e j .left) + weight (equationEntry b e j .right)) ≡ n
+    unfolding byDefinitions
+    roots-weigh = omega (arith, weighed, grown, used-by ds (λ j. definitionEntry b d j .node) dh, used-by-sides)
 
 -- ---- lists
 
@@ -208,21 +213,10 @@ equations-total (suc n) i f =
     ap (λ (x : ℕ). treeNodes (f i .left) + treeNodes (f i .right) + x) (equations-total n (suc i) f)
     ∙ sym (total-from n i (λ j. treeNodes (f j .left) + treeNodes (f j .right)))
 
--- two to a turn
-total-pairs : (n : ℕ) (g : ℕ → ℕ) → total (2 * n) g ≡ total n (λ j. g (2 * j) + g (2 * j + 1))
-unfolding total
-total-pairs zero g = refl
-total-pairs (suc n) g =
-    let z : 2 * suc n ≡ suc (suc (2 * n)) = omega arith in
-    let y : suc (2 * n) ≡ 2 * n + 1 = omega arith in
-    ap (λ (m : ℕ). total m g) z
-    ∙ ap (λ (m : ℕ). total (2 * n) g + g (2 * n) + g m) y
-    ∙ omega (arith, total-pairs n g)
-
 -- THE TREES OF AN ACCEPTED RECORD have as many nodes as the record
 module _ (b : List ℕ) (r : rules b ≡ true) where
-  trees-hold : treesHold b (next b) (definitionsAt b) (definitions b) (equationsAt b) (2 * equations b) (nodesAt b) (nodes b) ≡ true
-  unfolding rules rulesOf
+  trees-hold : treesHold b (next b) (definitionsAt b) (definitions b) (equationsAt b) (equations b) (nodesAt b) (nodes b) ≡ true
+  unfolding rules
   trees-hold =
       let r1 = and-right (leb (next b) 65536) _ r in
       let r2 = and-right (allBelow b 6 (publics b) (next b)) _ r1 in
@@ -230,31 +224,31 @@ module _ (b : List ℕ) (r : rules b ≡ true) where
       let r4 = and-right (rising b (proversAt b) (provers b)) _ r3 in
       and-left _ (ordered (rows (definitions b) 0 (definitionAt b (definitionsAt b) (nodesAt b) (nodes b)))) r4
 
-  once-each : usedOnce b (definitionsAt b) (definitions b) (equationsAt b) (2 * equations b) (nodesAt b) (nodes b) ≡ true
+  once-each : usedOnce b (definitionsAt b) (definitions b) (equationsAt b) (equations b) (nodesAt b) (nodes b) ≡ true
   unfolding treesHold
   once-each =
       let h1 = and-right (definitionsFit b (definitionsAt b) (definitions b) (next b) (nodes b)) _ trees-hold in
-      let h2 = and-right (allBelow b (equationsAt b) (2 * equations b) (nodes b)) _ h1 in
+      let h2 = and-right (equationsFit b (equationsAt b) (equations b) (nodes b)) _ h1 in
       and-right (nodesFit b (nodesAt b) (nodes b) (next b)) _ h2
 
   pub module-nodes : Readable b → moduleNodes (moduleOf b) ≡ nodes b
   unfolding moduleNodes moduleOf definitionAt equationAt
   module-nodes q =
+      let root : ℕ → ℕ = λ i. definitionEntry b (definitionsAt b) i .node in
+      let left : ℕ → ℕ = λ i. equationEntry b (equationsAt b) i .left in
+      let right : ℕ → ℕ = λ i. equationEntry b (equationsAt b) i .right in
+      let trees : ℕ → ℕ = λ k. treeNodes (tree b (nodesAt b) (nodes b) k) in
       ap₂ (λ (x y : ℕ). x + y)
       (definitions-total (definitions b) 0 (definitionAt b (definitionsAt b) (nodesAt b) (nodes b))
-      ∙ total-same (definitions b) _ _
-      (λ j l. let z : 0 + j ≡ j = omega arith in ap (λ (i : ℕ). treeNodes (tree b (nodesAt b) (nodes b) (wordAt b (definitionsAt b + 2 * i + 1)))) z ∙ at-root (wordAt b (definitionsAt b + 2 * j + 1)) (definition-below q j l .1)))
+      ∙ total-same (definitions b) _ _ (λ j l. let z : 0 + j ≡ j = omega arith in ap (λ (i : ℕ). trees (root i)) z ∙ at-root (root j) (definition-below q j l .1)))
       (equations-total (equations b) 0 (equationAt b (equationsAt b) (nodesAt b) (nodes b))
       ∙ total-same (equations b) _ _
       (λ j l.
       let z : 0 + j ≡ j = omega arith in
-      ap (λ (i : ℕ). treeNodes (tree b (nodesAt b) (nodes b) (wordAt b (equationsAt b + 2 * i))) + treeNodes (tree b (nodesAt b) (nodes b) (wordAt b (equationsAt b + 2 * i + 1)))) z
-      ∙ ap₂ (λ (x y : ℕ). x + y)
-      (at-root (wordAt b (equationsAt b + 2 * j)) (equation-below q j l .0))
-      (at-root (wordAt b (equationsAt b + 2 * j + 1)) (equation-below q j l .1)
-      ∙ (let y : equationsAt b + 2 * j + 1 ≡ equationsAt b + (2 * j + 1) = omega arith in ap (λ (i : ℕ). weight b (nodesAt b) (nodes b) (next b) (q .nodes-fit) (wordAt b i)) y)))
-      ∙ sym (total-pairs (equations b) (λ j. weight b (nodesAt b) (nodes b) (next b) (q .nodes-fit) (wordAt b (equationsAt b + j)))))
-      ∙ roots-weigh b (nodesAt b) (nodes b) (next b) (q .nodes-fit) (definitionsAt b) (definitions b) (equationsAt b) (2 * equations b) once-each (λ j l. definition-below q j l .1) (side-below q)
+      let sides = equation-below q j l in
+      ap (λ (i : ℕ). trees (left i) + trees (right i)) z ∙ ap₂ (λ (x y : ℕ). x + y) (at-root (left j) (sides .0)) (at-root (right j) (sides .1))))
+      ∙ roots-weigh b (nodesAt b) (nodes b) (next b) (q .nodes-fit) (definitionsAt b) (definitions b) (equationsAt b) (equations b) once-each
+      (λ j l. definition-below q j l .1) (equation-below q)
     where
       at-root : (k : ℕ) → k < nodes b → treeNodes (tree b (nodesAt b) (nodes b) k) ≡ weight b (nodesAt b) (nodes b) (next b) (q .nodes-fit) k
       at-root k l = ap treeNodes (settled b (nodesAt b) (nodes b) k l) ∙ sym (weight-is b (nodesAt b) (nodes b) (next b) (q .nodes-fit) k)

@@ -7,7 +7,7 @@ use native.Mathlib.Omega.{arith}
 use lib.Dec.{leb}
 use borrow.Author.Tests.{not-true}
 use Rattle.flat.specs.Trees.{Flat, Definition, FlatModule, defines, everyId}
-use Rattle.flat.specs.Record.{Read, flatOf, measured, rows, allBelow, rising, treesHold, tree, definitionAt, equationAt, moduleOf, ordered, rules, rulesOf, next, publics, provers, definitions, equations, nodes, proversAt, definitionsAt, equationsAt, nodesAt}
+use Rattle.flat.specs.Record.{Read, flatOf, measured, rows, allBelow, rising, treesHold, tree, definitionAt, equationAt, moduleOf, ordered, rules, next, publics, provers, definitions, equations, nodes, proversAt, definitionsAt, equationsAt, nodesAt}
 use Rattle.flat.specs.Rules.{All, Every, Ordered, Rising, WellFormed}
 use Rattle.flat.proofs.Laws.{and-left, and-right}
 use Rattle.flat.proofs.Nodes.{tree-below}
@@ -82,13 +82,13 @@ module _ {b : List ℕ} (r : Readable b) where
 
 -- the last of the rules
 rules-ordered : (b : List ℕ) → rules b ≡ true → ordered (moduleOf b .definitions) ≡ true
-unfolding rules rulesOf moduleOf
+unfolding rules moduleOf
 rules-ordered b r0 =
     let r1 = and-right (leb (next b) 65536) _ r0 in
     let r2 = and-right (allBelow b 6 (publics b) (next b)) _ r1 in
     let r3 = and-right (allBelow b (proversAt b) (provers b) (next b)) _ r2 in
     let r4 = and-right (rising b (proversAt b) (provers b)) _ r3 in
-    and-right (treesHold b (next b) (definitionsAt b) (definitions b) (equationsAt b) (2 * equations b) (nodesAt b) (nodes b)) _ r4
+    and-right (treesHold b (next b) (definitionsAt b) (definitions b) (equationsAt b) (equations b) (nodesAt b) (nodes b)) _ r4
 
 well-formed : (b : List ℕ) → measured b ≡ true → rules b ≡ true → WellFormed (moduleOf b)
 unfolding moduleOf

@@ -4,3 +4,4 @@ pub mod Rules
 pub mod Readable
 pub mod Marks
 pub mod Meaning
+pub mod Writer

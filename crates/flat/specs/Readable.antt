@@ -5,7 +5,7 @@ use mathlib.Core.List.{List}
 use mathlib.Core.Bool.{true}
 use Prim.Native.Nat.{ℕ, _*_, _≤_, _<_}
 use lib.ListN.{length}
-use Rattle.flat.specs.Record.{next, publics, provers, definitions, equations, nodes, proversAt, definitionsAt, equationsAt, nodesAt, size, allBelow, rising, definitionsFit, nodesFit}
+use Rattle.flat.specs.Record.{next, publics, provers, definitions, equations, nodes, proversAt, definitionsAt, equationsAt, nodesAt, size, allBelow, rising, definitionsFit, equationsFit, nodesFit}
 use Rattle.records.specs.FlatRecord.{HEADER, IDS, LISTED, NODES, PUBLICS}
 
 pub record Readable (b : List ℕ) : Type 0 where
@@ -20,7 +20,7 @@ pub record Readable (b : List ℕ) : Type 0 where
   pub provers-below : allBelow b (proversAt b) (provers b) (next b) ≡ true
   pub provers-rise : rising b (proversAt b) (provers b) ≡ true
   pub definitions-fit : definitionsFit b (definitionsAt b) (definitions b) (next b) (nodes b) ≡ true
-  pub sides-below : allBelow b (equationsAt b) (2 * equations b) (nodes b) ≡ true
+  pub equations-fit : equationsFit b (equationsAt b) (equations b) (nodes b) ≡ true
   pub nodes-fit : nodesFit b (nodesAt b) (nodes b) (next b) ≡ true
 
 -- node k of a readable record, whose nodes start at word `at`

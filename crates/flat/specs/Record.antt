@@ -14,6 +14,8 @@ use Rattle.flat.specs.Trees.{Flat, Definition, Equation, FlatModule, def
 use Rattle.flat.specs.declared.Node.{Node}
 use Rattle.flat.specs.declared.Node.the-variants.{Infix, Negate, Constant, Variable}
 use Rattle.flat.specs.declared.Layout.{Layout}
+use Rattle.flat.specs.declared.entries.DefinitionEntry.{DefinitionEntry}
+use Rattle.flat.specs.declared.entries.EquationEntry.{EquationEntry}
 use Rattle.flat.specs.declared.Checked.{Checked}
 use Rattle.flat.specs.declared.Checked.the-variants.{Accepted, Refused}
 use Rattle.records.specs.FlatRecord.{HEADER, IDS, LISTED, NODES, PUBLICS}
@@ -39,6 +41,13 @@ pick true a b = a
 pick false a b = b
 
 -- ---- the layout
+
+-- the words of a definition (id, node) and of an equation (node, node)
+abbrev pub DEFINITION-WORDS : ℕ
+DEFINITION-WORDS = 2
+
+abbrev pub EQUATION-WORDS : ℕ
+EQUATION-WORDS = 2
 
 -- "Words: next id, counts of publics, prover ids, definitions, equations, nodes; public ids; prover ids; definitions (id, node); equations (node, node); nodes"
 module _ (b : List ℕ) where
@@ -68,10 +77,10 @@ module _ (b : List ℕ) where
   definitionsAt = proversAt + provers
 
   abbrev pub equationsAt : ℕ
-  equationsAt = definitionsAt + 2 * definitions
+  equationsAt = definitionsAt + DEFINITION-WORDS * definitions
 
   abbrev pub nodesAt : ℕ
-  nodesAt = equationsAt + 2 * equations
+  nodesAt = equationsAt + EQUATION-WORDS * equations
 
   abbrev pub size : ℕ
   size = nodesAt + NODE-WORDS * nodes
@@ -91,6 +100,19 @@ layoutOf b = record {
   «nodes_at» = nodesAt b;
   size = size b;
 }
+
+-- entry k of a list that starts at word `at`; the public ids start behind the header
+abbrev pub publicAt : List ℕ → ℕ → ℕ
+publicAt b k = wordAt b (HEADER + k)
+
+abbrev pub proverAt : List ℕ → ℕ → ℕ → ℕ
+proverAt b at k = wordAt b (at + k)
+
+abbrev pub definitionEntry : List ℕ → ℕ → ℕ → DefinitionEntry
+definitionEntry b at k = record { id = wordAt b (at + DEFINITION-WORDS * k); node = wordAt b (at + DEFINITION-WORDS * k + 1) }
+
+abbrev pub equationEntry : List ℕ → ℕ → ℕ → EquationEntry
+equationEntry b at k = record { left = wordAt b (at + EQUATION-WORDS * k); right = wordAt b (at + EQUATION-WORDS * k + 1) }
 
 -- not 20: "64 publics, 4,096 of each other list, 16,384 nodes", and the length is exactly the lists'
 unfoldable pub measured : List ℕ → Bool
@@ -146,23 +168,23 @@ tree b at (suc n) k = elim (eqb k n) [ true ↦ grown (tree b at n) (nodeOf b at
 -- ---- the module
 
 unfoldable pub definitionAt : List ℕ → ℕ → ℕ → ℕ → ℕ → Definition
-definitionAt b at treesAt count j = record { id = wordAt b (at + 2 * j); right = tree b treesAt count (wordAt b (at + 2 * j + 1)) }
+definitionAt b at treesAt count j = record { id = definitionEntry b at j .id; right = tree b treesAt count (definitionEntry b at j .node) }
 
 unfoldable pub equationAt : List ℕ → ℕ → ℕ → ℕ → ℕ → Equation
-equationAt b at treesAt count j = record { left = tree b treesAt count (wordAt b (at + 2 * j)); right = tree b treesAt count (wordAt b (at + 2 * j + 1)) }
+equationAt b at treesAt count j = record { left = tree b treesAt count (equationEntry b at j .left); right = tree b treesAt count (equationEntry b at j .right) }
 
 unfoldable pub moduleOf : List ℕ → FlatModule
 moduleOf b = record {
   next = next b;
-  publics = rows (publics b) 0 (λ k. wordAt b (HEADER + k));
-  provers = rows (provers b) 0 (λ k. wordAt b (proversAt b + k));
+  publics = rows (publics b) 0 (publicAt b);
+  provers = rows (provers b) 0 (proverAt b (proversAt b));
   definitions = rows (definitions b) 0 (definitionAt b (definitionsAt b) (nodesAt b) (nodes b));
   equations = rows (equations b) 0 (equationAt b (equationsAt b) (nodesAt b) (nodes b));
 }
 
 -- ---- the rules
 
--- n ids (or node indices) from word `at` on lie below a limit
+-- n ids from word `at` on lie below a limit
 unfoldable pub allBelow : List ℕ → ℕ → ℕ → ℕ → Bool
 allBelow b at n limit = every n (λ k. ltb (wordAt b (at + k)) limit)
 
@@ -172,7 +194,11 @@ rising b at n = every (n - 1) (λ k. ltb (wordAt b (at + k)) (wordAt b (at + k +
 
 -- definitions: each id below the next id, each node one of the nodes
 unfoldable pub definitionsFit : List ℕ → ℕ → ℕ → ℕ → ℕ → Bool
-definitionsFit b at n limit count = every n (λ k. ltb (wordAt b (at + 2 * k)) limit && ltb (wordAt b (at + 2 * k + 1)) count)
+definitionsFit b at n limit count = every n (λ k. ltb (definitionEntry b at k .id) limit && ltb (definitionEntry b at k .node) count)
+
+-- equations: each side one of the nodes
+unfoldable pub equationsFit : List ℕ → ℕ → ℕ → ℕ → Bool
+equationsFit b at n count = every n (λ k. ltb (equationEntry b at k .left) count && ltb (equationEntry b at k .right) count)
 
 -- a node: "its nodes follow their children", "its ids lie below its next id", "unused words are 0", operators 0 to 8
 unfoldable pub nodeFits : ℕ → ℕ → ℕ → ℕ → ℕ → ℕ → Bool
@@ -186,7 +212,7 @@ nodeFits limit k kind x y z =
 unfoldable pub nodesFit : List ℕ → ℕ → ℕ → ℕ → Bool
 nodesFit b at n limit = every n (λ k. nodeAt b at k (nodeFits limit k))
 
--- how often node k is used: by one index, by a node's children, by all nodes, by the definitions, by the equations' sides
+-- how often node k is used: by one index, by a node's children, by all nodes, by the definitions, by the equations
 unfoldable pub same : ℕ → ℕ → ℕ
 same x k = pick (eqb x k) 1 0
 
@@ -197,45 +223,38 @@ unfoldable pub byNodes : List ℕ → ℕ → ℕ → ℕ → ℕ
 byNodes b at n k = total n (λ j. nodeAt b at j (usedBy k))
 
 unfoldable pub byDefinitions : List ℕ → ℕ → ℕ → ℕ → ℕ
-byDefinitions b at n k = total n (λ j. same (wordAt b (at + 2 * j + 1)) k)
+byDefinitions b at n k = total n (λ j. same (definitionEntry b at j .node) k)
 
 unfoldable pub byEquations : List ℕ → ℕ → ℕ → ℕ → ℕ
-byEquations b at n k = total n (λ j. same (wordAt b (at + j)) k)
+byEquations b at n k = total n (λ j. same (equationEntry b at j .left) k + same (equationEntry b at j .right) k)
 
--- "each used exactly once": by the definitions, the equations' sides and the nodes together (each list by its place and count)
+-- "each used exactly once": by the definitions, the equations and the nodes together (each list by its place and count)
 unfoldable pub usedOnce : List ℕ → ℕ → ℕ → ℕ → ℕ → ℕ → ℕ → Bool
-usedOnce b definitionsAt definitions sidesAt sides nodesAt nodes =
-    every nodes (λ k. eqb (byDefinitions b definitionsAt definitions k + byEquations b sidesAt sides k + byNodes b nodesAt nodes k) 1)
+usedOnce b definitionsAt definitions equationsAt equations nodesAt nodes =
+    every nodes (λ k. eqb (byDefinitions b definitionsAt definitions k + byEquations b equationsAt equations k + byNodes b nodesAt nodes k) 1)
 
 -- the rules of definitions, equations and nodes but for the order
 unfoldable pub treesHold : List ℕ → ℕ → ℕ → ℕ → ℕ → ℕ → ℕ → ℕ → Bool
-treesHold b next definitionsAt definitions sidesAt sides nodesAt nodes =
+treesHold b next definitionsAt definitions equationsAt equations nodesAt nodes =
     definitionsFit b definitionsAt definitions next nodes
-    && (allBelow b sidesAt sides nodes
+    && (equationsFit b equationsAt equations nodes
     && (nodesFit b nodesAt nodes next
-    && usedOnce b definitionsAt definitions sidesAt sides nodesAt nodes))
+    && usedOnce b definitionsAt definitions equationsAt equations nodesAt nodes))
 
 -- "defines each id at most once, and no right side uses an id defined there or later"
 unfoldable pub ordered : List Definition → Bool
 ordered [] = true
 ordered (d ∷ ds) = not (defines ds (d .id)) && (everyId (λ v. not (defines (d ∷ ds) v)) (d .right) && ordered ds)
 
--- not 21: the rules of a record with these numbers in its header
-unfoldable pub rulesOf : List ℕ → ℕ → ℕ → ℕ → ℕ → ℕ → ℕ → Bool
-rulesOf b next publics provers definitions equations nodes =
-    let proversAt = HEADER + publics in
-    let definitionsAt = proversAt + provers in
-    let equationsAt = definitionsAt + 2 * definitions in
-    let nodesAt = equationsAt + 2 * equations in
-    leb next IDS
-    && (allBelow b HEADER publics next
-    && (allBelow b proversAt provers next
-    && (rising b proversAt provers
-    && (treesHold b next definitionsAt definitions equationsAt (2 * equations) nodesAt nodes
-    && ordered (rows definitions 0 (definitionAt b definitionsAt nodesAt nodes))))))
-
+-- not 21
 unfoldable pub rules : List ℕ → Bool
-rules b = rulesOf b (next b) (publics b) (provers b) (definitions b) (equations b) (nodes b)
+rules b =
+    leb (next b) IDS
+    && (allBelow b HEADER (publics b) (next b)
+    && (allBelow b (proversAt b) (provers b) (next b)
+    && (rising b (proversAt b) (provers b)
+    && (treesHold b (next b) (definitionsAt b) (definitions b) (equationsAt b) (equations b) (nodesAt b) (nodes b)
+    && ordered (rows (definitions b) 0 (definitionAt b (definitionsAt b) (nodesAt b) (nodes b)))))))
 
 -- ---- the answer
 

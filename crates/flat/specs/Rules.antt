@@ -2,8 +2,10 @@
 use mathlib.Core.Path.{_≡_}
 use mathlib.Core.List.{List, [], _∷_}
 use mathlib.Core.Bool.{Bool, true, false}
-use Prim.Native.Nat.{ℕ, _<_}
-use Rattle.flat.specs.Trees.{Flat, Definition, Equation, FlatModule, defines}
+use Prim.Native.Nat.{ℕ, _<_, _≤_}
+use lib.ListN.{length}
+use Rattle.flat.specs.Trees.{Flat, Definition, Equation, FlatModule, defines, moduleNodes}
+use Rattle.records.specs.FlatRecord.{IDS, LISTED, NODES}
 
 -- of every element of a list, of every variable of a tree
 abbrev pub All : {A : Type 0} → (A → Type 0) → List A → Type 0
@@ -32,3 +34,18 @@ pub record WellFormed (f : FlatModule) : Type 0 where
   pub definitions-below : All (λ d. (d .id < f .next) × Every (λ v. v < f .next) (d .right)) (f .definitions)
   pub equations-below : All (λ e. Every (λ v. v < f .next) (e .left) × Every (λ v. v < f .next) (e .right)) (f .equations)
   pub ordered : Ordered (f .definitions)
+
+-- what a module has to be for a record of it to be readable
+pub record Recordable (f : FlatModule) : Type 0 where
+  -- ids lie below the next id, prover ids rise, as in a lent record
+  pub publics-below : All (λ v. v < f .next) (f .publics)
+  pub provers-below : All (λ v. v < f .next) (f .provers)
+  pub provers-rise : Rising (f .provers)
+  pub definitions-below : All (λ d. (d .id < f .next) × Every (λ v. v < f .next) (d .right)) (f .definitions)
+  pub equations-below : All (λ e. Every (λ v. v < f .next) (e .left) × Every (λ v. v < f .next) (e .right)) (f .equations)
+  -- "Limits: .. 4,096 of each other list, 16,384 nodes, .. next id to 65,536"
+  pub provers-fit : length (f .provers) ≤ LISTED
+  pub definitions-fit : length (f .definitions) ≤ LISTED
+  pub equations-fit : length (f .equations) ≤ LISTED
+  pub nodes-fit : moduleNodes f ≤ NODES
+  pub next-fits : f .next ≤ IDS

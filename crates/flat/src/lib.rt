@@ -1,8 +1,11 @@
 // The flat record: its layout, its nodes, and the check of a lent one (refusals 20 and 21).
+pub mod entries;
 mod lists;
 mod ordering;
 mod uses;
 
+use entries::DEFINITION_WORDS;
+use entries::EQUATION_WORDS;
 use field::InfixOp;
 use lists::all_below;
 use lists::count;
@@ -29,7 +32,7 @@ use uses::trees_hold;
 ghost use mathlib.Core.Path.{_≡_};
 ghost use Prim.Native.Nat.{_+_, _*_, _≤_};
 ghost use lib.ListN.{length};
-ghost use Rattle.flat.specs.Record.{operatorOf, nodeOf, layoutOf, measured, rulesOf, flatOf, checked};
+ghost use Rattle.flat.specs.Record.{operatorOf, nodeOf, layoutOf, nodes, size, measured, rules, flatOf, checked};
 ghost use Rattle.records.specs.FlatRecord.{HEADER, NODES};
 
 const HEADER_BYTES: usize = 4 * HEADER;
@@ -114,8 +117,8 @@ pub fn layout_of(s: &[u8]) -> Layout
     let nodes = count(s, 5);
     let provers_at = HEADER + publics;
     let definitions_at = provers_at + provers;
-    let equations_at = definitions_at + 2 * definitions;
-    let nodes_at = equations_at + 2 * equations;
+    let equations_at = definitions_at + DEFINITION_WORDS * definitions;
+    let nodes_at = equations_at + EQUATION_WORDS * equations;
     Layout {
         next: count(s, 0),
         publics,
@@ -159,42 +162,47 @@ fn measures(s: &[u8]) -> bool
     if NODES < nodes {
         return false;
     }
-    n == 4 * (HEADER + publics + provers + 2 * definitions + 2 * equations + NODE_WORDS * nodes)
+    let size = HEADER
+        + publics
+        + provers
+        + DEFINITION_WORDS * definitions
+        + EQUATION_WORDS * equations
+        + NODE_WORDS * nodes;
+    n == 4 * size
 }
 
 // Not 21.
-fn rules_hold(
-    s: &[u8],
-    next: usize,
-    publics: usize,
-    provers: usize,
-    definitions: usize,
-    equations: usize,
-    nodes: usize,
-) -> bool
-    requires { ⌜ (4 * (HEADER + publics + provers + 2 * definitions + 2 * equations + 4 * nodes) ≤ length (now s)) × (nodes ≤ NODES) ⌝ }
-    ensures { λ r. ⌜ r ≡ rulesOf (now (s .entry)) next publics provers definitions equations nodes ⌝ }
+fn rules_hold(s: &[u8], l: Layout) -> bool
+    requires { ⌜ (l ≡ layoutOf (now s)) × ((length (now s) ≡ 4 * size (now s)) × (nodes (now s) ≤ NODES)) ⌝ }
+    ensures { λ r. ⌜ r ≡ rules (now (s .entry)) ⌝ }
 {
+    let next = l.next;
     if ID_COUNT < next {
         return false;
     }
-    if !all_below(s, HEADER, publics, next) {
+    if !all_below(s, HEADER, l.publics, next) {
         return false;
     }
-    let p = HEADER + publics;
-    if !all_below(s, p, provers, next) {
+    if !all_below(s, l.provers_at, l.provers, next) {
         return false;
     }
-    if !rises(s, p, provers) {
+    if !rises(s, l.provers_at, l.provers) {
         return false;
     }
-    let d = p + provers;
-    let e = d + 2 * definitions;
-    let t = e + 2 * equations;
-    if !trees_hold(s, next, d, definitions, e, 2 * equations, t, nodes) {
+    let t = l.nodes_at;
+    if !trees_hold(
+        s,
+        next,
+        l.definitions_at,
+        l.definitions,
+        l.equations_at,
+        l.equations,
+        t,
+        l.nodes,
+    ) {
         return false;
     }
-    in_order(s, d, definitions, t, nodes, next)
+    in_order(s, l.definitions_at, l.definitions, t, l.nodes, next)
 }
 
 // A lent flat record: accepted, or refused 20 or 21.
@@ -205,15 +213,7 @@ pub fn check_flat(s: &[u8]) -> Checked
         return Checked::Refused(20);
     }
     let l = layout_of(s);
-    if !rules_hold(
-        s,
-        l.next,
-        l.publics,
-        l.provers,
-        l.definitions,
-        l.equations,
-        l.nodes,
-    ) {
+    if !rules_hold(s, l) {
         return Checked::Refused(21);
     }
     Checked::Accepted

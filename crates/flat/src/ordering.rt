@@ -1,6 +1,6 @@
 // Each id is defined once, and no right side uses an id defined there or later.
 use super::Node;
-use super::lists::count;
+use super::entries::definition_at;
 use super::node_at;
 use records::flat_record::ID_COUNT;
 ghost use mathlib.Core.Path.{_≡_};
@@ -9,7 +9,7 @@ ghost use mathlib.Core.Bool.{true};
 ghost use lib.ListN.{length, getD};
 ghost use lib.Dec.{eqb};
 ghost use Rattle.flat.specs.Trees.{everyId};
-ghost use Rattle.flat.specs.Record.{rows, tree, definitionAt, definitionsFit, nodesFit, ordered};
+ghost use Rattle.flat.specs.Record.{rows, tree, definitionAt, definitionsFit, nodesFit, ordered, DEFINITION-WORDS};
 ghost use Rattle.flat.specs.Marks.{noLater};
 ghost use Rattle.records.specs.FlatRecord.{IDS};
 
@@ -43,20 +43,20 @@ fn free(s: &[u8], at: usize, k: usize, n: usize, limit: usize, later: &[u32; ID_
 // From the last definition to the first; an id is marked before its right side is walked.
 pub fn in_order(s: &[u8], at: usize, n: usize, trees: usize, nodes: usize, limit: usize) -> bool
     requires { ⌜ (definitionsFit (now s) at n limit nodes ≡ true) × (nodesFit (now s) trees nodes limit ≡ true) ⌝ }
-    requires { ⌜ (4 * (trees + 4 * nodes) ≤ length (now s)) × ((4 * (at + 2 * n) ≤ length (now s)) × (limit ≤ IDS)) ⌝ }
+    requires { ⌜ (4 * (trees + 4 * nodes) ≤ length (now s)) × ((4 * (at + DEFINITION-WORDS * n) ≤ length (now s)) × (limit ≤ IDS)) ⌝ }
     ensures { λ r. ⌜ r ≡ ordered (rows n 0 (definitionAt (now (s .entry)) at trees nodes)) ⌝ }
 {
     let mut later = no_later();
     let mut k = n;
     while 0 < k {
         k -= 1;
-        let id = count(s, at + 2 * k);
-        let node = count(s, at + 2 * k + 1);
+        let d = definition_at(s, at, k);
+        let id = d.id as usize;
         if later[id] != 0 {
             return false;
         }
         later[id] = 1;
-        if !free(s, trees, node, nodes, limit, &later) {
+        if !free(s, trees, d.node, nodes, limit, &later) {
             return false;
         }
     }

@@ -1,4 +1,6 @@
 // Definitions, equations and nodes fit, and every node is used exactly once: an array of marks, cleared at the start, set at each use.
+use super::entries::definition_at;
+use super::entries::equation_at;
 use super::lists::count;
 use records::NODE_WORDS;
 use records::flat_record::NODES;
@@ -12,7 +14,7 @@ ghost use Prim.Native.Nat.{_+_, _*_, _≤_, _<_};
 ghost use mathlib.Core.Bool.{true};
 ghost use lib.ListN.{length, getD, set};
 ghost use lib.Dec.{eqb};
-ghost use Rattle.flat.specs.Record.{every, allBelow, definitionsFit, nodeFits, nodesFit, usedBy, byNodes, byDefinitions, byEquations, treesHold};
+ghost use Rattle.flat.specs.Record.{every, definitionsFit, equationsFit, nodeFits, nodesFit, usedBy, byNodes, byDefinitions, byEquations, treesHold, DEFINITION-WORDS, EQUATION-WORDS};
 ghost use Rattle.flat.specs.Marks.{bump, Adds, noMarks};
 ghost use Rattle.records.specs.FlatRecord.{NODES};
 ghost use Rattle.records.specs.Kinds.{INFIX, NEGATE};
@@ -113,35 +115,36 @@ fn read_definitions(
     nodes: usize,
     marks: &mut [u32; NODES],
 ) -> bool
-    requires { ⌜ (4 * (at + 2 * n) ≤ length (now s)) × (nodes ≤ NODES) ⌝ }
+    requires { ⌜ (4 * (at + DEFINITION-WORDS * n) ≤ length (now s)) × (nodes ≤ NODES) ⌝ }
     ensures { λ r. ⌜ (r ≡ definitionsFit (now (s .entry)) at n limit nodes) × (r ≡ true → Adds (now (marks .entry)) (now (marks .exit)) (byDefinitions (now (s .entry)) at n)) ⌝ }
 {
     let mut k = 0usize;
     while k < n {
-        let id = count(s, at + 2 * k);
-        let node = count(s, at + 2 * k + 1);
-        let fits = (id < limit) & (node < nodes);
+        let d = definition_at(s, at, k);
+        let fits = ((d.id as usize) < limit) & (d.node < nodes);
         if !fits {
             return false;
         }
-        use_node(marks, node);
+        use_node(marks, d.node);
         k += 1;
     }
     true
 }
 
-// Whether n words from word `at` on are nodes; then these are marked.
-fn read_sides(s: &[u8], at: usize, n: usize, nodes: usize, marks: &mut [u32; NODES]) -> bool
-    requires { ⌜ (4 * (at + n) ≤ length (now s)) × (nodes ≤ NODES) ⌝ }
-    ensures { λ r. ⌜ (r ≡ allBelow (now (s .entry)) at n nodes) × (r ≡ true → Adds (now (marks .entry)) (now (marks .exit)) (byEquations (now (s .entry)) at n)) ⌝ }
+// Whether the sides of n equations from word `at` on are nodes; then these are marked.
+fn read_equations(s: &[u8], at: usize, n: usize, nodes: usize, marks: &mut [u32; NODES]) -> bool
+    requires { ⌜ (4 * (at + EQUATION-WORDS * n) ≤ length (now s)) × (nodes ≤ NODES) ⌝ }
+    ensures { λ r. ⌜ (r ≡ equationsFit (now (s .entry)) at n nodes) × (r ≡ true → Adds (now (marks .entry)) (now (marks .exit)) (byEquations (now (s .entry)) at n)) ⌝ }
 {
     let mut k = 0usize;
     while k < n {
-        let node = count(s, at + k);
-        if nodes <= node {
+        let e = equation_at(s, at, k);
+        let fits = (e.left < nodes) & (e.right < nodes);
+        if !fits {
             return false;
         }
-        use_node(marks, node);
+        use_node(marks, e.left);
+        use_node(marks, e.right);
         k += 1;
     }
     true
@@ -162,25 +165,25 @@ fn all_once(marks: &[u32; NODES], n: usize) -> bool
     true
 }
 
-// Whether the definitions, the equations' sides and the nodes fit and use each node once.
+// Whether the definitions, the equations and the nodes fit and use each node once.
 pub fn trees_hold(
     s: &[u8],
     next: usize,
     d: usize,
     definitions: usize,
     e: usize,
-    sides: usize,
+    equations: usize,
     t: usize,
     nodes: usize,
 ) -> bool
-    requires { ⌜ ((4 * (d + 2 * definitions) ≤ length (now s)) × (4 * (e + sides) ≤ length (now s))) × ((4 * (t + 4 * nodes) ≤ length (now s)) × (nodes ≤ NODES)) ⌝ }
-    ensures { λ r. ⌜ r ≡ treesHold (now (s .entry)) next d definitions e sides t nodes ⌝ }
+    requires { ⌜ ((4 * (d + DEFINITION-WORDS * definitions) ≤ length (now s)) × (4 * (e + EQUATION-WORDS * equations) ≤ length (now s))) × ((4 * (t + 4 * nodes) ≤ length (now s)) × (nodes ≤ NODES)) ⌝ }
+    ensures { λ r. ⌜ r ≡ treesHold (now (s .entry)) next d definitions e equations t nodes ⌝ }
 {
     let mut marks = no_marks();
     if !read_definitions(s, d, definitions, next, nodes, &mut marks) {
         return false;
     }
-    if !read_sides(s, e, sides, nodes, &mut marks) {
+    if !read_equations(s, e, equations, nodes, &mut marks) {
         return false;
     }
     if !read_nodes(s, t, nodes, next, &mut marks) {

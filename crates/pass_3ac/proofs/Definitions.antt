@@ -10,15 +10,16 @@ use borrow.Author.Tests.{eq-eqb, ne-eqb}
 use Rattle.flat.specs.Trees.{Flat, Definition, treeNodes, definitionsNodes}
 use Rattle.flat.specs.Record.{moduleOf}
 use Rattle.constraint.specs.declared.Term.{Term}
-use Rattle.pass_trees.specs.Passes.{member, keepIf, those, Usage, isNever, usage, Substitutions, copyPropagateExpr, substituting, copyPropagateDef, afterDef, copyPropagateDefs, afterDefs, Cuts, cutsOf, joined, flattenDefTo3ac, flattenDefs}
-use Rattle.pass_trees.proofs.Loops.{those-append, copies-append, after-append, defs-append}
+use Rattle.pass_trees.specs.Passes.{member, keepIf, those, Usage, isNever, usage, Substitutions, copyPropagateDef, copyPropagateDefs, Cuts, cutsOf, joined, flattenDefTo3ac, flattenDefs}
+use Rattle.pass_trees.proofs.Loops.{those-append, copies-append, defs-append}
 use Rattle.pass_classify.specs.Arrays.{usageAt, usageOf, marked, Classified}
-use Rattle.pass_copies.specs.Substituted.{substOf}
+use Rattle.pass_copies.specs.Substituted.{SUBSTITUTION-WORDS, substOf, putDefinition, putDefinitions}
+use Rattle.pass_copies.proofs.After.{put-none, put-first, put-unused, put-prover, put-counted, Storable, definitions-say}
 use Rattle.pass_3ac.specs.declared.Target.the-variants.{Given}
 use Rattle.pass_3ac.specs.declared.Cut.{Cut}
 use Rattle.pass_3ac.specs.declared.Place.{Place}
-use Rattle.pass_classify.specs.Arrays.{proversOf, usedOf}
-use Rattle.pass_3ac.specs.Cutting.{targetOf, treeCut, putEqualities, placeFrom, defsCut, defsAfter, Room}
+use Rattle.pass_classify.specs.Arrays.{proversOf, usedOf, countedOf}
+use Rattle.pass_3ac.specs.Cutting.{targetOf, treeCut, putEqualities, placeFrom, defsCut, defsAfter, DefsPut, Room}
 use Rattle.pass_3ac.proofs.Trees.{cut-few, cut-ids}
 use Rattle.pass_3ac.proofs.Ways.{Leaves}
 use Rattle.pass_3ac.proofs.Joining.{place-next, puts-none, puts-tree, puts-join, joined-none, Few, few-none, few-join, few-less, room-puts}
@@ -75,27 +76,15 @@ module _ (b : List ℕ) (k : ℕ) (s : Substitutions) (id : ℕ) (e : Flat) (n :
   unfolding defsCut copyPropagateDefs flattenDefs
   cut-unused h = rw (used-not h)
 
-  pub after-unused : isNever (usage (moduleOf b) id) ≡ true → s ≡ defsAfter b k s (the ∷ [])
-  unfolding defsAfter afterDefs
-  after-unused h = rw (used-not h)
-
   -- the prover's
   pub cut-prover : isNever (usage (moduleOf b) id) ≡ false → member id (proversOf b) ≡ true → defsCut b k s (the ∷ []) n ≡ record { next = n; equalities = [] }
   unfolding defsCut copyPropagateDefs copyPropagateDef flattenDefs flattenDefTo3ac joined
   cut-prover h p = rw (used-so h, p)
 
-  pub after-prover : isNever (usage (moduleOf b) id) ≡ false → member id (proversOf b) ≡ true → s ≡ defsAfter b k s (the ∷ [])
-  unfolding defsAfter afterDefs afterDef substituting
-  after-prover h p = rw (used-so h, p)
-
   -- counted
   pub cut-counted : isNever (usage (moduleOf b) id) ≡ false → member id (proversOf b) ≡ false → defsCut b k s (the ∷ []) n ≡ cutsOf (treeCut (Given (Term.Variable id)) k s e n)
   unfolding defsCut copyPropagateDefs copyPropagateDef flattenDefs flattenDefTo3ac treeCut targetOf
   cut-counted h p = rw (used-so h, p) (joined-none _)
-
-  pub after-counted : isNever (usage (moduleOf b) id) ≡ false → member id (proversOf b) ≡ false → substituting false id (copyPropagateExpr k s e) s ≡ defsAfter b k s (the ∷ [])
-  unfolding defsAfter afterDefs afterDef
-  after-counted h p = rw (used-so h, p)
 
   few-tree : Few (cutsOf (treeCut (Given (Term.Variable id)) k s e n)) (treeNodes e) n
   unfolding cutsOf
@@ -120,14 +109,6 @@ module _ (b : List ℕ) (k : ℕ) where
   unfolding defsCut usedOf those copyPropagateDefs flattenDefs
   defs-none s n = refl
 
-  pub defs-after-none : (s : Substitutions) → defsAfter b k s [] ≡ s
-  unfolding defsAfter usedOf those afterDefs
-  defs-after-none s = refl
-
-  pub defs-after-first : (s : Substitutions) (d : Definition) (ds : List Definition) → defsAfter b k s (d ∷ ds) ≡ defsAfter b k (defsAfter b k s (d ∷ [])) ds
-  unfolding defsAfter
-  defs-after-first s d ds = rw (used-first d ds) (after-append (proversOf b) k (usedOf b (d ∷ [])) (usedOf b ds) s)
-
   pub defs-first : (s : Substitutions) (d : Definition) (ds : List Definition) (n : ℕ) → defsCut b k s (d ∷ ds) n ≡ joined (defsCut b k s (d ∷ []) n .equalities) (defsCut b k (defsAfter b k s (d ∷ [])) ds (defsCut b k s (d ∷ []) n .next))
   unfolding defsCut defsAfter
   defs-first s d ds n = rw (used-first d ds, copies-append (proversOf b) k (usedOf b (d ∷ [])) (usedOf b ds) s) (defs-append (proversOf b) _ _ n)
@@ -139,51 +120,65 @@ module _ (b : List ℕ) (k : ℕ) where
 
 -- ---- what is left of cut definitions: the body, the answer, the substitutions
 
-abbrev pub DefsLeave : List ℕ → ℕ → List Definition → List ℕ → List ℕ → List ℕ → List ℕ → ℕ → ℕ → Place → Type 0
-DefsLeave b k ds m m′ c c′ at n r =
-    (c′ ≡ putEqualities c at (defsCut b k (substOf m) ds n .equalities))
-    × (r ≡ placeFrom at (defsCut b k (substOf m) ds n))
-    × (substOf m′ ≡ defsAfter b k (substOf m) ds)
-    × (length m′ ≡ 131072)
-
 -- nothing from there on
-pub leave-none : (b : List ℕ) (k : ℕ) (m c : List ℕ) (at n : ℕ) → length m ≡ 131072 → DefsLeave b k [] m m c c at n (record { next = n; at = at })
-leave-none b k m c at n l =
-    let p = puts-none c at n in
-    (p .0 ∙ ap (λ (x : Cuts). putEqualities c at (x .equalities)) (sym (defs-none b k (substOf m) n)), p .1 ∙ ap (placeFrom at) (sym (defs-none b k (substOf m) n)), sym (defs-after-none b k (substOf m)), l)
+pub leave-none : (b : List ℕ) (k : ℕ) (m c : List ℕ) (at n : ℕ) → DefsPut b k [] m m c c at n (record { next = n; at = at })
+leave-none b k m c at n =
+    let p = puts-none c at n in (
+      p .0 ∙ ap (λ (x : Cuts). putEqualities c at (x .equalities)) (sym (defs-none b k (substOf m) n)),
+      p .1
+          ∙ ap (placeFrom at) (sym (defs-none b k (substOf m) n)),
+      sym (put-none b k m),
+    )
+
+-- what the array after one says
+after-says : (b : List ℕ) (k : ℕ) (d : Definition) (m : List ℕ) {m1 : List ℕ} → length m ≡ SUBSTITUTION-WORDS → Storable d →
+    m1 ≡ putDefinitions k m (countedOf b (d ∷ [])) → substOf m1 ≡ defsAfter b k (substOf m) (d ∷ [])
+unfolding defsAfter
+after-says b k d m long s e = ap substOf e ∙ definitions-say b k m (d ∷ []) long (s, tt)
 
 -- one, and then the others
-pub leave-join : (b : List ℕ) (k : ℕ) (d : Definition) (ds : List Definition) (m m1 m2 c : List ℕ) {c1 c2 : List ℕ} (at n : ℕ) {r1 r2 : Place} → DefsLeave b k (d ∷ []) m m1 c c1 at n r1 → DefsLeave b k ds m1 m2 c1 c2 (r1 .at) (r1 .next) r2 → DefsLeave b k (d ∷ ds) m m2 c c2 at n r2
-leave-join b k d ds m m1 m2 c at n {r1 = r1} l1 l2 =
+pub leave-join : (b : List ℕ) (k : ℕ) (d : Definition) (ds : List Definition) (m m1 m2 c : List ℕ) {c1 c2 : List ℕ} (at n : ℕ) {r1 r2 : Place} →
+    length m ≡ SUBSTITUTION-WORDS → Storable d → DefsPut b k (d ∷ []) m m1 c c1 at n r1 → DefsPut b k ds m1 m2 c1 c2 (r1 .at) (r1 .next) r2 →
+    DefsPut b k (d ∷ ds) m m2 c c2 at n r2
+leave-join b k d ds m m1 m2 c at n {r1 = r1} long s l1 l2 =
     let C : Cuts = defsCut b k (substOf m) (d ∷ []) n in
     let D : Cuts = defsCut b k (substOf m1) ds (r1 .next) in
-    let w : defsCut b k (substOf m) (d ∷ ds) n ≡ joined (C .equalities) D = defs-first b k (substOf m) d ds n ∙ ap₂ (λ (x : Substitutions) (y : ℕ). joined (C .equalities) (defsCut b k x ds y)) (sym (l1 .2)) (sym (place-next at C (l1 .1))) in
+    let a : substOf m1 ≡ defsAfter b k (substOf m) (d ∷ []) = after-says b k d m long s (l1 .2) in
+    let w : defsCut b k (substOf m) (d ∷ ds) n ≡ joined (C .equalities) D = defs-first b k (substOf m) d ds n
+    ∙ ap₂ (λ (x : Substitutions) (y : ℕ). joined (C .equalities) (defsCut b k x ds y)) (sym a) (sym (place-next at C (l1 .1))) in
     let p = puts-join c at C D (l1 .0, l1 .1) (l2 .0, l2 .1) in
-    (rw w (p .0), rw w (p .1), l2 .2 ∙ ap (λ (x : Substitutions). defsAfter b k x ds) (l1 .2) ∙ sym (defs-after-first b k (substOf m) d ds), l2 .3)
+    (rw w (p .0), rw w (p .1), l2 .2 ∙ ap (λ (x : List ℕ). putDefinitions k x (countedOf b ds)) (l1 .2) ∙ sym (put-first b k m d ds))
 
 -- the room that they leave
-pub room-defs : (b : List ℕ) (k : ℕ) (ds : List Definition) (m m′ : List ℕ) {c c′ : List ℕ} {at n : ℕ} {r : Place} (p : ℕ) → DefsLeave b k ds m m′ c c′ at n r → Room (definitionsNodes ds + p) at n c → Room p (r .at) (r .next) c′
+pub room-defs : (b : List ℕ) (k : ℕ) (ds : List Definition) (m m′ : List ℕ) {c c′ : List ℕ} {at n : ℕ} {r : Place} (p : ℕ) →
+    DefsPut b k ds m m′ c c′ at n r → Room (definitionsNodes ds + p) at n c → Room p (r .at) (r .next) c′
 room-defs b k ds m m′ {n = n} p l h = room-puts (defsCut b k (substOf m) ds n) (definitionsNodes ds) p (few-defs b k (substOf m) ds n) (l .0, l .1) h
 
 -- ---- the ways through one definition
 
 module _ {b us ps : List ℕ} (c : Classified b us ps) (k : ℕ) (m body : List ℕ) (at n id : ℕ) (e : Flat) where
-  skipped : defsCut b k (substOf m) (record { id = id; right = e } ∷ []) n ≡ record { next = n; equalities = [] } → substOf m ≡ defsAfter b k (substOf m) (record { id = id; right = e } ∷ []) → length m ≡ 131072 → DefsLeave b k (record { id = id; right = e } ∷ []) m m body body at n (record { next = n; at = at })
-  skipped q a l = let p = puts-none body at n in (rw q (p .0), rw q (p .1), a, l)
+  abbrev Leaving : List ℕ → List ℕ → Place → Type 0
+  Leaving m′ body′ r = DefsPut b k (record { id = id; right = e } ∷ []) m m′ body body′ at n r
 
-  pub way-unused : getD us id 0 ≡ 0 → length m ≡ 131072 → DefsLeave b k (record { id = id; right = e } ∷ []) m m body body at n (record { next = n; at = at })
-  way-unused h = let u = is-unused c id h in skipped (cut-unused b k (substOf m) id e n u) (after-unused b k (substOf m) id e n u)
+  skipped : defsCut b k (substOf m) (record { id = id; right = e } ∷ []) n ≡ record { next = n; equalities = [] } →
+      m ≡ putDefinitions k m (countedOf b (record { id = id; right = e } ∷ [])) → Leaving m body (record { next = n; at = at })
+  skipped q a = let p = puts-none body at n in (rw q (p .0), rw q (p .1), a)
 
-  pub way-prover : (getD us id 0 ≡ 0 → ⊥) → (getD ps id 0 ≡ 0 → ⊥) → length m ≡ 131072 → DefsLeave b k (record { id = id; right = e } ∷ []) m m body body at n (record { next = n; at = at })
+  pub way-unused : getD us id 0 ≡ 0 → Leaving m body (record { next = n; at = at })
+  way-unused h = let u = is-unused c id h in skipped (cut-unused b k (substOf m) id e n u) (put-unused b k m (record { id = id; right = e }) u)
+
+  pub way-prover : (getD us id 0 ≡ 0 → ⊥) → (getD ps id 0 ≡ 0 → ⊥) → Leaving m body (record { next = n; at = at })
   way-prover h g =
       let u = is-used c id h in
       let p = is-prover c id g in
-      skipped (cut-prover b k (substOf m) id e n u p) (after-prover b k (substOf m) id e n u p)
+      skipped (cut-prover b k (substOf m) id e n u p) (put-prover b k m (record { id = id; right = e }) u p)
 
-  pub way-counted : (m′ : List ℕ) {body′ : List ℕ} {r : Cut} → (getD us id 0 ≡ 0 → ⊥) → getD ps id 0 ≡ 0 → Leaves body body′ at (treeCut (Given (Term.Variable id)) k (substOf m) e n) r → (substOf m′ ≡ substituting false id (copyPropagateExpr k (substOf m) e) (substOf m)) × (length m′ ≡ 131072) → DefsLeave b k (record { id = id; right = e } ∷ []) m m′ body body′ at n (record { next = r .next; at = r .at })
+  pub way-counted : (m′ : List ℕ) {body′ : List ℕ} {r : Cut} → (getD us id 0 ≡ 0 → ⊥) → getD ps id 0 ≡ 0 →
+      Leaves body body′ at (treeCut (Given (Term.Variable id)) k (substOf m) e n) r → m′ ≡ putDefinition k m (record { id = id; right = e }) →
+      Leaving m′ body′ (record { next = r .next; at = r .at })
   way-counted m′ h g l a =
       let u = is-used c id h in
       let p = is-counted c id g in
       let w = puts-tree body at (treeCut (Given (Term.Variable id)) k (substOf m) e n) l in
       let q = cut-counted b k (substOf m) id e n u p in
-      (rw q (w .0), rw q (w .1), a .0 ∙ after-counted b k (substOf m) id e n u p, a .1)
+      (rw q (w .0), rw q (w .1), a ∙ put-counted b k m (record { id = id; right = e }) u p)

@@ -8,6 +8,7 @@ use lib.IntN.{ℤ}
 use lib.ListN.{length, length-append}
 use Rattle.flat.specs.Trees.{Flat, Equation, treeNodes, equationsNodes}
 use Rattle.constraint.specs.declared.Term.{Term}
+use Rattle.constraint.specs.Record.{EQUALITY-WORDS}
 use Rattle.pass_trees.specs.Passes.{keepIf, Substitutions, copyPropagateExpr, copyPropagateEquations, dead, alive, Cut as Cutting, copied, Cuts, cutsOf, joined, Sides as SidesOf, into, both, sides, flattenSides, flattenEquations}
 use Rattle.pass_trees.proofs.Loops.{copied-equations-append, alive-append, equations-append}
 use Rattle.pass_copies.specs.declared.Copied.{Copied}
@@ -166,13 +167,13 @@ module _ (k : ℕ) (s : Substitutions) (l r : Flat) (n : ℕ) where
 -- ---- both sides cut
 
 module _ (k : ℕ) (s : Substitutions) (l r : Flat) (b : List ℕ) {c : List ℕ} (at n : ℕ) {r1 : Cut} (l1 : Leaves b c at (treeCut New k s l n) r1) where
-  pub room-both : {d : List ℕ} {r2 : Cut} → Leaves c d (r1 .at) (treeCut New k s r (r1 .next)) r2 → Room (treeNodes l + treeNodes r) at n b → 4 * r2 .at + 28 ≤ length d
+  pub room-both : {d : List ℕ} {r2 : Cut} → Leaves c d (r1 .at) (treeCut New k s r (r1 .next)) r2 → Room (treeNodes l + treeNodes r) at n b → 4 * (r2 .at + EQUALITY-WORDS) ≤ length d
   unfolding after
   room-both {d} {r2} l2 h =
       let a : Cutting = treeCut New k s l n in
       let y : Cutting = treeCut New k s r (r1 .next) in
-      let i : r1 .at ≡ at + 7 * length (a .equalities) = its-at at a (l1 .1) in
-      let j : r2 .at ≡ r1 .at + 7 * length (y .equalities) = its-at (r1 .at) y (l2 .1) in
+      let i : r1 .at ≡ at + EQUALITY-WORDS * length (a .equalities) = its-at at a (l1 .1) in
+      let j : r2 .at ≡ r1 .at + EQUALITY-WORDS * length (y .equalities) = its-at (r1 .at) y (l2 .1) in
       let e : length (a .equalities) < treeNodes l = cut-new-few k s l n in
       let f : length (y .equalities) < treeNodes r = cut-new-few k s r (r1 .next) in
       let g : length d ≡ length b = ap length (l2 .0) ∙ length-put c (r1 .at) (y .equalities) ∙ ap length (l1 .0) ∙ length-put b at (a .equalities) in

@@ -9,7 +9,7 @@ use Rattle.words.proofs.Laws.{setWords-append, length-setWords}
 use Rattle.constraint.specs.declared.Term.{Term}
 use Rattle.constraint.specs.declared.Equality.{Equality as Written}
 use Rattle.constraint.specs.Trees.{Side, Equality}
-use Rattle.constraint.specs.Record.{writtenWords, equalityWords, equalitiesWords}
+use Rattle.constraint.specs.Record.{EQUALITY-WORDS, writtenWords, equalityWords, equalitiesWords}
 use Rattle.constraint.proofs.Lengths.{length-equalities, equalities-append}
 use Rattle.pass_trees.specs.Passes.{orVariable, copied}
 use Rattle.pass_3ac.specs.declared.Target.{Target}
@@ -45,7 +45,7 @@ pub put-one : (b : List ℕ) (at : ℕ) (l : Term) (r : Side) → setWords b at 
 unfolding putEqualities equalitiesWords equalityWords equalityOf
 put-one b at l r = ap (setWords b at) (sym (append-nil _))
 
-pub after-one : (at : ℕ) (q : Equality) → after at (q ∷ []) ≡ at + 7
+pub after-one : (at : ℕ) (q : Equality) → after at (q ∷ []) ≡ at + EQUALITY-WORDS
 unfolding after
 after-one at q = omega arith
 
@@ -64,6 +64,6 @@ module _ (b : List ℕ) (at n : ℕ) (target : Target) (t : Term) where
   unfolding targetOf copied cutFrom
   placed-new e = rw e (sym (put-none b at), ap (λ (m : ℕ). record { term = t; next = n; at = m }) (sym (after-none at)))
 
-  pub placed-given : {l : Term} {q : Written} {c : List ℕ} → target ≡ Given l → q ≡ equalityOf l (Side.copy t) → c ≡ setWords b at (writtenWords q) → (c ≡ putEqualities b at (copied (targetOf target) t n .equalities)) × (record { term = l; next = n; at = at + 7 } ≡ cutFrom at (copied (targetOf target) t n))
+  pub placed-given : {l : Term} {q : Written} {c : List ℕ} → target ≡ Given l → q ≡ equalityOf l (Side.copy t) → c ≡ setWords b at (writtenWords q) → (c ≡ putEqualities b at (copied (targetOf target) t n .equalities)) × (record { term = l; next = n; at = at + EQUALITY-WORDS } ≡ cutFrom at (copied (targetOf target) t n))
   unfolding targetOf copied cutFrom
   placed-given {l} e p q = rw e (q ∙ ap (λ (w : Written). setWords b at (writtenWords w)) p ∙ put-one b at l (Side.copy t), ap (λ (m : ℕ). record { term = l; next = n; at = m }) (sym (after-one at _)))

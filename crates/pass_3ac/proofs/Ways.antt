@@ -13,12 +13,12 @@ use Rattle.flat.specs.Trees.{Flat, treeNodes}
 use Rattle.constraint.specs.declared.Term.{Term}
 use Rattle.constraint.specs.declared.Equality.{Equality as Written}
 use Rattle.constraint.specs.Trees.{Side, Equality, written}
-use Rattle.constraint.specs.Record.{writtenWords}
+use Rattle.constraint.specs.Record.{EQUALITY-WORDS, writtenWords}
 use Rattle.pass_trees.specs.Passes.{Substitutions, walk, infixOp, Cut as Cutting, orVariable, pushConstraintDef, copied}
 use Rattle.pass_3ac.specs.declared.Target.{Target}
 use Rattle.pass_3ac.specs.declared.Target.the-variants.{New}
 use Rattle.pass_3ac.specs.declared.Cut.{Cut}
-use Rattle.pass_3ac.specs.Cutting.{equalityOf, targetOf, treeCut, putEqualities, after, cutFrom, Room}
+use Rattle.pass_3ac.specs.Cutting.{equalityOf, targetOf, treeCut, putEqualities, after, cutFrom, DRAWN, Room}
 use Rattle.pass_3ac.proofs.Trees.{cut-infix, cut-negate, cut-constant, cut-variable, cut-few, cut-ids, nodes-some}
 use Rattle.pass_3ac.proofs.Placing.{put-append, after-append, length-put, put-one, after-one}
 
@@ -41,12 +41,12 @@ module _ (at : ℕ) (c : Cutting) {r : Cut} (e : r ≡ cutFrom at c) where
   its-at = ap (λ (x : Cut). x .at) e
 
 -- an equality after those of the parts
-pushed : (b : List ℕ) (at n : ℕ) (out : Option Term) (es : List Equality) (side : Side) {c d : List ℕ} {m : ℕ} {q : Written} {l : Term} → l ≡ orVariable out n → q ≡ equalityOf l side → c ≡ putEqualities b at es → m ≡ after at es → d ≡ setWords c m (writtenWords q) → Leaves b d at (pushConstraintDef out es n side) (record { term = q .left; next = n + 1; at = m + 7 })
+pushed : (b : List ℕ) (at n : ℕ) (out : Option Term) (es : List Equality) (side : Side) {c d : List ℕ} {m : ℕ} {q : Written} {l : Term} → l ≡ orVariable out n → q ≡ equalityOf l side → c ≡ putEqualities b at es → m ≡ after at es → d ≡ setWords c m (writtenWords q) → Leaves b d at (pushConstraintDef out es n side) (record { term = q .left; next = n + 1; at = m + EQUALITY-WORDS })
 unfolding pushConstraintDef cutFrom
 pushed b at n out es side {c} {d} {m} {q} {l} p e f g h =
     let k : q .left ≡ orVariable out n = ap (λ (x : Written). x .left) e ∙ unfold equalityOf written in p in
     let w : d ≡ putEqualities c m (record { left = orVariable out n; right = side } ∷ []) = h ∙ ap (λ (x : Written). setWords c m (writtenWords x)) (e ∙ ap (λ (t : Term). equalityOf t side) p) ∙ put-one c m (orVariable out n) side in
-    let u : m + 7 ≡ after at (es ++ (record { left = orVariable out n; right = side } ∷ [])) = sym (after-append at es _ ∙ after-one (after at es) _ ∙ ap (λ (x : ℕ). x + 7) (sym g)) in
+    let u : m + EQUALITY-WORDS ≡ after at (es ++ (record { left = orVariable out n; right = side } ∷ [])) = sym (after-append at es _ ∙ after-one (after at es) _ ∙ ap (λ (x : ℕ). x + EQUALITY-WORDS) (sym g)) in
     (w ∙ ap₂ (λ (x : List ℕ) (y : ℕ). putEqualities x y (record { left = orVariable out n; right = side } ∷ [])) f g ∙ sym (put-append b at es _), rw (k, u, add-one))
 
 -- ---- room
@@ -56,7 +56,7 @@ module _ {at n : ℕ} {b : List ℕ} where
   pub room-less : (m : ℕ) {p : ℕ} → Room m at n b → p ≤ m → Room p at n b
   room-less m h l = record { words = omega (arith, h .words); ids = omega (arith, h .ids) }
 
-  pub room-one : {m : ℕ} → Room m at n b → 0 < m → (4 * at + 28 ≤ length b) × (n < 131072)
+  pub room-one : {m : ℕ} → Room m at n b → 0 < m → (4 * (at + EQUALITY-WORDS) ≤ length b) × (n < DRAWN)
   room-one h l = (omega (arith, h .words), omega (arith, h .ids))
 
 -- what a cut leaves of the room for its tree and more
@@ -65,7 +65,7 @@ module _ (target : Target) (k : ℕ) (s : Substitutions) (e : Flat) {b c : List 
   unfolding after
   room-on p h =
       let x : Cutting = treeCut target k s e n in
-      let i : r .at ≡ at + 7 * length (x .equalities) = its-at at x (l .1) in
+      let i : r .at ≡ at + EQUALITY-WORDS * length (x .equalities) = its-at at x (l .1) in
       let j : r .next ≡ x .next = its-next at x (l .1) in
       let m : length c ≡ length b = ap length (l .0) ∙ length-put b at (x .equalities) in
       let f : length (x .equalities) ≤ treeNodes e = cut-few k s e n target in
@@ -88,7 +88,7 @@ module _ (e : Flat) {b : List ℕ} {at n : ℕ} (h : Room (treeNodes e) at n b) 
       pub room-second : Room (treeNodes y) (r .at) (r .next) c
       room-second = room-less (treeNodes y + 1) rest (omega arith)
 
-      pub room-third : {d : List ℕ} {q : Cut} → Leaves c d (r .at) (treeCut New k s y (r .next)) q → (4 * q .at + 28 ≤ length d) × (q .next < 131072)
+      pub room-third : {d : List ℕ} {q : Cut} → Leaves c d (r .at) (treeCut New k s y (r .next)) q → (4 * (q .at + EQUALITY-WORDS) ≤ length d) × (q .next < DRAWN)
       room-third m = room-one (room-on New k s y m 1 rest) (omega arith)
 
   module _ {x : Flat} (p : e ≡ Flat.negate x) where
@@ -99,16 +99,16 @@ module _ (e : Flat) {b : List ℕ} {at n : ℕ} (h : Room (treeNodes e) at n b) 
     pub room-negated : Room (treeNodes x) at n b
     room-negated = room-less (treeNodes e) h (omega (arith, sized))
 
-    pub room-pushed : (k : ℕ) (s : Substitutions) {c : List ℕ} {r : Cut} → Leaves b c at (treeCut New k s x n) r → (4 * r .at + 28 ≤ length c) × (r .next < 131072)
+    pub room-pushed : (k : ℕ) (s : Substitutions) {c : List ℕ} {r : Cut} → Leaves b c at (treeCut New k s x n) r → (4 * (r .at + EQUALITY-WORDS) ≤ length c) × (r .next < DRAWN)
     room-pushed k s l = room-one (room-on New k s x l 1 (rw sized at h)) (omega arith)
 
-  pub room-term : 4 * at + 28 ≤ length b
+  pub room-term : 4 * (at + EQUALITY-WORDS) ≤ length b
   room-term = room-one h (nodes-some e) .0
 
 -- ---- ways
 
 module _ (target : Target) (k : ℕ) (s : Substitutions) (e : Flat) (b : List ℕ) (at n : ℕ) where
-  pub way-infix : {o : InfixOp} {x y : Flat} {c d f : List ℕ} {r1 r2 r : Cut} {l : Term} {q : Written} → e ≡ Flat.infixed o x y → Leaves b c at (treeCut New k s x n) r1 → Leaves c d (r1 .at) (treeCut New k s y (r1 .next)) r2 → l ≡ orVariable (targetOf target) (r2 .next) → q ≡ equalityOf l (infixOp o (r1 .term) (r2 .term)) → (f ≡ setWords d (r2 .at) (writtenWords q)) × (r ≡ record { term = q .left; next = r2 .next + 1; at = r2 .at + 7 }) → Leaves b f at (treeCut target k s e n) r
+  pub way-infix : {o : InfixOp} {x y : Flat} {c d f : List ℕ} {r1 r2 r : Cut} {l : Term} {q : Written} → e ≡ Flat.infixed o x y → Leaves b c at (treeCut New k s x n) r1 → Leaves c d (r1 .at) (treeCut New k s y (r1 .next)) r2 → l ≡ orVariable (targetOf target) (r2 .next) → q ≡ equalityOf l (infixOp o (r1 .term) (r2 .term)) → (f ≡ setWords d (r2 .at) (writtenWords q)) × (r ≡ record { term = q .left; next = r2 .next + 1; at = r2 .at + EQUALITY-WORDS }) → Leaves b f at (treeCut target k s e n) r
   way-infix {o} {x} {y} {c} {d} {f} {r1} {r2} {r} p l1 l2 lt qt w =
       let X : Cutting = treeCut New k s x n in
       let Y : Cutting = treeCut New k s y (r1 .next) in
@@ -120,7 +120,7 @@ module _ (target : Target) (k : ℕ) (s : Substitutions) (e : Flat) (b : List �
       let g = pushed b at (r2 .next) (targetOf target) (X .equalities ++ Y .equalities) (infixOp o (r1 .term) (r2 .term)) lt qt body place (w .0) in
       rw z (g .0, w .1 ∙ g .1)
 
-  pub way-negate : {x : Flat} {c f : List ℕ} {r1 r : Cut} {l : Term} {q : Written} → e ≡ Flat.negate x → Leaves b c at (treeCut New k s x n) r1 → l ≡ orVariable (targetOf target) (r1 .next) → q ≡ equalityOf l (Side.negate (r1 .term)) → (f ≡ setWords c (r1 .at) (writtenWords q)) × (r ≡ record { term = q .left; next = r1 .next + 1; at = r1 .at + 7 }) → Leaves b f at (treeCut target k s e n) r
+  pub way-negate : {x : Flat} {c f : List ℕ} {r1 r : Cut} {l : Term} {q : Written} → e ≡ Flat.negate x → Leaves b c at (treeCut New k s x n) r1 → l ≡ orVariable (targetOf target) (r1 .next) → q ≡ equalityOf l (Side.negate (r1 .term)) → (f ≡ setWords c (r1 .at) (writtenWords q)) × (r ≡ record { term = q .left; next = r1 .next + 1; at = r1 .at + EQUALITY-WORDS }) → Leaves b f at (treeCut target k s e n) r
   way-negate {x} {c} {f} {r1} {r} p l1 lt qt w =
       let X : Cutting = treeCut New k s x n in
       let z : treeCut target k s e n ≡ pushConstraintDef (targetOf target) (X .equalities) (r1 .next) (Side.negate (r1 .term)) = cut-negate target k s n X p refl ∙ rw (its-term at X (l1 .1), its-next at X (l1 .1)) in

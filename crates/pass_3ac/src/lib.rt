@@ -1,10 +1,13 @@
 // flatten_module_to_3ac: definitions and equations cut into equalities of one operation each, written from word `at` of the body on.
 mod simplify;
 
+use constraint::EQUALITY_WORDS;
 use constraint::Equality;
 use constraint::Term;
 use constraint::put_equality;
 use flat::Node;
+use flat::entries::definition_at;
+use flat::entries::equation_at;
 use pass_classify::NEVER;
 use pass_classify::Provers;
 use pass_classify::Usages;
@@ -17,7 +20,6 @@ use pass_copies::substitute;
 use simplify::copy;
 use simplify::infix_op;
 use simplify::negate;
-use words::word_at;
 ghost use mathlib.Core.Path.{_≡_};
 ghost use mathlib.Core.List.{[], _∷_};
 ghost use Prim.Native.Nat.{_+_, _*_, _≤_, _<_};
@@ -26,11 +28,11 @@ ghost use Rattle.words.specs.Words.{setWords};
 ghost use Rattle.flat.specs.Trees.{treeNodes, definitionsNodes, equationsNodes};
 ghost use Rattle.flat.specs.Record.{tree, moduleOf, definitions as definitionCount, definitionsAt, equations as equationCount, equationsAt, nodesAt};
 ghost use Rattle.flat.specs.Readable.{Readable, Inside};
-ghost use Rattle.constraint.specs.Record.{writtenWords};
-ghost use Rattle.pass_trees.specs.Passes.{copyPropagateExpr, orVariable, copied, cutsOf, both, flattenSides};
+ghost use Rattle.constraint.specs.Record.{EQUALITY-WORDS, writtenWords};
+ghost use Rattle.pass_trees.specs.Passes.{counted, copyPropagateExpr, orVariable, copied, cutsOf, both, flattenSides};
 ghost use Rattle.pass_classify.specs.Arrays.{Classified};
-ghost use Rattle.pass_copies.specs.Substituted.{substOf, SUBSTITUTION-WORDS};
-ghost use Rattle.pass_3ac.specs.Cutting.{DRAWN, targetOf, treeCut, CutPut, Room, CutsPut, DefsPut, defsCut, defsAfter, equationsCut, sidesOf};
+ghost use Rattle.pass_copies.specs.Substituted.{substOf, putDefinitions, SUBSTITUTION-WORDS};
+ghost use Rattle.pass_3ac.specs.Cutting.{DRAWN, targetOf, treeCut, CutPut, Room, putEqualities, placeFrom, CutsPut, DefsPut, recordDefs, equationsCut, recordEquations, sidesOf};
 ghost use Rattle.records.specs.FlatRecord.{IDS};
 
 // The left side of what is cut: a new variable, or the term that is given.
@@ -57,21 +59,21 @@ fn left_term(target: Target, next: u32) -> Term
 
 // An equality of an operation: an id is drawn, also where the left side is given.
 fn push_constraint_def(body: &mut [u8], at: usize, next: u32, equality: Equality) -> Cut
-    requires { ⌜ (4 * at + 28 ≤ length (now body)) × (next < DRAWN) ⌝ }
-    ensures { λ r. ⌜ (now (body .exit) ≡ setWords (now (body .entry)) at (writtenWords equality)) × (r ≡ record { term = equality .left; next = next + 1; at = at + 7 }) ⌝ }
+    requires { ⌜ (4 * (at + EQUALITY-WORDS) ≤ length (now body)) × (next < DRAWN) ⌝ }
+    ensures { λ r. ⌜ (now (body .exit) ≡ setWords (now (body .entry)) at (writtenWords equality)) × (r ≡ record { term = equality .left; next = next + 1; at = at + EQUALITY-WORDS }) ⌝ }
 {
     let term = equality.left;
     put_equality(body, at, equality);
     Cut {
         term,
         next: next + 1,
-        at: at + 7,
+        at: at + EQUALITY_WORDS,
     }
 }
 
 // A term draws no id: it stands for itself, or is copied to the left side that is given.
 fn place_term(body: &mut [u8], at: usize, next: u32, target: Target, term: Term) -> Cut
-    requires { ⌜ 4 * at + 28 ≤ length (now body) ⌝ }
+    requires { ⌜ 4 * (at + EQUALITY-WORDS) ≤ length (now body) ⌝ }
     ensures { λ r. ⌜ CutPut (now (body .entry)) (now (body .exit)) at (copied (targetOf target) term next) r ⌝ }
 {
     let Target::Given(left) = target else {
@@ -81,7 +83,7 @@ fn place_term(body: &mut [u8], at: usize, next: u32, target: Target, term: Term)
     Cut {
         term: left,
         next,
-        at: at + 7,
+        at: at + EQUALITY_WORDS,
     }
 }
 
@@ -143,7 +145,7 @@ fn flatten_def_to_3ac(
     next: u32,
 ) -> Place
     requires { ⌜ Inside (now s) nodes k × Classified (now s) (now usage) (now provers) × (id < IDS) × (length (now subs) ≡ SUBSTITUTION-WORDS) × Room (treeNodes (tree (now s) nodes (k + 1) k)) at next (now body) ⌝ }
-    ensures { λ r. ⌜ DefsPut (now (body .entry)) (now (body .exit)) at (defsCut (now (s .entry)) steps (substOf (now (subs .entry))) (record { id = id; right = tree (now (s .entry)) nodes (k + 1) k } ∷ []) next) r (now (subs .exit)) (defsAfter (now (s .entry)) steps (substOf (now (subs .entry))) (record { id = id; right = tree (now (s .entry)) nodes (k + 1) k } ∷ [])) ⌝ }
+    ensures { λ r. ⌜ DefsPut (now (s .entry)) steps (record { id = id; right = tree (now (s .entry)) nodes (k + 1) k } ∷ []) (now (subs .entry)) (now (subs .exit)) (now (body .entry)) (now (body .exit)) at next r ⌝ }
 {
     let i = id as usize;
     if usage[i] == NEVER {
@@ -177,15 +179,28 @@ pub fn flatten_defs(
 ) -> Place
     requires { ⌜ Readable (now s) × Classified (now s) (now usage) (now provers) × (definitions ≡ definitionsAt (now s)) × (n ≡ definitionCount (now s)) × (nodes ≡ nodesAt (now s)) ⌝ }
     requires { ⌜ (length (now subs) ≡ SUBSTITUTION-WORDS) × Room (definitionsNodes (moduleOf (now s) .definitions)) at next (now body) ⌝ }
-    ensures { λ r. ⌜ DefsPut (now (body .entry)) (now (body .exit)) at (defsCut (now (s .entry)) steps (substOf (now (subs .entry))) (moduleOf (now (s .entry)) .definitions) next) r (now (subs .exit)) (defsAfter (now (s .entry)) steps (substOf (now (subs .entry))) (moduleOf (now (s .entry)) .definitions)) ⌝ }
+    ensures { λ _. ⌜ now (body .exit) ≡ putEqualities (now (body .entry)) at (recordDefs (now (s .entry)) steps (now (subs .entry)) next .equalities) ⌝ }
+    ensures { λ r. ⌜ r ≡ placeFrom at (recordDefs (now (s .entry)) steps (now (subs .entry)) next) ⌝ }
+    ensures { λ _. ⌜ now (subs .exit) ≡ putDefinitions steps (now (subs .entry)) (counted (moduleOf (now (s .entry)))) ⌝ }
 {
     let mut to = at;
     let mut id = next;
     let mut k = 0usize;
     while k < n {
-        let v = word_at(s, definitions + 2 * k);
-        let node = word_at(s, definitions + 2 * k + 1) as usize;
-        let p = flatten_def_to_3ac(s, nodes, v, node, usage, provers, subs, steps, body, to, id);
+        let d = definition_at(s, definitions, k);
+        let p = flatten_def_to_3ac(
+            s,
+            nodes,
+            d.id,
+            d.node,
+            usage,
+            provers,
+            subs,
+            steps,
+            body,
+            to,
+            id,
+        );
         to = p.at;
         id = p.next;
         k += 1;
@@ -313,15 +328,15 @@ pub fn flatten_equations(
     next: u32,
 ) -> Place
     requires { ⌜ Readable (now s) × (equations ≡ equationsAt (now s)) × (n ≡ equationCount (now s)) × (nodes ≡ nodesAt (now s)) × Room (equationsNodes (moduleOf (now s) .equations)) at next (now body) ⌝ }
-    ensures { λ r. ⌜ CutsPut (now (body .entry)) (now (body .exit)) at (equationsCut steps (substOf (now (subs .entry))) (moduleOf (now (s .entry)) .equations) next) r ⌝ }
+    ensures { λ _. ⌜ now (body .exit) ≡ putEqualities (now (body .entry)) at (recordEquations (now (s .entry)) steps (now (subs .entry)) next .equalities) ⌝ }
+    ensures { λ r. ⌜ r ≡ placeFrom at (recordEquations (now (s .entry)) steps (now (subs .entry)) next) ⌝ }
 {
     let mut to = at;
     let mut id = next;
     let mut k = 0usize;
     while k < n {
-        let left = word_at(s, equations + 2 * k) as usize;
-        let right = word_at(s, equations + 2 * k + 1) as usize;
-        let p = flatten_equation(s, nodes, left, right, subs, steps, body, to, id);
+        let e = equation_at(s, equations, k);
+        let p = flatten_equation(s, nodes, e.left, e.right, subs, steps, body, to, id);
         to = p.at;
         id = p.next;
         k += 1;

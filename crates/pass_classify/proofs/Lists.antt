@@ -1,15 +1,17 @@
 -- Loops over the lists of a readable record: what is left of a list from an index on, and what the code knows at each index. Assumes nothing.
-use Prim.Native.Nat.{ℕ, suc, _+_, _-_, _*_, _≤_, _<_}
+use Prim.Native.Nat.{ℕ, suc, _+_, _-_, _≤_, _<_}
 use mathlib.Core.Path.{_≡_, sym, ap, _∙_}
 use mathlib.Core.List.{List, [], _∷_}
 use native.Mathlib.Numerals.{add-one}
 use native.Mathlib.Omega.{arith}
-use Rattle.words.specs.Words.{wordAt}
 use Rattle.flat.specs.declared.Layout.{Layout}
+use Rattle.flat.specs.declared.entries.DefinitionEntry.{DefinitionEntry}
+use Rattle.flat.specs.declared.entries.EquationEntry.{EquationEntry}
 use Rattle.flat.specs.Trees.{Definition, Equation}
-use Rattle.flat.specs.Record.{rows, next, provers, definitions, equations, nodes, proversAt, definitionsAt, equationsAt, nodesAt, layoutOf, tree, definitionAt, equationAt, moduleOf}
+use Rattle.flat.specs.Record.{rows, next, provers, definitions, equations, nodes, proversAt, definitionsAt, equationsAt, nodesAt, layoutOf, tree, proverAt, definitionEntry, equationEntry, definitionAt, equationAt, moduleOf}
 use Rattle.flat.specs.Readable.{Readable, Inside}
 use Rattle.flat.proofs.Nodes.{settled}
+use Rattle.flat.proofs.Parts.{id-is, node-is, left-is, right-is}
 use Rattle.flat.proofs.Reading.{prover-below, definition-below, equation-below}
 
 -- ---- rows from an index on
@@ -29,7 +31,7 @@ rows-whole n f = let e : n ≡ n - 0 = omega arith in ap (λ (m : ℕ). rows m 0
 -- the prover ids, definitions and equations from index k on
 module _ (b : List ℕ) (k : ℕ) where
   unfoldable pub proversFrom : List ℕ
-  proversFrom = rows (provers b - k) k (λ j. wordAt b (proversAt b + j))
+  proversFrom = rows (provers b - k) k (proverAt b (proversAt b))
 
   unfoldable pub definitionsFrom : List Definition
   definitionsFrom = rows (definitions b - k) k (definitionAt b (definitionsAt b) (nodesAt b) (nodes b))
@@ -114,44 +116,59 @@ layout-next b e = ap (λ (x : Layout). x .next) e
 
 -- ---- what stands at an index
 
-module _ {b : List ℕ} {n p k id : ℕ} (r : Readable b) (o : OverProvers b n p k) (h : k < n) (e : id ≡ wordAt b (p + k)) where
+module _ {b : List ℕ} {n p k id : ℕ} (r : Readable b) (o : OverProvers b n p k) (h : k < n) (read : id ≡ proverAt b p k) where
+  prover-is : id ≡ proverAt b (proversAt b) k
+  prover-is = read ∙ rw (o .place)
+
   pub prover-small : id < 65536
-  prover-small = let w : wordAt b (proversAt b + k) < next b = prover-below r k (omega arith) in let q : wordAt b (p + k) ≡ wordAt b (proversAt b + k) = rw (o .place) in omega arith
+  prover-small = omega (arith, prover-is, prover-below r k (omega arith))
 
   pub provers-more : proversFrom b k ≡ id ∷ proversFrom b (k + 1)
   unfolding proversFrom
-  provers-more = rows-more (provers b) k _ (omega arith) ∙ ap (λ (x : ℕ). x ∷ proversFrom b (k + 1)) (sym (e ∙ rw (o .place)))
+  provers-more = rows-more (provers b) k _ (omega arith) ∙ ap (λ (x : ℕ). x ∷ proversFrom b (k + 1)) (sym prover-is)
 
-module _ {b : List ℕ} {n d at k id node : ℕ} (r : Readable b) (o : OverDefinitions b n d at k) (h : k < n) (p : id ≡ wordAt b (d + 2 * k)) (q : node ≡ wordAt b (d + 2 * k + 1)) where
-  id-is : id ≡ wordAt b (definitionsAt b + 2 * k)
-  id-is = p ∙ rw (o .place)
+-- a definition that was read
+module _ {b : List ℕ} {n d at k : ℕ} {entry : DefinitionEntry} (r : Readable b) (o : OverDefinitions b n d at k) (h : k < n)
+    (read : entry ≡ definitionEntry b d k) where
+  entry-id : entry .id ≡ definitionEntry b (definitionsAt b) k .id
+  entry-id = id-is read ∙ rw (o .place)
 
-  node-is : node ≡ wordAt b (definitionsAt b + 2 * k + 1)
-  node-is = q ∙ rw (o .place)
+  entry-node : entry .node ≡ definitionEntry b (definitionsAt b) k .node
+  entry-node = node-is read ∙ rw (o .place)
 
-  pub definition-small : id < 65536
-  definition-small = omega (arith, id-is, definition-below r k (omega arith) .0)
+  pub definition-small : entry .id < 65536
+  definition-small = omega (arith, entry-id, definition-below r k (omega arith) .0)
 
-  pub definition-inside : Inside b at node
-  definition-inside = record { readable = r; place = o .trees; below = omega (arith, node-is, definition-below r k (omega arith) .1) }
+  pub definition-inside : Inside b at (entry .node)
+  definition-inside = record { readable = r; place = o .trees; below = omega (arith, entry-node, definition-below r k (omega arith) .1) }
 
-  pub definitions-more : definitionsFrom b k ≡ record { id = id; right = tree b at (node + 1) node } ∷ definitionsFrom b (k + 1)
+  pub definitions-more : definitionsFrom b k ≡ record { id = entry .id; right = tree b at (entry .node + 1) (entry .node) } ∷ definitionsFrom b (k + 1)
   unfolding definitionsFrom definitionAt
-  definitions-more = rows-more (definitions b) k _ (omega arith) ∙ rw (← id-is, ← node-is, ← o .trees, settled b at (nodes b) node (definition-inside .below))
+  definitions-more =
+      rows-more (definitions b) k _ (omega arith)
+      ∙ rw (← entry-id, ← entry-node, ← o .trees, settled b at (nodes b) (entry .node) (definition-inside .below))
 
-module _ {b : List ℕ} {n e at k left right : ℕ} (r : Readable b) (o : OverEquations b n e at k) (h : k < n) (p : left ≡ wordAt b (e + 2 * k)) (q : right ≡ wordAt b (e + 2 * k + 1)) where
-  left-is : left ≡ wordAt b (equationsAt b + 2 * k)
-  left-is = p ∙ rw (o .place)
+-- an equation that was read
+module _ {b : List ℕ} {n e at k : ℕ} {entry : EquationEntry} (r : Readable b) (o : OverEquations b n e at k) (h : k < n)
+    (read : entry ≡ equationEntry b e k) where
+  entry-left : entry .left ≡ equationEntry b (equationsAt b) k .left
+  entry-left = left-is read ∙ rw (o .place)
 
-  right-is : right ≡ wordAt b (equationsAt b + 2 * k + 1)
-  right-is = q ∙ rw (o .place)
+  entry-right : entry .right ≡ equationEntry b (equationsAt b) k .right
+  entry-right = right-is read ∙ rw (o .place)
 
-  pub left-side : Inside b at left
-  left-side = record { readable = r; place = o .trees; below = omega (arith, left-is, equation-below r k (omega arith) .0) }
+  pub left-side : Inside b at (entry .left)
+  left-side = record { readable = r; place = o .trees; below = omega (arith, entry-left, equation-below r k (omega arith) .0) }
 
-  pub right-side : Inside b at right
-  right-side = record { readable = r; place = o .trees; below = omega (arith, right-is, equation-below r k (omega arith) .1) }
+  pub right-side : Inside b at (entry .right)
+  right-side = record { readable = r; place = o .trees; below = omega (arith, entry-right, equation-below r k (omega arith) .1) }
 
-  pub equations-more : equationsFrom b k ≡ record { left = tree b at (left + 1) left; right = tree b at (right + 1) right } ∷ equationsFrom b (k + 1)
+  abbrev pub equation-read : Equation
+  equation-read = record { left = tree b at (entry .left + 1) (entry .left); right = tree b at (entry .right + 1) (entry .right) }
+
+  pub equations-more : equationsFrom b k ≡ equation-read ∷ equationsFrom b (k + 1)
   unfolding equationsFrom equationAt
-  equations-more = rows-more (equations b) k _ (omega arith) ∙ rw (← left-is, ← right-is, ← o .trees, settled b at (nodes b) left (left-side .below), settled b at (nodes b) right (right-side .below))
+  equations-more =
+      let left-settled = settled b at (nodes b) (entry .left) (left-side .below) in
+      let right-settled = settled b at (nodes b) (entry .right) (right-side .below) in
+      rows-more (equations b) k _ (omega arith) ∙ rw (← entry-left, ← entry-right, ← o .trees, left-settled, right-settled)

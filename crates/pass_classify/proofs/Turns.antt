@@ -1,22 +1,23 @@
 -- The turns and the ends of the loops. Assumes nothing.
-use Prim.Native.Nat.{ℕ, zero, suc, _+_, _-_, _*_, _≤_, _<_}
+use Prim.Native.Nat.{ℕ, zero, suc, _+_, _-_, _≤_, _<_}
 use mathlib.Core.Path.{_≡_, refl, sym, ap, _∙_, fun-ext}
 use mathlib.Core.List.{List, _∷_}
 use mathlib.Core.Bool.{Bool, true, false, not, _&&_, _||_, or-false}
 use mathlib.Core.Logic.{⊎-elim}
 use native.Mathlib.Omega.{arith}
-use lib.ListN.{length, getD, set}
+use lib.ListN.{getD, set}
 use lib.Dec.{eqb, ltb}
 use borrow.Author.Tests.{eq-eqb, ne-eqb, lt-ltb, le-ltb}
-use Rattle.words.specs.Words.{wordAt}
+use Rattle.flat.specs.declared.entries.DefinitionEntry.{DefinitionEntry}
+use Rattle.flat.specs.declared.entries.EquationEntry.{EquationEntry}
 use Rattle.flat.specs.Meaning.{update}
 use Rattle.flat.specs.Trees.{Flat, Definition, Equation}
-use Rattle.flat.specs.Record.{provers, definitions, equations, tree, moduleOf}
+use Rattle.flat.specs.Record.{provers, definitions, equations, tree, proverAt, definitionEntry, equationEntry, moduleOf}
 use Rattle.flat.specs.Readable.{Readable}
 use Rattle.flat.proofs.Laws.{split, alike}
-use Rattle.pass_trees.specs.Passes.{member, keepIf, those, Usage, isNever, isWitness, markUsed, usedIn, override, classifyDef, classified, usage, classifyDefs, cuttableExpr, cuttableDefs, cuttableEquations, counted}
-use Rattle.pass_classify.specs.Arrays.{usageAt, usageOf, marked, Uses, Marks, Classified}
-use Rattle.pass_classify.proofs.Arrays.{marked-set}
+use Rattle.pass_trees.specs.Passes.{member, keepIf, those, Usage, isNever, isWitness, markUsed, usedIn, override, classifyDef, classified, classifyDefs, cuttableExpr, cuttableDefs, cuttableEquations, counted}
+use Rattle.pass_classify.specs.Arrays.{usageAt, codeOf, usageOf, marked, Codes, Uses, Marks, proversOf, usedOf, countedOf, Classified}
+use Rattle.pass_classify.proofs.Arrays.{at-code, marked-set}
 use Rattle.pass_classify.proofs.Lists.{over-from-last, proversFrom, definitionsFrom, equationsFrom, provers-none, definitions-none, equations-none, provers-whole, definitions-whole, equations-whole, OverProvers, OverDefinitions, OverEquations, prover-small, provers-more, definitions-more, equations-more}
 
 -- ---- the equations are marked
@@ -28,16 +29,19 @@ UsedFrom b m₀ m k = usedIn (equationsFrom b k) (usageOf m) ≡ usedIn (moduleO
 pub used-start : (b m : List ℕ) → UsedFrom b m m 0
 used-start b m = ap (λ (es : List Equation). usedIn es (usageOf m)) (sym (equations-whole b))
 
-pub used-turn : {b : List ℕ} {n e at k left right : ℕ} (m₀ m : List ℕ) {m′ m″ : List ℕ} → Readable b → OverEquations b n e at k → k < n → left ≡ wordAt b (e + 2 * k) → right ≡ wordAt b (e + 2 * k + 1) → UsedFrom b m₀ m k → Uses m′ (markUsed (usageAt 2) (tree b at (left + 1) left) (usageOf m)) → Uses m″ (markUsed (usageAt 2) (tree b at (right + 1) right) (usageOf m′)) → UsedFrom b m₀ m″ (k + 1)
+pub used-turn : {b : List ℕ} {n e at k : ℕ} {entry : EquationEntry} (m₀ m : List ℕ) {m′ m″ : List ℕ} → Readable b → OverEquations b n e at k →
+    k < n → entry ≡ equationEntry b e k → UsedFrom b m₀ m k → Uses m′ (markUsed (usageAt 2) (tree b at (entry .left + 1) (entry .left)) (usageOf m)) →
+    Uses m″ (markUsed (usageAt 2) (tree b at (entry .right + 1) (entry .right)) (usageOf m′)) → UsedFrom b m₀ m″ (k + 1)
 unfolding usedIn usageAt
-used-turn {b} {at = at} {k = k} {right = right} m₀ m r o h p q i x y =
-    ap (usedIn (equationsFrom b (k + 1))) (y .says ∙ ap (markUsed (usageAt 2) (tree b at (right + 1) right)) (x .says))
-    ∙ sym (ap (λ (es : List Equation). usedIn es (usageOf m)) (equations-more r o h p q))
+used-turn {b} {at = at} {k = k} {entry = entry} m₀ m r o h read i x y =
+    ap (usedIn (equationsFrom b (k + 1))) (y .says ∙ ap (markUsed (usageAt 2) (tree b at (entry .right + 1) (entry .right))) (x .says))
+    ∙ sym (ap (λ (es : List Equation). usedIn es (usageOf m)) (equations-more r o h read))
     ∙ i
 
-pub used-end : {b : List ℕ} {n e at k : ℕ} (m₀ m : List ℕ) → OverEquations b n e at k → n ≤ k → UsedFrom b m₀ m k → length m ≡ 65536 → Uses m (usedIn (moduleOf b .equations) (usageOf m₀))
+pub used-end : {b : List ℕ} {n e at k : ℕ} (m₀ m : List ℕ) → OverEquations b n e at k → n ≤ k → UsedFrom b m₀ m k → Codes 2 m →
+    Uses m (usedIn (moduleOf b .equations) (usageOf m₀))
 unfolding usedIn
-used-end {b} {k = k} m₀ m o h i l = record { says = sym (ap (λ (es : List Equation). usedIn es (usageOf m)) (equations-none b k (omega arith))) ∙ i; long = l }
+used-end {b} {k = k} m₀ m o h i l = record { says = sym (ap (λ (es : List Equation). usedIn es (usageOf m)) (equations-none b k (omega arith))) ∙ i; codes = l }
 
 -- ---- the definitions are marked, the last first
 
@@ -52,23 +56,34 @@ classify-def : (ps : List ℕ) (f : ℕ → Usage) (id : ℕ) (right : Flat) (u 
 unfolding classifyDef
 classify-def ps f id right u e = ap (λ (x : Usage). markUsed x right (update f id x)) e
 
-pub classified-turn : {b : List ℕ} {n d at done id node : ℕ} (u : ℕ) (p m₀ m : List ℕ) {m′ m″ : List ℕ} → Readable b → OverDefinitions b n d at done → done < n → id ≡ wordAt b (d + 2 * (n - (done + 1))) → node ≡ wordAt b (d + 2 * (n - (done + 1)) + 1) → marked p ≡ (λ v. member v (moduleOf b .provers)) → ClassifiedFrom b m₀ m (n - done) → (usageAt u ≡ override (marked p id) (usageOf m id)) × Uses m′ (update (usageOf m) id (usageAt u)) → Uses m″ (markUsed (usageAt u) (tree b at (node + 1) node) (usageOf m′)) → ClassifiedFrom b m₀ m″ (n - (done + 1))
+pub classified-turn : {b : List ℕ} {n d at done : ℕ} {entry : DefinitionEntry} (u : ℕ) (p m₀ m : List ℕ) {m′ m″ : List ℕ} → Readable b →
+    OverDefinitions b n d at done → done < n → entry ≡ definitionEntry b d (n - (done + 1)) →
+    marked p ≡ (λ v. member v (moduleOf b .provers)) → ClassifiedFrom b m₀ m (n - done) →
+    (u ≡ codeOf (override (marked p (entry .id)) (usageOf m (entry .id)))) × Uses m′ (update (usageOf m) (entry .id) (usageAt u)) →
+    Uses m″ (markUsed (usageAt u) (tree b at (entry .node + 1) (entry .node)) (usageOf m′)) → ClassifiedFrom b m₀ m″ (n - (done + 1))
 unfolding classified
-classified-turn {b} {n} {d} {at} {done} {id} {node} u p m₀ m r o h e q g i x y =
+classified-turn {b} {n} {d} {at} {done} {entry} u p m₀ m r o h read g i x y =
     let s : n - (done + 1) + 1 ≡ n - done = omega arith in
+    let id : ℕ = entry .id in
     let ps : List ℕ = moduleOf b .provers in
     let f : ℕ → Usage = classified ps (definitionsFrom b (n - done)) (usageOf m₀) in
-    let t : Flat = tree b at (node + 1) node in
-    let a : usageAt u ≡ override (member id ps) (f id) = x .0 ∙ ap (λ (c : Bool). override c (usageOf m id)) (ap (λ (c : ℕ → Bool). c id) g) ∙ ap (λ (c : ℕ → Usage). override (member id ps) (c id)) i in
+    let t : Flat = tree b at (entry .node + 1) (entry .node) in
+    let a : usageAt u ≡ override (member id ps) (f id) = ap usageAt (x .0) ∙ at-code _
+    ∙ ap (λ (c : Bool). override c (usageOf m id)) (ap (λ (c : ℕ → Bool). c id) g) ∙ ap (λ (c : ℕ → Usage). override (member id ps) (c id)) i in
     y .says
     ∙ ap (markUsed (usageAt u) t) (x .1 .says ∙ ap (λ (c : ℕ → Usage). update c id (usageAt u)) i)
     ∙ classify-def ps f id t (usageAt u) a
-    ∙ sym (ap (λ (ds : List Definition). classified ps ds (usageOf m₀)) (rw s at (definitions-more r (over-from-last o h) (omega arith) e q)))
+    ∙ sym (ap (λ (ds : List Definition). classified ps ds (usageOf m₀)) (rw s at (definitions-more r (over-from-last o h) (omega arith) read)))
 
-pub classified-end : {b : List ℕ} {n d at done : ℕ} (m₀ m : List ℕ) → OverDefinitions b n d at done → n ≤ done → ClassifiedFrom b m₀ m (n - done) → length m ≡ 65536 → Uses m (classified (moduleOf b .provers) (moduleOf b .definitions) (usageOf m₀))
+pub classified-end : {b : List ℕ} {n d at done : ℕ} (m₀ m : List ℕ) → OverDefinitions b n d at done → n ≤ done → ClassifiedFrom b m₀ m (n - done) →
+    Codes 2 m → Uses m (classified (moduleOf b .provers) (moduleOf b .definitions) (usageOf m₀))
 classified-end {b} {n} {done = done} m₀ m o h i l =
     let z : n - done ≡ 0 = omega arith in
-    record { says = i ∙ ap (λ (ds : List Definition). classified (moduleOf b .provers) ds (usageOf m₀)) (ap (definitionsFrom b) z ∙ sym (definitions-whole b)); long = l }
+    record {
+      says = i ∙ ap (λ (ds : List Definition). classified (moduleOf b .provers) ds (usageOf m₀))
+          (ap (definitionsFrom b) z ∙ sym (definitions-whole b));
+      codes = l;
+    }
 
 -- ---- the prover ids are marked
 
@@ -83,7 +98,8 @@ MarkedFrom b m₀ m k = (v : ℕ) → (marked m v || member v (proversFrom b k))
 pub marked-start : (b m : List ℕ) → MarkedFrom b m m 0
 marked-start b m v = ap (λ (ws : List ℕ). marked m v || member v ws) (sym (provers-whole b))
 
-pub marked-turn : {b : List ℕ} {n p k id : ℕ} (m₀ m : List ℕ) → Readable b → OverProvers b n p k → k < n → id ≡ wordAt b (p + k) → length m ≡ 65536 → MarkedFrom b m₀ m k → MarkedFrom b m₀ (set m id 1) (k + 1)
+pub marked-turn : {b : List ℕ} {n p k id : ℕ} (m₀ m : List ℕ) → Readable b → OverProvers b n p k → k < n → id ≡ proverAt b p k → Codes 1 m →
+    MarkedFrom b m₀ m k → MarkedFrom b m₀ (set m id 1) (k + 1)
 unfolding member
 marked-turn {b} {k = k} {id = id} m₀ m r o h e l i v =
     ap (λ (c : Bool). c || member v (proversFrom b (k + 1))) (marked-set m id (omega (arith, prover-small r o h e)) v)
@@ -91,11 +107,12 @@ marked-turn {b} {k = k} {id = id} m₀ m r o h e l i v =
     ∙ sym (ap (λ (ws : List ℕ). marked m v || member v ws) (provers-more r o h e))
     ∙ i v
 
-pub marked-end : {b : List ℕ} {n p k : ℕ} (m₀ m : List ℕ) → OverProvers b n p k → n ≤ k → MarkedFrom b m₀ m k → length m ≡ 65536 → Marks m (λ v. marked m₀ v || member v (moduleOf b .provers))
+pub marked-end : {b : List ℕ} {n p k : ℕ} (m₀ m : List ℕ) → OverProvers b n p k → n ≤ k → MarkedFrom b m₀ m k → Codes 1 m →
+    Marks m (λ v. marked m₀ v || member v (moduleOf b .provers))
 unfolding member
 marked-end {b} {k = k} m₀ m o h i l = record {
   says = fun-ext (λ v. sym (ap (λ (ws : List ℕ). marked m v || member v ws) (provers-none b k (omega arith)) ∙ or-false (marked m v)) ∙ i v);
-  long = l;
+  codes = l;
 }
 
 -- ---- the witnesses are marked
@@ -131,8 +148,8 @@ witnesses-turn u m₀ m n i h w =
     ∙ either (marked m₀ w) (ltb w n) (eqb w n) (isWitness (usageOf u w))
     ∙ ap (λ (c : Bool). marked m₀ w || (c && isWitness (usageOf u w))) (sym (below-next w n))
 
-pub witnesses-end : (u m₀ m : List ℕ) (n k : ℕ) → k ≡ n → WitnessesTo u m₀ m k → length m ≡ 65536 → Marks m (λ w. marked m₀ w || (ltb w n && isWitness (usageOf u w)))
-witnesses-end u m₀ m n k e i l = record { says = rw e at (fun-ext i); long = l }
+pub witnesses-end : (u m₀ m : List ℕ) (n k : ℕ) → k ≡ n → WitnessesTo u m₀ m k → Codes 1 m → Marks m (λ w. marked m₀ w || (ltb w n && isWitness (usageOf u w)))
+witnesses-end u m₀ m n k e i l = record { says = rw e at (fun-ext i); codes = l }
 
 -- ---- no `^` and no inner `=`
 
@@ -142,19 +159,20 @@ CuttableFrom b k = cuttableEquations (equationsFrom b k) ≡ cuttableEquations (
 pub cuttable-start : (b : List ℕ) → CuttableFrom b 0
 cuttable-start b = ap cuttableEquations (sym (equations-whole b))
 
-module _ {b : List ℕ} {n e at k left right : ℕ} {x : Bool} (r : Readable b) (o : OverEquations b n e at k) (h : k < n) (p : left ≡ wordAt b (e + 2 * k)) (q : right ≡ wordAt b (e + 2 * k + 1)) (i : CuttableFrom b k) (f : x ≡ cuttableExpr (tree b at (left + 1) left)) where
+module _ {b : List ℕ} {n e at k : ℕ} {entry : EquationEntry} {x : Bool} (r : Readable b) (o : OverEquations b n e at k) (h : k < n)
+    (read : entry ≡ equationEntry b e k) (i : CuttableFrom b k) (f : x ≡ cuttableExpr (tree b at (entry .left + 1) (entry .left))) where
   pub left-fails : x ≡ false → false ≡ cuttableEquations (moduleOf b .equations)
   unfolding cuttableEquations
-  left-fails z = sym (ap cuttableEquations (equations-more r o h p q) ∙ rw (← f, z)) ∙ i
+  left-fails z = sym (ap cuttableEquations (equations-more r o h read) ∙ rw (← f, z)) ∙ i
 
-  module _ {y : Bool} (t : x ≡ true) (g : y ≡ cuttableExpr (tree b at (right + 1) right)) where
+  module _ {y : Bool} (t : x ≡ true) (g : y ≡ cuttableExpr (tree b at (entry .right + 1) (entry .right))) where
     pub right-fails : y ≡ false → false ≡ cuttableEquations (moduleOf b .equations)
     unfolding cuttableEquations
-    right-fails z = sym (ap cuttableEquations (equations-more r o h p q) ∙ rw (← f, t, ← g, z)) ∙ i
+    right-fails z = sym (ap cuttableEquations (equations-more r o h read) ∙ rw (← f, t, ← g, z)) ∙ i
 
     pub cuttable-turn : y ≡ true → CuttableFrom b (k + 1)
     unfolding cuttableEquations
-    cuttable-turn z = sym (ap cuttableEquations (equations-more r o h p q) ∙ rw (← f, t, ← g, z)) ∙ i
+    cuttable-turn z = sym (ap cuttableEquations (equations-more r o h read) ∙ rw (← f, t, ← g, z)) ∙ i
 
 pub cuttable-end : {b : List ℕ} {n e at k : ℕ} → OverEquations b n e at k → n ≤ k → CuttableFrom b k → true ≡ cuttableEquations (moduleOf b .equations)
 unfolding cuttableEquations
@@ -162,15 +180,11 @@ cuttable-end {b} {k = k} o h i = sym (ap cuttableEquations (equations-none b k (
 
 -- ---- of the counted definitions
 
--- those of a list of definitions
-unfoldable pub countedOf : List ℕ → List Definition → List Definition
-countedOf b ds = those (λ v. not (member v (classifyDefs (moduleOf b) .provers))) (those (λ v. not (isNever (usage (moduleOf b) v))) ds)
-
 abbrev pub CountedFrom : List ℕ → ℕ → Type 0
 CountedFrom b k = cuttableDefs (countedOf b (definitionsFrom b k)) ≡ cuttableDefs (counted (moduleOf b))
 
 pub counted-start : (b : List ℕ) → CountedFrom b 0
-unfolding countedOf counted classifyDefs
+unfolding countedOf usedOf proversOf counted classifyDefs
 counted-start b = ap (λ (ds : List Definition). cuttableDefs (countedOf b ds)) (sym (definitions-whole b))
 
 counted-step : (s t : ℕ → Bool) (d : Definition) (ds : List Definition) (a c : Bool) → t (d .id) ≡ not a → s (d .id) ≡ not c → cuttableDefs (those s (those t (d ∷ ds))) ≡ ((a || (c || cuttableExpr (d .right))) && cuttableDefs (those s (those t ds)))
@@ -179,14 +193,17 @@ counted-step s t d ds true c e f = rw e
 counted-step s t d ds false true e f = rw (e, those, f)
 counted-step s t d ds false false e f = rw (e, those, f)
 
-module _ {b : List ℕ} {n d at k id node : ℕ} {u m : List ℕ} {x : Bool} (r : Readable b) (w : Classified b u m) (o : OverDefinitions b n d at k) (h : k < n) (p : id ≡ wordAt b (d + 2 * k)) (q : node ≡ wordAt b (d + 2 * k + 1)) (f : x ≡ (isNever (usageOf u id) || (marked m id || cuttableExpr (tree b at (node + 1) node)))) (i : CountedFrom b k) where
+module _ {b : List ℕ} {n d at k : ℕ} {entry : DefinitionEntry} {u m : List ℕ} {x : Bool} (r : Readable b) (w : Classified b u m)
+    (o : OverDefinitions b n d at k) (h : k < n) (read : entry ≡ definitionEntry b d k)
+    (f : x ≡ (isNever (usageOf u (entry .id)) || (marked m (entry .id) || cuttableExpr (tree b at (entry .node + 1) (entry .node))))) (i : CountedFrom b k) where
   counted-next : (x && cuttableDefs (countedOf b (definitionsFrom b (k + 1)))) ≡ cuttableDefs (counted (moduleOf b))
-  unfolding countedOf
+  unfolding countedOf usedOf proversOf
   counted-next =
-      let e : Definition = record { id = id; right = tree b at (node + 1) node } in
+      let id : ℕ = entry .id in
+      let e : Definition = record { id = id; right = tree b at (entry .node + 1) (entry .node) } in
       ap (λ (c : Bool). c && cuttableDefs (countedOf b (definitionsFrom b (k + 1)))) f
       ∙ sym (counted-step _ _ e (definitionsFrom b (k + 1)) (isNever (usageOf u id)) (marked m id) (ap (λ (c : ℕ → Usage). not (isNever (c id))) (sym (w .used))) (ap (λ (c : ℕ → Bool). not (c id)) (sym (w .proved))))
-      ∙ sym (ap (λ (ds : List Definition). cuttableDefs (countedOf b ds)) (definitions-more r o h p q))
+      ∙ sym (ap (λ (ds : List Definition). cuttableDefs (countedOf b ds)) (definitions-more r o h read))
       ∙ i
 
   pub counted-fails : x ≡ false → false ≡ cuttableDefs (counted (moduleOf b))
@@ -196,7 +213,7 @@ module _ {b : List ℕ} {n d at k id node : ℕ} {u m : List ℕ} {x : Bool} (r 
   counted-turn z = sym (rw z) ∙ counted-next
 
 pub counted-end : {b : List ℕ} {n d at k : ℕ} → OverDefinitions b n d at k → n ≤ k → CountedFrom b k → true ≡ cuttableDefs (counted (moduleOf b))
-unfolding countedOf those cuttableDefs
+unfolding countedOf usedOf those cuttableDefs
 counted-end {b} {k = k} o h i = sym (ap (λ (ds : List Definition). cuttableDefs (countedOf b ds)) (definitions-none b k (omega arith))) ∙ i
 
 -- one definition: it is never used, or its id is the prover's, or it has to be cut

@@ -4,7 +4,6 @@ use mathlib.Core.Path.{_≡_, sym, ap, _∙_}
 use mathlib.Core.List.{List}
 use mathlib.Core.Bool.{Bool, true, false}
 use native.Mathlib.Omega.{arith}
-use lib.ListN.{length}
 use lib.IntN.{ℤ}
 use Rattle.field.specs.declared.InfixOp.{InfixOp}
 use Rattle.flat.specs.declared.Node.the-variants.{Infix, Negate, Constant, Variable}
@@ -14,7 +13,7 @@ use Rattle.flat.specs.Record.{nodeOf, tree, nodes, next}
 use Rattle.flat.specs.Readable.{Inside}
 use Rattle.flat.proofs.Nodes.{infix-below, negate-below, variable-below, tree-infix, tree-negate, tree-constant, tree-variable}
 use Rattle.pass_trees.specs.Passes.{Usage, most, markUsed, cuttable, cuttableExpr}
-use Rattle.pass_classify.specs.Arrays.{usageOf, Uses}
+use Rattle.pass_classify.specs.Arrays.{usageOf, Codes, Uses}
 
 module _ {b : List ℕ} {at k : ℕ} (i : Inside b at k) where
   -- the children are nodes of the record, with smaller indices
@@ -41,20 +40,24 @@ module _ {b : List ℕ} {at k : ℕ} (i : Inside b at k) where
   unfolding markUsed
   used-infix u m {y = y} e p q = record {
     says = q .says ∙ ap (markUsed u (tree b at (y + 1) y)) (p .says) ∙ sym (ap (λ (t : Flat). markUsed u t (usageOf m)) (tree-infix b at k e (left-inside e .0) (right-inside e .0)));
-    long = q .long;
+    codes = q .codes;
   }
 
   pub used-negate : (u : Usage) (m : List ℕ) {x : ℕ} {m′ : List ℕ} → nodeOf b at k ≡ Negate x → Uses m′ (markUsed u (tree b at (x + 1) x) (usageOf m)) → Uses m′ (markUsed u (tree b at (k + 1) k) (usageOf m))
   unfolding markUsed
-  used-negate u m e p = record { says = p .says ∙ sym (ap (λ (t : Flat). markUsed u t (usageOf m)) (tree-negate b at k e (child-inside e .0))); long = p .long }
+  used-negate u m e p = record {
+    says = p .says ∙ sym (ap (λ (t : Flat). markUsed u t (usageOf m)) (tree-negate b at k e (child-inside e .0)));
+    codes =
+        p .codes;
+  }
 
-  pub used-constant : (u : Usage) (m : List ℕ) {c : ℤ} → nodeOf b at k ≡ Constant c → length m ≡ 65536 → Uses m (markUsed u (tree b at (k + 1) k) (usageOf m))
+  pub used-constant : (u : Usage) (m : List ℕ) {c : ℤ} → nodeOf b at k ≡ Constant c → Codes 2 m → Uses m (markUsed u (tree b at (k + 1) k) (usageOf m))
   unfolding markUsed
-  used-constant u m e l = record { says = sym (ap (λ (t : Flat). markUsed u t (usageOf m)) (tree-constant b at k e)); long = l }
+  used-constant u m e l = record { says = sym (ap (λ (t : Flat). markUsed u t (usageOf m)) (tree-constant b at k e)); codes = l }
 
   pub used-variable : (u : Usage) (m : List ℕ) {v : ℕ} {m′ : List ℕ} → nodeOf b at k ≡ Variable v → Uses m′ (update (usageOf m) v (most (usageOf m v) u)) → Uses m′ (markUsed u (tree b at (k + 1) k) (usageOf m))
   unfolding markUsed
-  used-variable u m e p = record { says = p .says ∙ sym (ap (λ (t : Flat). markUsed u t (usageOf m)) (tree-variable b at k e)); long = p .long }
+  used-variable u m e p = record { says = p .says ∙ sym (ap (λ (t : Flat). markUsed u t (usageOf m)) (tree-variable b at k e)); codes = p .codes }
 
   -- its tree has neither `^` nor `=`
   pub cuttable-operator-no : {o : InfixOp} {x y : ℕ} {r : Bool} → nodeOf b at k ≡ Infix o x y → r ≡ cuttable o → r ≡ false → false ≡ cuttableExpr (tree b at (k + 1) k)

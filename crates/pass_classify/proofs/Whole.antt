@@ -5,15 +5,21 @@ use mathlib.Core.List.{List, [], _∷_}
 use mathlib.Core.Bool.{Bool, true, false, not, _&&_, _||_}
 use mathlib.Core.Logic.{⊎-elim}
 use native.Mathlib.Omega.{arith}
+use lib.ListN.{length, getD, List·getD-eq-default}
 use lib.Dec.{eqb, ltb}
 use borrow.Author.Tests.{eq-eqb, ne-eqb, lt-ltb, le-ltb}
-use Rattle.flat.specs.Rules.{All}
-use Rattle.flat.specs.Record.{next, moduleOf}
+use Rattle.flat.specs.Trees.{Flat, Definition, Equation}
+use Rattle.flat.specs.Meaning.{update}
+use Rattle.flat.specs.Rules.{All, Every}
+use Rattle.flat.specs.Record.{rows, pick, next, moduleOf}
 use Rattle.flat.specs.Readable.{Readable}
 use Rattle.flat.proofs.Laws.{split, alike}
-use Rattle.flat.proofs.Wellformed.{readable-provers}
-use Rattle.pass_trees.specs.Passes.{member, keepIf, those, Usage, Never, isNever, isWitness, counted, usedIn, classified, usage, idsFrom, classifyDefs}
-use Rattle.pass_classify.specs.Arrays.{usageOf, marked, Uses, Marks, Clear, Classified}
+use Rattle.flat.proofs.Rows.{length-rows, rows-at}
+use Rattle.flat.proofs.Wellformed.{readable-provers, readable-definitions, readable-equations}
+use Rattle.pass_trees.specs.Passes.{member, keepIf, those, Usage, Never, Constraint, isNever, isWitness, counted, markUsed, override, classifyDef, usedIn, classified, usage, idsFrom, classifyDefs}
+use Rattle.pass_trees.proofs.Lists.{update-other}
+use Rattle.pass_classify.specs.Arrays.{usageAt, codeOf, usageOf, marked, Codes, Uses, Marks, noMarks, proversOf, usagesOf, marksOf, Classified}
+use Rattle.pass_classify.proofs.Arrays.{at-code, code-at, table-is, none-used, none-marked}
 
 -- ---- an id among those that pass a test
 
@@ -84,16 +90,108 @@ usages-whole : (b m : List ℕ) {m′ m″ : List ℕ} → usageOf m ≡ (λ _. 
 unfolding usage
 usages-whole b m c y z = z .says ∙ ap (classified (moduleOf b .provers) (moduleOf b .definitions)) (y .says ∙ ap (usedIn (moduleOf b .equations)) c)
 
-pub classified-whole : {b : List ℕ} (m p : List ℕ) {m′ m″ p′ p″ : List ℕ} {n : ℕ} → Readable b → Clear m p → n ≡ next b → Marks p′ (λ v. marked p v || member v (moduleOf b .provers)) → Uses m′ (usedIn (moduleOf b .equations) (usageOf m)) → Uses m″ (classified (moduleOf b .provers) (moduleOf b .definitions) (usageOf m′)) → Marks p″ (λ w. marked p′ w || (ltb w n && isWitness (usageOf m″ w))) → Classified b m″ p″
-classified-whole {b} m p {n = n} r c e x y z w =
-    let u = usages-whole b m (c .no-usage) y z in
-    let q = provers-marked b p (c .no-prover) x in
-    record {
-      used = u;
-      proved = w .says ∙ fun-ext (λ v. rw (q, u, e) (provers-after r v));
-      usages-long = z .long;
-      provers-long = w .long;
-    }
+-- arrays of codes, by what is read from them
+usages-are : (b m : List ℕ) → Codes 2 m → usageOf m ≡ usage (moduleOf b) → m ≡ usagesOf b
+unfolding usagesOf usageOf
+usages-are b m c e =
+    table-is 65536 m (λ v. codeOf (usage (moduleOf b) v)) (c .long) (λ v l. sym (code-at (getD m v 0) (c .small v)) ∙ ap (λ (f : ℕ → Usage). codeOf (f v)) e)
+
+mark-at : (x : ℕ) → x ≤ 1 → x ≡ pick (not (eqb x 0)) 1 0
+unfolding pick
+mark-at zero l = refl
+mark-at (suc zero) l = refl
+mark-at (suc (suc x)) l = absurd (omega arith)
+
+marks-are : (b p : List ℕ) → Codes 1 p → marked p ≡ (λ v. member v (proversOf b)) → p ≡ marksOf b
+unfolding marksOf marked
+marks-are b p c e =
+    table-is 65536 p (λ v. pick (member v (proversOf b)) 1 0) (c .long) (λ v l. mark-at (getD p v 0) (c .small v) ∙ ap (λ (f : ℕ → Bool). pick (f v) 1 0) e)
+
+pub classified-whole : {b : List ℕ} (m p : List ℕ) {m′ m″ p′ p″ : List ℕ} {n : ℕ} → Readable b → m ≡ noMarks → p ≡ noMarks → n ≡ next b →
+    Marks p′ (λ v. marked p v || member v (moduleOf b .provers)) → Uses m′ (usedIn (moduleOf b .equations) (usageOf m)) →
+    Uses m″ (classified (moduleOf b .provers) (moduleOf b .definitions) (usageOf m′)) →
+    Marks p″ (λ w. marked p′ w || (ltb w n && isWitness (usageOf m″ w))) → (m″ ≡ usagesOf b) × (p″ ≡ marksOf b)
+unfolding proversOf
+classified-whole {b} m p {m″ = m″} {p″ = p″} {n = n} r k o e x y z w =
+    let u = usages-whole b m (ap usageOf k ∙ none-used) y z in
+    let q = provers-marked b p (ap marked o ∙ none-marked) x in
+    (usages-are b m″ (z .codes) u, marks-are b p″ (w .codes) (w .says ∙ fun-ext (λ v. rw (q, u, e) (provers-after r v))))
+
+-- ---- no id from the next one on is used
+
+marks-past : (u : Usage) (e : Flat) (f : ℕ → Usage) (v n : ℕ) → Every (λ w. w < n) e → n ≤ v → markUsed u e f v ≡ f v
+unfolding markUsed
+marks-past u (Flat.infixed o a b) f v n h l = marks-past u b (markUsed u a f) v n (h .1) l ∙ marks-past u a f v n (h .0) l
+marks-past u (Flat.negate a) f v n h l = marks-past u a f v n h l
+marks-past u (Flat.constant c) f v n h l = refl
+marks-past u (Flat.variable w) f v n h l = update-other f w _ v (λ e. omega arith)
+
+equations-past : (es : List Equation) (f : ℕ → Usage) (v n : ℕ) → All (λ e. Every (λ w. w < n) (e .left) × Every (λ w. w < n) (e .right)) es → n ≤ v →
+    usedIn es f v ≡ f v
+unfolding usedIn
+equations-past [] f v n h l = refl
+equations-past (e ∷ es) f v n h l =
+    equations-past es _ v n (h .1) l ∙ marks-past Constraint (e .right) _ v n (h .0 .1) l ∙ marks-past Constraint (e .left) f v n (h .0 .0) l
+
+definitions-past : (ps : List ℕ) (ds : List Definition) (f : ℕ → Usage) (v n : ℕ) → All (λ d. (d .id < n) × Every (λ w. w < n) (d .right)) ds → n ≤ v →
+    classified ps ds f v ≡ f v
+unfolding classified classifyDef
+definitions-past ps [] f v n h l = refl
+definitions-past ps (d ∷ ds) f v n h l =
+    let g : ℕ → Usage = classified ps ds f in
+    let u : Usage = override (member (d .id) ps) (g (d .id)) in
+    marks-past u (d .right) (update g (d .id) u) v n (h .0 .1) l
+    ∙ update-other g (d .id) u v (λ e. omega (arith, h .0 .0))
+    ∙ definitions-past ps ds f v n (h .1) l
+
+pub usage-past : {b : List ℕ} → Readable b → (v : ℕ) → next b ≤ v → usage (moduleOf b) v ≡ Never
+unfolding usage
+usage-past {b} r v l = definitions-past _ (moduleOf b .definitions) _ v (next b) (readable-definitions r) l
+    ∙ equations-past (moduleOf b .equations) _ v (next b) (readable-equations r) l
+
+prover-past : (b : List ℕ) (v : ℕ) → next b ≤ v → member v (classifyDefs (moduleOf b) .provers) ≡ false
+unfolding classifyDefs moduleOf
+prover-past b v l = ids-without _ v 0 (next b) (λ j h m q. omega arith)
+
+-- ---- what is read from the arrays after classify_defs
+
+-- a table of so many numbers, at an index
+table-at : (n : ℕ) (f : ℕ → ℕ) (v : ℕ) → v < n → getD (rows n 0 f) v 0 ≡ f v
+table-at n f v l = rows-at f n 0 v 0 l ∙ (let z : 0 + v ≡ v = omega arith in ap f z)
+
+table-past : (n : ℕ) (f : ℕ → ℕ) (v : ℕ) → n ≤ v → getD (rows n 0 f) v 0 ≡ 0
+table-past n f v l = List·getD-eq-default (rows n 0 f) 0 (omega (arith, length-rows f n 0))
+
+marked-pick : (x : Bool) → not (eqb (pick x 1 0) 0) ≡ x
+unfolding pick
+marked-pick true = refl
+marked-pick false = refl
+
+module _ {b : List ℕ} (r : Readable b) where
+  usages-say : usageOf (usagesOf b) ≡ usage (moduleOf b)
+  unfolding usagesOf usageOf usageAt
+  usages-say = fun-ext (λ v. ⊎-elim
+      (λ (l : v < 65536). ap usageAt (table-at 65536 (λ w. codeOf (usage (moduleOf b) w)) v l) ∙ at-code (usage (moduleOf b) v))
+      (λ (l : 65536 ≤ v). ap usageAt (table-past 65536 (λ w. codeOf (usage (moduleOf b) w)) v l) ∙ sym (usage-past r v (omega (arith, r .next-small))))
+      (split v 65536))
+
+  marks-say : marked (marksOf b) ≡ (λ v. member v (classifyDefs (moduleOf b) .provers))
+  unfolding marksOf marked proversOf
+  marks-say = fun-ext (λ v. ⊎-elim
+      (λ (l : v < 65536). ap (λ (x : ℕ). not (eqb x 0)) (table-at 65536 (λ w. pick (member w (proversOf b)) 1 0) v l) ∙ marked-pick _)
+      (λ (l : 65536 ≤ v). ap (λ (x : ℕ). not (eqb x 0)) (table-past 65536 (λ w. pick (member w (proversOf b)) 1 0) v l)
+      ∙ sym (prover-past b v (omega (arith, r .next-small))))
+      (split v 65536))
+
+  -- what the next passes ask of the arrays
+  pub classified-of : {m p : List ℕ} → m ≡ usagesOf b → p ≡ marksOf b → Classified b m p
+  unfolding usagesOf marksOf
+  classified-of e q = record {
+    used = ap usageOf e ∙ usages-say;
+    proved = ap marked q ∙ marks-say;
+    usages-long = ap length e ∙ length-rows _ 65536 0;
+    provers-long = ap length q ∙ length-rows _ 65536 0;
+  }
 
 -- ---- what the arrays say of the module after classify_defs
 

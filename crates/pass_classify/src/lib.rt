@@ -2,18 +2,19 @@
 // prover ids are marked by 1 in another.
 use field::InfixOp;
 use flat::Node;
+use flat::entries::definition_at;
+use flat::entries::equation_at;
+use flat::entries::prover_at;
 use records::flat_record::ID_COUNT;
-use words::word_at;
 ghost use mathlib.Core.Path.{_≡_};
 ghost use mathlib.Core.Bool.{_&&_, _||_};
 ghost use Prim.Native.Nat.{_+_, _<_, _≤_};
-ghost use lib.ListN.{length};
 ghost use lib.Dec.{eqb, ltb};
 ghost use Rattle.flat.specs.Meaning.{update};
 ghost use Rattle.flat.specs.Record.{tree, moduleOf};
 ghost use Rattle.flat.specs.Readable.{Readable, Inside};
 ghost use Rattle.pass_trees.specs.Passes.{member, most, isNever, isWitness, markUsed, usedIn, override, classified, cuttable, cuttableExpr, cuttableDefs, cuttableEquations, counted};
-ghost use Rattle.pass_classify.specs.Arrays.{usageAt, usageOf, marked, Uses, Marks, noMarks, Clear, Classified};
+ghost use Rattle.pass_classify.specs.Arrays.{usageAt, usageOf, codeOf, marked, Codes, Uses, Marks, noMarks, usagesOf, marksOf, Classified};
 ghost use Rattle.records.specs.FlatRecord.{IDS};
 
 // How an id is used: Usage of the Rust.
@@ -29,7 +30,7 @@ pub type Provers = [u8; ID_COUNT];
 
 // Id v is used at least so.
 fn mark(usage: &mut Usages, v: u32, u: u8)
-    requires { ⌜ (v < IDS) × (length (now usage) ≡ IDS) ⌝ }
+    requires { ⌜ (v < IDS) × (u ≤ 2) × Codes 2 (now usage) ⌝ }
     ensures { λ _. ⌜ Uses (now (usage .exit)) (update (usageOf (now (usage .entry))) v (most (usageOf (now (usage .entry)) v) (usageAt u))) ⌝ }
 {
     let i = v as usize;
@@ -40,7 +41,7 @@ fn mark(usage: &mut Usages, v: u32, u: u8)
 
 // Every variable of node k's tree is used at least so. The node index falls at each call.
 fn mark_used(s: &[u8], at: usize, k: usize, u: u8, usage: &mut Usages)
-    requires { ⌜ Inside (now s) at k × (length (now usage) ≡ IDS) ⌝ }
+    requires { ⌜ Inside (now s) at k × (u ≤ 2) × Codes 2 (now usage) ⌝ }
     ensures { λ _. ⌜ Uses (now (usage .exit)) (markUsed (usageAt u) (tree (now (s .entry)) at (k + 1) k) (usageOf (now (usage .entry)))) ⌝ }
 {
     let node = flat::node_at(s, at, k);
@@ -61,7 +62,7 @@ fn mark_used(s: &[u8], at: usize, k: usize, u: u8, usage: &mut Usages)
 
 // The variables of the equations are used in constraints.
 fn mark_equations(s: &[u8], usage: &mut Usages)
-    requires { ⌜ Readable (now s) × (length (now usage) ≡ IDS) ⌝ }
+    requires { ⌜ Readable (now s) × Codes 2 (now usage) ⌝ }
     ensures { λ _. ⌜ Uses (now (usage .exit)) (usedIn (moduleOf (now (s .entry)) .equations) (usageOf (now (usage .entry)))) ⌝ }
 {
     let layout = flat::layout_of(s);
@@ -70,18 +71,18 @@ fn mark_equations(s: &[u8], usage: &mut Usages)
     let at = layout.nodes_at;
     let mut k = 0usize;
     while k < n {
-        let left = word_at(s, equations + 2 * k) as usize;
-        let right = word_at(s, equations + 2 * k + 1) as usize;
-        mark_used(s, at, left, CONSTRAINT, usage);
-        mark_used(s, at, right, CONSTRAINT, usage);
+        let e = equation_at(s, equations, k);
+        mark_used(s, at, e.left, CONSTRAINT, usage);
+        mark_used(s, at, e.right, CONSTRAINT, usage);
         k += 1;
     }
 }
 
 // How a defined id is used: as a witness where it is used and the prover's.
 fn override_usage(usage: &mut Usages, provers: &Provers, id: usize) -> u8
-    requires { ⌜ (id < IDS) × (length (now usage) ≡ IDS) ⌝ }
-    ensures { λ r. ⌜ (usageAt r ≡ override (marked (now (provers .entry)) id) (usageOf (now (usage .entry)) id)) × Uses (now (usage .exit)) (update (usageOf (now (usage .entry))) id (usageAt r)) ⌝ }
+    requires { ⌜ (id < IDS) × Codes 2 (now usage) ⌝ }
+    ensures { λ r. ⌜ r ≡ codeOf (override (marked (now (provers .entry)) id) (usageOf (now (usage .entry)) id)) ⌝ }
+    ensures { λ r. ⌜ Uses (now (usage .exit)) (update (usageOf (now (usage .entry))) id (usageAt r)) ⌝ }
 {
     let u = usage[id];
     if u < CONSTRAINT {
@@ -96,7 +97,7 @@ fn override_usage(usage: &mut Usages, provers: &Provers, id: usize) -> u8
 
 // The definitions from the last to the first: each hands its usage on to the variables of its right side.
 fn mark_definitions(s: &[u8], provers: &Provers, usage: &mut Usages)
-    requires { ⌜ Readable (now s) × ((length (now usage) ≡ IDS) × (marked (now provers) ≡ (λ v. member v (moduleOf (now s) .provers)))) ⌝ }
+    requires { ⌜ Readable (now s) × (Codes 2 (now usage) × (marked (now provers) ≡ (λ v. member v (moduleOf (now s) .provers)))) ⌝ }
     ensures { λ _. ⌜ Uses (now (usage .exit)) (classified (moduleOf (now (s .entry)) .provers) (moduleOf (now (s .entry)) .definitions) (usageOf (now (usage .entry)))) ⌝ }
 {
     let layout = flat::layout_of(s);
@@ -107,16 +108,16 @@ fn mark_definitions(s: &[u8], provers: &Provers, usage: &mut Usages)
     while done < n {
         done += 1;
         let k = n - done;
-        let id = word_at(s, definitions + 2 * k) as usize;
-        let node = word_at(s, definitions + 2 * k + 1) as usize;
+        let d = definition_at(s, definitions, k);
+        let id = d.id as usize;
         let u = override_usage(usage, provers, id);
-        mark_used(s, at, node, u, usage);
+        mark_used(s, at, d.node, u, usage);
     }
 }
 
 // The record's prover ids are marked.
 fn mark_provers(s: &[u8], provers: &mut Provers)
-    requires { ⌜ Readable (now s) × (length (now provers) ≡ IDS) ⌝ }
+    requires { ⌜ Readable (now s) × Codes 1 (now provers) ⌝ }
     ensures { λ _. ⌜ Marks (now (provers .exit)) (λ v. marked (now (provers .entry)) v || member v (moduleOf (now (s .entry)) .provers)) ⌝ }
 {
     let layout = flat::layout_of(s);
@@ -124,7 +125,7 @@ fn mark_provers(s: &[u8], provers: &mut Provers)
     let at = layout.provers_at;
     let mut k = 0usize;
     while k < n {
-        let id = word_at(s, at + k) as usize;
+        let id = prover_at(s, at, k) as usize;
         provers[id] = 1;
         k += 1;
     }
@@ -132,7 +133,7 @@ fn mark_provers(s: &[u8], provers: &mut Provers)
 
 // Id v is the prover's where it is used as a witness.
 fn add_witness(usage: &Usages, provers: &mut Provers, v: usize)
-    requires { ⌜ (v < IDS) × (length (now provers) ≡ IDS) ⌝ }
+    requires { ⌜ (v < IDS) × Codes 1 (now provers) ⌝ }
     ensures { λ _. ⌜ Marks (now (provers .exit)) (λ w. marked (now (provers .entry)) w || (eqb w v && isWitness (usageOf (now (usage .entry)) w))) ⌝ }
 {
     if usage[v] == WITNESS {
@@ -142,7 +143,7 @@ fn add_witness(usage: &Usages, provers: &mut Provers, v: usize)
 
 // The ids below the next id that are used as a witness are the prover's.
 fn add_witnesses(usage: &Usages, next: usize, provers: &mut Provers)
-    requires { ⌜ (next ≤ IDS) × (length (now provers) ≡ IDS) ⌝ }
+    requires { ⌜ (next ≤ IDS) × Codes 1 (now provers) ⌝ }
     ensures { λ _. ⌜ Marks (now (provers .exit)) (λ w. marked (now (provers .entry)) w || (ltb w next && isWitness (usageOf (now (usage .entry)) w))) ⌝ }
 {
     let mut v = 0usize;
@@ -161,8 +162,8 @@ pub fn no_marks() -> Provers
 
 // Usages and prover ids of a readable record, in arrays that are clear at the call.
 pub fn classify_defs(s: &[u8], usage: &mut Usages, provers: &mut Provers)
-    requires { ⌜ Readable (now s) × Clear (now usage) (now provers) ⌝ }
-    ensures { λ _. ⌜ Classified (now (s .entry)) (now (usage .exit)) (now (provers .exit)) ⌝ }
+    requires { ⌜ Readable (now s) × (now usage ≡ noMarks) × (now provers ≡ noMarks) ⌝ }
+    ensures { λ _. ⌜ (now (usage .exit) ≡ usagesOf (now (s .entry))) × (now (provers .exit) ≡ marksOf (now (s .entry))) ⌝ }
 {
     mark_provers(s, provers);
     mark_equations(s, usage);
@@ -221,12 +222,11 @@ fn cuttable_equations(s: &[u8]) -> bool
     let at = layout.nodes_at;
     let mut k = 0usize;
     while k < n {
-        let left = word_at(s, equations + 2 * k) as usize;
-        let right = word_at(s, equations + 2 * k + 1) as usize;
-        if !cuttable_expr(s, at, left) {
+        let e = equation_at(s, equations, k);
+        if !cuttable_expr(s, at, e.left) {
             return false;
         }
-        if !cuttable_expr(s, at, right) {
+        if !cuttable_expr(s, at, e.right) {
             return false;
         }
         k += 1;
@@ -266,9 +266,9 @@ fn cuttable_defs(s: &[u8], usage: &Usages, provers: &Provers) -> bool
     let at = layout.nodes_at;
     let mut k = 0usize;
     while k < n {
-        let id = word_at(s, definitions + 2 * k) as usize;
-        let node = word_at(s, definitions + 2 * k + 1) as usize;
-        if !cuttable_def(s, at, id, node, usage, provers) {
+        let d = definition_at(s, definitions, k);
+        let id = d.id as usize;
+        if !cuttable_def(s, at, id, d.node, usage, provers) {
             return false;
         }
         k += 1;

@@ -1,4 +1,6 @@
 pub mod Walks
 pub mod Shapes
+mod Signed
 pub mod Stored
+pub mod After
 pub mod Used

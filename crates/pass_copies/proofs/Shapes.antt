@@ -1,9 +1,8 @@
--- What substitutions leave of an expression's shape: of a node by its kind, and what the root says of dead equalities and of new substitutions.
+-- What substitutions leave of an expression's shape: of a node by its kind, and what the root says of dead equalities.
 -- Assumes nothing.
 use mathlib.Core.Path.{_≡_, refl, sym, ap, _∙_}
 use mathlib.Core.List.{List}
-use mathlib.Core.Bool.{Bool, true, false, cond}
-use mathlib.Core.Option.{some}
+use mathlib.Core.Bool.{Bool, true, false}
 use Prim.Native.Nat.{ℕ, _+_}
 use native.Mathlib.Omega.{arith}
 use lib.Dec.{eqb}
@@ -15,7 +14,6 @@ use mathlib.Core.Logic.{⊎-elim}
 use borrow.Author.Tests.{eq-eqb, ne-eqb}
 use Rattle.field.specs.declared.InfixOp.{InfixOp}
 use Rattle.flat.specs.Trees.{Flat}
-use Rattle.flat.specs.Meaning.{update}
 use Rattle.flat.specs.Record.{nodeOf, tree}
 use Rattle.flat.specs.Readable.{Inside}
 use Rattle.flat.specs.declared.Node.the-variants.{Infix, Negate, Constant, Variable}
@@ -24,7 +22,7 @@ use Rattle.pass_classify.proofs.Walks.{left-inside, right-inside, child-inside}
 use Rattle.flat.proofs.Laws.{alike}
 use Rattle.pass_trees.proofs.Lists.{same-number}
 use Rattle.constraint.specs.declared.Term.{Term}
-use Rattle.pass_trees.specs.Passes.{Substitutions, walk, toExpr, copyPropagateExpr, substituting, sameNumber, dead}
+use Rattle.pass_trees.specs.Passes.{Substitutions, walk, toExpr, copyPropagateExpr, sameNumber, dead}
 use Rattle.pass_copies.specs.declared.Copied.{Copied}
 use Rattle.pass_copies.specs.Substituted.{copiedOf, sameTerm, deadRoots}
 
@@ -105,29 +103,3 @@ dead-by-roots (Flat.variable v) (Flat.negate b) = refl
 dead-by-roots (Flat.variable v) (Flat.infixed o b d) = refl
 dead-by-roots (Flat.negate a) y = refl
 dead-by-roots (Flat.infixed o a c) y = refl
-
--- new substitutions, by the root
-module _ (v : ℕ) (e : Flat) (s : Substitutions) where
-  pub after-tree : copiedOf e ≡ Copied.Tree → s ≡ substituting false v e s
-  unfolding copiedOf substituting
-  after-tree = go e
-    where
-      go : (x : Flat) → copiedOf x ≡ Copied.Tree → s ≡ substituting false v x s
-      go (Flat.infixed o a b) q = refl
-      go (Flat.negate a) q = refl
-      go (Flat.constant c) q = let z : _≡_ {A = ℕ} 0 1 = cc in absurd (omega arith)
-      go (Flat.variable w) q = let z : _≡_ {A = ℕ} 0 1 = cc in absurd (omega arith)
-
-  pub after-constant : (c : ℤ) → copiedOf e ≡ Copied.Leaf (Term.Constant c) → substituting false v e s ≡ update s v (some (Term.Constant c))
-  unfolding toExpr substituting
-  after-constant c q = ap (λ (x : Flat). substituting false v x s) (leaf-is e (Term.Constant c) q)
-
-  variable-left : (w : ℕ) → copiedOf e ≡ Copied.Leaf (Term.Variable w) → substituting false v e s ≡ cond (eqb w v) s (update s v (some (Term.Variable w)))
-  unfolding toExpr substituting
-  variable-left w q = ap (λ (x : Flat). substituting false v x s) (leaf-is e (Term.Variable w) q)
-
-  pub after-itself : (w : ℕ) → copiedOf e ≡ Copied.Leaf (Term.Variable w) → w ≡ v → s ≡ substituting false v e s
-  after-itself w q h = sym (variable-left w q ∙ rw (eq-eqb w v h))
-
-  pub after-variable : (w : ℕ) → copiedOf e ≡ Copied.Leaf (Term.Variable w) → (w ≡ v → ⊥) → substituting false v e s ≡ update s v (some (Term.Variable w))
-  after-variable w q h = variable-left w q ∙ rw (ne-eqb w v h)

@@ -2,11 +2,11 @@
 use mathlib.Core.Path.{_≡_, refl, ap, _∙_}
 use mathlib.Core.List.{List}
 use mathlib.Core.Bool.{Bool, true, false, not}
-use Prim.Native.Nat.{ℕ, zero, suc, _+_, _*_, _≤_, _<_}
+use Prim.Native.Nat.{ℕ, zero, suc, _+_, _≤_, _<_}
 use native.Mathlib.Omega.{arith}
 use lib.ListN.{length, getD}
-use Rattle.words.specs.Words.{wordAt}
-use Rattle.flat.specs.Record.{pick, definitions, definitionsAt, nodesAt, tree, moduleOf}
+use Rattle.flat.specs.declared.entries.DefinitionEntry.{DefinitionEntry}
+use Rattle.flat.specs.Record.{pick, definitions, definitionsAt, nodesAt, tree, definitionEntry, moduleOf}
 use Rattle.flat.specs.Readable.{Readable}
 use Rattle.flat.specs.Trees.{Definition}
 use Rattle.pass_trees.specs.Passes.{Usage, isNever, classifyDefs, keepIf, those}
@@ -52,18 +52,22 @@ module _ (b m : List ℕ) where
   unfolding those
   used-end n k count e l h = let p : usedFrom k ≡ 0 = ap (λ (ds : List Definition). length (those used ds)) (definitions-none b k (omega arith)) in omega arith
 
-  module _ {at n k i w : ℕ} (r : Readable b) (place : at ≡ definitionsAt b) (count : n ≡ definitions b) (l : k < n) (word : w ≡ wordAt b (at + 2 * k)) (index : i ≡ w) where
+  module _ {at n k i : ℕ} {entry : DefinitionEntry} (r : Readable b) (place : at ≡ definitionsAt b) (count : n ≡ definitions b) (l : k < n)
+      (read : entry ≡ definitionEntry b at k) (index : i ≡ entry .id) where
     over : OverDefinitions b n at (nodesAt b) k
     over = record { count = count; place = place; trees = refl; within = omega arith }
 
     pub used-small : i < 65536
-    used-small = definition-small r over l (index ∙ word) refl
+    used-small = omega (arith, index, definition-small r over l read)
 
     pub used-turn : (c : ℕ) {one : ℕ} → one ≡ pick (not (isNever (usageAt (getD m i 0)))) 1 0 → c + usedFrom k ≡ usedAll → c + one + usedFrom (k + 1) ≡ usedAll
     unfolding those usageOf
     used-turn c {one} p h =
-        let d : Definition = record { id = i; right = tree b (nodesAt b) (wordAt b (at + 2 * k + 1) + 1) (wordAt b (at + 2 * k + 1)) } in
-        let q : usedFrom k ≡ pick (used i) 1 0 + usedFrom (k + 1) = ap (λ (ds : List Definition). length (those used ds)) (definitions-more r over l (index ∙ word) refl) ∙ kept-length (used i) d (those used (definitionsFrom b (k + 1))) in
+        let d : Definition = record { id = entry .id; right = tree b (nodesAt b) (entry .node + 1) (entry .node) } in
+        let first : usedFrom k ≡ pick (used (entry .id)) 1 0 + usedFrom (k + 1) =
+        ap (λ (ds : List Definition). length (those used ds)) (definitions-more r over l read)
+        ∙ kept-length (used (entry .id)) d (those used (definitionsFrom b (k + 1))) in
+        let q : usedFrom k ≡ pick (used i) 1 0 + usedFrom (k + 1) = rw index first in
         omega arith
 
 -- after classify_defs they are the definitions that it leaves

@@ -2,10 +2,9 @@
 use mathlib.Core.Path.{_≡_, sym, ap, _∙_}
 use mathlib.Core.List.{List}
 use mathlib.Core.Option.{none, some}
-use Prim.Native.Nat.{ℕ, suc, _+_, _-_, _*_, _≤_, _<_}
+use Prim.Native.Nat.{ℕ, suc, _-_, _≤_, _<_}
 use native.Mathlib.Omega.{arith}
 use lib.IntN.{ℤ}
-use lib.ListN.{getD}
 use mir.Val.{toZ}
 use mir.Syntax.{w32}
 use borrow.Author.Tests.{eq-eqb, ne-eqb, lt-ltb, le-ltb}
@@ -13,14 +12,14 @@ use Rattle.flat.specs.Record.{pick}
 use Rattle.constraint.specs.declared.Term.{Term}
 use Rattle.pass_trees.specs.Passes.{walk}
 use Rattle.pass_trees.proofs.Loops.{walk-step, walk-resolved}
-use Rattle.pass_copies.specs.Substituted.{standing, substOf}
+use Rattle.pass_copies.specs.Substituted.{kindAt, valueAt, standing, substOf}
 
 -- what stands for an id
 pub stands-past : (m : List ℕ) (v : ℕ) → 65536 ≤ v → substOf m v ≡ none
 unfolding substOf pick
 stands-past m v h = rw (le-ltb v 65536 h)
 
-pub stands-words : (m : List ℕ) (v : ℕ) → v < 65536 → substOf m v ≡ standing (getD m (2 * v) 0) (getD m (2 * v + 1) 0)
+pub stands-words : (m : List ℕ) (v : ℕ) → v < 65536 → substOf m v ≡ standing (kindAt m v) (valueAt m v)
 unfolding substOf pick
 stands-words m v h = rw (lt-ltb v 65536 h)
 
@@ -52,19 +51,19 @@ module _ (m : List ℕ) (t : Term) (left id : ℕ) (from : walk left (substOf m)
 
   -- by the words at its index
   module _ (i : ℕ) (is : i ≡ id) where
-    by-words : i < 65536 → substOf m id ≡ standing (getD m (2 * i) 0) (getD m (2 * i + 1) 0)
+    by-words : i < 65536 → substOf m id ≡ standing (kindAt m i) (valueAt m i)
     by-words h = rw (← is, stands-words m i h)
 
     pub ends-past : 65536 ≤ i → Term.Variable id ≡ t
     ends-past h = rest-none (stands-past m id (omega arith))
 
-    pub ends-none : i < 65536 → getD m (2 * i) 0 ≡ 0 → Term.Variable id ≡ t
+    pub ends-none : i < 65536 → kindAt m i ≡ 0 → Term.Variable id ≡ t
     ends-none h e = rest-none (by-words h ∙ standing-none _ _ e)
 
-    pub ends-constant : i < 65536 → 0 < left → (getD m (2 * i) 0 ≡ 0 → ⊥) → (getD m (2 * i) 0 ≡ 1 → ⊥) → {c : ℤ} → c ≡ toZ w32 (getD m (2 * i + 1) 0) → Term.Constant c ≡ t
+    pub ends-constant : i < 65536 → 0 < left → (kindAt m i ≡ 0 → ⊥) → (kindAt m i ≡ 1 → ⊥) → {c : ℤ} → c ≡ toZ w32 (valueAt m i) → Term.Constant c ≡ t
     ends-constant h l n0 n1 e =
-        let n : ℤ = toZ w32 (getD m (2 * i + 1) 0) in
+        let n : ℤ = toZ w32 (valueAt m i) in
         ap Term.Constant e ∙ sym (walk-resolved (left - 1) (substOf m) (Term.Constant n) tt) ∙ one-more (Term.Constant n) (by-words h ∙ standing-constant _ _ n0 n1) l
 
-    pub turns : i < 65536 → 0 < left → getD m (2 * i) 0 ≡ 1 → walk (left - 1) (substOf m) (Term.Variable (getD m (2 * i + 1) 0)) ≡ t
-    turns h l e = one-more (Term.Variable (getD m (2 * i + 1) 0)) (by-words h ∙ standing-variable _ _ e) l
+    pub turns : i < 65536 → 0 < left → kindAt m i ≡ 1 → walk (left - 1) (substOf m) (Term.Variable (valueAt m i)) ≡ t
+    turns h l e = one-more (Term.Variable (valueAt m i)) (by-words h ∙ standing-variable _ _ e) l

@@ -2,35 +2,34 @@
 // none, 1 and an id, or 2 and a number's bits.
 use constraint::Term;
 use flat::Node;
+use flat::entries::definition_at;
 use pass_classify::Usages;
 use records::flat_record::ID_COUNT;
 use words::signed;
 use words::unsigned;
 use words::wide;
-use words::word_at;
 ghost use mathlib.Core.Path.{_≡_};
-ghost use mathlib.Core.Bool.{false, not};
-ghost use mathlib.Core.Option.{none};
-ghost use Prim.Native.Nat.{_+_, _*_, _<_};
-ghost use lib.ListN.{length, set};
+ghost use mathlib.Core.Bool.{not};
+ghost use Prim.Native.Nat.{_+_, _<_};
+ghost use lib.ListN.{length, replicate};
 ghost use Rattle.flat.specs.Record.{pick, definitions, definitionsAt, tree, moduleOf};
 ghost use Rattle.flat.specs.Readable.{Readable, Inside};
 ghost use Rattle.constraint.specs.declared.Term.the-variants.{Variable};
-ghost use Rattle.pass_trees.specs.Passes.{isNever, those, walk, copyPropagateExpr, substituting};
+ghost use Rattle.pass_trees.specs.Passes.{isNever, those, walk, copyPropagateExpr};
 ghost use Rattle.pass_classify.specs.Arrays.{usageAt, usageOf};
-ghost use Rattle.pass_copies.specs.Substituted.{substOf, noSubstitutions, copiedOf, sameTerm, deadRoots, SUBSTITUTION-WORDS};
+ghost use Rattle.pass_copies.specs.Substituted.{substOf, noSubstitutions, copiedOf, putWords, putDefinition, sameTerm, deadRoots};
 ghost use Rattle.records.specs.FlatRecord.{IDS};
 
-// An entry for each id: what stands for it, none, a variable or a constant, and the variable or the number.
+// The words of an id: what stands for it, none, a variable or a constant, and the variable or the number.
 const NONE: u32 = 0;
 
 const VARIABLE: u32 = 1;
 
 const CONSTANT: u32 = 2;
 
-const ENTRY: usize = 2;
+const ID_WORDS: usize = 2;
 
-const SUBSTITUTION_WORDS: usize = ENTRY * ID_COUNT;
+const SUBSTITUTION_WORDS: usize = ID_WORDS * ID_COUNT;
 
 pub type Substitutions = [u32; SUBSTITUTION_WORDS];
 
@@ -45,11 +44,11 @@ pub fn resolve(subs: &Substitutions, v: u32, steps: usize) -> Term
         if ID_COUNT <= i {
             return Term::Variable(id);
         }
-        let kind = subs[ENTRY * i];
+        let kind = subs[ID_WORDS * i];
         if kind == NONE {
             return Term::Variable(id);
         }
-        let value = subs[ENTRY * i + 1];
+        let value = subs[ID_WORDS * i + 1];
         if kind != VARIABLE {
             return Term::Constant(signed(value));
         }
@@ -81,16 +80,16 @@ pub fn copy_expr(s: &[u8], at: usize, k: usize, subs: &Substitutions, steps: usi
 
 fn put_substitution(subs: &mut Substitutions, id: usize, kind: u32, value: u32)
     requires { ⌜ id < IDS ⌝ }
-    ensures { λ _. ⌜ now (subs .exit) ≡ set (set (now (subs .entry)) (2 * id) kind) (2 * id + 1) value ⌝ }
+    ensures { λ _. ⌜ now (subs .exit) ≡ putWords (now (subs .entry)) id kind value ⌝ }
 {
-    subs[ENTRY * id] = kind;
-    subs[ENTRY * id + 1] = value;
+    subs[ID_WORDS * id] = kind;
+    subs[ID_WORDS * id + 1] = value;
 }
 
 // The substitutions after a definition whose id is not the prover's: a term stands for its variable, unless it is the variable itself.
 pub fn substitute(s: &[u8], at: usize, id: u32, k: usize, subs: &mut Substitutions, steps: usize)
-    requires { ⌜ Inside (now s) at k × (id < IDS) × (length (now subs) ≡ SUBSTITUTION-WORDS) ⌝ }
-    ensures { λ _. ⌜ (substOf (now (subs .exit)) ≡ substituting false id (copyPropagateExpr steps (substOf (now (subs .entry))) (tree (now (s .entry)) at (k + 1) k)) (substOf (now (subs .entry)))) × (length (now (subs .exit)) ≡ SUBSTITUTION-WORDS) ⌝ }
+    requires { ⌜ Inside (now s) at k × (id < IDS) ⌝ }
+    ensures { λ _. ⌜ now (subs .exit) ≡ putDefinition steps (now (subs .entry)) (record { id = id; right = tree (now (s .entry)) at (k + 1) k }) ⌝ }
 {
     let Copied::Leaf(term) = copy_expr(s, at, k, subs, steps) else {
         return;
@@ -142,12 +141,13 @@ pub fn no_substitutions() -> Substitutions
     [0u32; SUBSTITUTION_WORDS]
 }
 
-// No id has a substitution any more.
-pub fn clear_substitutions(subs: &mut Substitutions)
-    ensures { λ _. ⌜ (substOf (now (subs .exit)) ≡ (λ _. none)) × (length (now (subs .exit)) ≡ length (now (subs .entry))) ⌝ }
+// No id has a substitution any more: every word becomes 0. A slice, since the length of an array behind a reference is not known to a proof.
+pub fn clear_substitutions(subs: &mut [u32])
+    ensures { λ _. ⌜ now (subs .exit) ≡ replicate (length (now (subs .entry))) 0 ⌝ }
 {
+    let n = subs.len();
     let mut i = 0usize;
-    while i < SUBSTITUTION_WORDS {
+    while i < n {
         subs[i] = 0;
         i += 1;
     }
@@ -170,7 +170,8 @@ pub fn used_definitions(s: &[u8], at: usize, n: usize, usage: &Usages) -> usize
     let mut count = 0usize;
     let mut k = 0usize;
     while k < n {
-        let id = wide(word_at(s, at + 2 * k));
+        let d = definition_at(s, at, k);
+        let id = wide(d.id);
         count += one_where_used(usage[id]);
         k += 1;
     }

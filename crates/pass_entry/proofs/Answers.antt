@@ -6,9 +6,10 @@ use mathlib.Core.List.{List}
 use mathlib.Core.Bool.{Bool, true, false, _&&_}
 use native.Mathlib.Omega.{arith}
 use lib.ListN.{length, length-replicate}
+use lib.Dec.{leb}
 use borrow.Author.Tests.{le-leb, lt-leb}
 use Rattle.flat.specs.Trees.{FlatModule, moduleNodes}
-use Rattle.flat.specs.Record.{next, publics, definitions, equations, definitionsAt, equationsAt, nodesAt, moduleOf, layoutOf, flatOf, checked}
+use Rattle.flat.specs.Record.{pick, next, publics, definitions, equations, definitionsAt, equationsAt, nodesAt, moduleOf, layoutOf, flatOf, checked}
 use Rattle.flat.specs.declared.Layout.{Layout}
 use Rattle.flat.specs.declared.Checked.the-variants.{Accepted, Refused as No}
 use Rattle.flat.specs.Readable.{Readable}
@@ -19,8 +20,11 @@ use Rattle.constraint.specs.Trees.{ConstraintModule}
 use Rattle.pass_trees.specs.Passes.{Outcome, cut, refused, unless, fitting, passes, counted, cuttableDefs, cuttableEquations, cutOf, flattenModuleTo3ac, eliminateDeadEqualities, copyPropagate, classifyDefs}
 use Rattle.pass_entry.specs.declared.Answer.{Answer}
 use Rattle.pass_entry.specs.declared.Answer.the-variants.{Refused}
-use Rattle.pass_entry.specs.Body.{noBody, noList}
-use Rattle.pass_entry.specs.Cut.{cutRead, cutRecord, answerFor, outputFor}
+use Rattle.pass_entry.specs.declared.Need.{Need}
+use Rattle.pass_entry.specs.declared.body.Built.{Built}
+use Rattle.pass_entry.specs.declared.body.Passed.{Passed}
+use Rattle.pass_entry.specs.Body.{BODY-BYTES, LIST-BYTES, noBody, noList, builtOf, putBody, putList, passedOf, bodyAfter, listAfter}
+use Rattle.pass_entry.specs.Cut.{cutRead, cutRecord, answerFor, outputFor, needOf}
 
 -- an outcome that is known answers and leaves what it says
 abbrev pub Gives : List ℕ → List ℕ → Answer → Outcome → Type 0
@@ -32,6 +36,10 @@ gives-as out o p e g = rw e g
 pub gives-refused : (out : List ℕ) (n : ℕ) → Gives out out (Refused n) (refused n)
 unfolding answerFor outputFor
 gives-refused out n = (refl, refl)
+
+pub needs-refused : (o : Outcome) {n : ℕ} → o ≡ refused n → Need.Refused n ≡ needOf o
+unfolding needOf
+needs-refused o e = sym (ap needOf e)
 
 -- 32
 pub within-ids : (c : ConstraintModule) → c .next ≤ 65536 → fitting c ≡ cut c
@@ -51,6 +59,65 @@ pub is-cuttable : (f : FlatModule) (t : Bool) → t ≡ (cuttableDefs (counted f
 unfolding cutOf unless
 is-cuttable f t e h = rw (← e, h)
 
+-- what the passes left, by the tests of 22 and 32
+left-made : (t u : Bool) (c : ConstraintModule) {x : Built} → Passed.Made x ≡ passedOf (unless t 22 (unless u 32 (cut c))) →
+    (t ≡ true) × (unless t 22 (unless u 32 (cut c)) ≡ cut c) × (x ≡ builtOf c)
+unfolding unless passedOf
+left-made true true c {x} e = let z : x ≡ builtOf c = cc in (refl, refl, z)
+left-made true false c e = let z : _≡_ {A = ℕ} 0 1 = cc in absurd (omega arith)
+left-made false u c e = let z : _≡_ {A = ℕ} 0 1 = cc in absurd (omega arith)
+
+pub left-refused : (o : Outcome) {n : ℕ} → Passed.Refused n ≡ passedOf o → o ≡ refused n
+unfolding passedOf
+left-refused (cut c) e = let z : _≡_ {A = ℕ} 0 1 = cc in absurd (omega arith)
+left-refused (refused m) {n} e = let z : m ≡ n = cc in ap (λ (k : ℕ). refused k) z
+
+module _ (f : FlatModule) {x : Built} (e : Passed.Made x ≡ passedOf (cutOf f)) where
+  left-all : (cuttableDefs (counted f) && cuttableEquations (f .equations) ≡ true) × (cutOf f ≡ cut (passes f)) × (x ≡ builtOf (passes f))
+  unfolding cutOf fitting
+  left-all = left-made (cuttableDefs (counted f) && cuttableEquations (f .equations)) (leb (passes f .next) 65536) (passes f) e
+
+  pub made-cut : cutOf f ≡ cut (passes f)
+  made-cut = left-all .1
+
+  pub made-numbers : x ≡ builtOf (passes f)
+  made-numbers = left-all .2
+
+  pub made-body : (body : List ℕ) → bodyAfter body f ≡ putBody body (passes f)
+  unfolding bodyAfter pick
+  made-body body = rw (left-all .0)
+
+  pub made-list : (list : List ℕ) → listAfter list f ≡ putList list (passes f)
+  unfolding listAfter pick
+  made-list list = rw (left-all .0)
+
+-- the answer of the passes and their lists
+abbrev Passes : FlatModule → List ℕ → List ℕ → List ℕ → List ℕ → Passed → Type 0
+Passes f body body′ list list′ r = (r ≡ passedOf (cutOf f)) × ((body′ ≡ bodyAfter body f) × (list′ ≡ listAfter list f))
+
+module _ (f : FlatModule) (body list : List ℕ) {t : Bool} (e : t ≡ (cuttableDefs (counted f) && cuttableEquations (f .equations))) where
+  pub passes-22 : t ≡ false → Passes f body body list list (Passed.Refused 22)
+  unfolding passedOf bodyAfter listAfter pick
+  passes-22 h = (ap passedOf (sym (not-cuttable f t e h)), (rw (← e, h), rw (← e, h)))
+
+  module _ {body′ list′ : List ℕ} {x : Built} (h : t ≡ true) (n : x ≡ builtOf (passes f)) (p : body′ ≡ putBody body (passes f))
+      (q : list′ ≡ putList list (passes f)) where
+    lists-after : (body′ ≡ bodyAfter body f) × (list′ ≡ listAfter list f)
+    unfolding bodyAfter listAfter pick
+    lists-after = (p ∙ rw (← e, h), q ∙ rw (← e, h))
+
+    next-is : x .next ≡ passes f .next
+    unfolding builtOf
+    next-is = ap (λ (y : Built). y .next) n
+
+    pub passes-32 : 65536 < x .next → Passes f body body′ list list′ (Passed.Refused 32)
+    unfolding passedOf
+    passes-32 l = (ap passedOf (sym (is-cuttable f t e h ∙ past-ids (passes f) (omega (arith, next-is)))), lists-after)
+
+    pub passes-made : x .next ≤ 65536 → Passes f body body′ list list′ (Passed.Made x)
+    unfolding passedOf
+    passes-made l = (ap Passed.Made n ∙ ap passedOf (sym (is-cuttable f t e h ∙ within-ids (passes f) (omega (arith, next-is)))), lists-after)
+
 -- 20 and 21
 pub record-refused : (b : List ℕ) (n : ℕ) → checked (flatOf b) ≡ No n → cutRecord b ≡ refused n
 unfolding cutRecord cutRead
@@ -60,8 +127,12 @@ pub record-accepted : (b : List ℕ) → checked (flatOf b) ≡ Accepted → cut
 unfolding cutRecord cutRead
 record-accepted b e = rw (checked-accepted b e)
 
-pub record-small : (b : List ℕ) → checked (flatOf b) ≡ Accepted → moduleNodes (moduleOf b) ≤ 16384
+record-small : (b : List ℕ) → checked (flatOf b) ≡ Accepted → moduleNodes (moduleOf b) ≤ 16384
 record-small b e = let r : Readable b = checked-readable b e in omega (arith, accepted-nodes b (moduleOf b) (checked-accepted b e), r .nodes-few)
+
+-- what `passes` asks, of a lent record that is accepted
+pub record-passable : (b : List ℕ) → checked (flatOf b) ≡ Accepted → Readable b × (moduleNodes (moduleOf b) ≤ 16384)
+record-passable b e = (checked-readable b e, record-small b e)
 
 -- the passes keep the publics
 pub passes-publics : (b : List ℕ) {l : Layout} → l ≡ layoutOf b → l .publics ≡ length (passes (moduleOf b) .publics)
@@ -99,10 +170,10 @@ module _ (b : List ℕ) {l : Layout} (e : l ≡ layoutOf b) where
   layout-nodes-at = ap (λ (x : Layout). x .«nodes_at») e
 
 -- the port's own lists
-pub body-size : {m : List ℕ} → m ≡ noBody → length m ≡ 753920
+pub body-size : {m : List ℕ} → m ≡ noBody → length m ≡ BODY-BYTES
 unfolding noBody
-body-size e = ap length e ∙ length-replicate {A = ℕ} 753920 0
+body-size e = ap length e ∙ length-replicate {A = ℕ} BODY-BYTES 0
 
-pub list-size : {m : List ℕ} → m ≡ noList → length m ≡ 262144
+pub list-size : {m : List ℕ} → m ≡ noList → length m ≡ LIST-BYTES
 unfolding noList
-list-size e = ap length e ∙ length-replicate {A = ℕ} 262144 0
+list-size e = ap length e ∙ length-replicate {A = ℕ} LIST-BYTES 0

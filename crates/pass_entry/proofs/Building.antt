@@ -6,31 +6,33 @@ use mathlib.Core.List.{List, [], _∷_, _++_, append-assoc}
 use mathlib.Core.Bool.{Bool, true, false, not}
 use mathlib.Core.Option.{none}
 use native.Mathlib.Omega.{arith}
-use lib.ListN.{length, take, drop, length-append}
-use lib.Seq.{take-at}
-use Rattle.words.specs.Words.{wordAt, setWords, bytesOf}
-use Rattle.words.proofs.Laws.{setWords-append, setWords-bytes, length-setWords, length-bytesOf}
+use lib.ListN.{length, replicate, length-replicate, length-append}
+use Rattle.words.specs.Words.{setWords}
+use Rattle.words.proofs.Laws.{setWords-append, length-setWords}
 use Rattle.flat.specs.Trees.{Definition, treeNodes, definitionsNodes, equationsNodes, moduleNodes}
-use Rattle.flat.specs.Record.{rows, next, publics, definitions, moduleOf}
+use Rattle.flat.specs.Record.{publicAt, rows, next, publics, definitions, moduleOf}
 use Rattle.flat.specs.Readable.{Readable}
+use Rattle.records.specs.FlatRecord.{IDS, NODES, PUBLICS}
 use Rattle.flat.proofs.Rows.{length-rows}
 use Rattle.constraint.specs.Trees.{ConstraintModule}
-use Rattle.constraint.specs.Record.{equalitiesWords, keptWords, keptNodes}
-use Rattle.constraint.proofs.Lengths.{length-equalities, length-kept, length-kept-nodes, equalities-append}
-use Rattle.pass_trees.specs.Passes.{keepIf, idsFrom, member, those, isNever, usage, classifyDefs, Substitutions, copyPropagateDef, afterDef, copyPropagateDefs, copyPropagate, eliminateDeadEqualities, Cuts, joined, flattenLists, flattenModuleTo3ac, passes}
-use Rattle.pass_classify.specs.Arrays.{marked, Classified, proversOf, usedOf}
+use Rattle.constraint.specs.Record.{EQUALITY-WORDS, KEPT-WORDS, equalitiesWords, keptWords, keptNodes}
+use Rattle.constraint.proofs.Lengths.{length-equalities, equalities-append}
+use Rattle.pass_trees.specs.Passes.{keepIf, idsFrom, member, those, isNever, usage, classifyDefs, counted, Substitutions, copyPropagateDef, afterDef, copyPropagateDefs, copyPropagate, eliminateDeadEqualities, Cuts, joined, flattenLists, flattenModuleTo3ac, passes}
+use Rattle.pass_classify.specs.Arrays.{marked, Classified, proversOf, usedOf, countedOf}
 use Rattle.pass_classify.proofs.Whole.{classified-provers}
 use Rattle.pass_3ac.specs.declared.Place.{Place}
-use Rattle.pass_3ac.specs.Cutting.{putEqualities, after, defsCut, defsAfter, equationsCut, Room}
+use Rattle.pass_3ac.specs.Cutting.{putEqualities, after, placeFrom, defsCut, defsAfter, equationsCut, Room}
 use Rattle.pass_3ac.proofs.Joining.{Puts, Few, place-at, place-next}
-use Rattle.pass_3ac.proofs.Definitions.{DefsLeave, few-defs}
+use Rattle.pass_3ac.proofs.Definitions.{few-defs}
 use Rattle.pass_3ac.proofs.Equations.{few-equations}
 use Rattle.pass_3ac.proofs.Trees.{copied-nodes}
-use Rattle.pass_copies.specs.Substituted.{substOf}
+use Rattle.pass_copies.specs.Substituted.{SUBSTITUTION-WORDS, substOf, noSubstitutions, putDefinitions}
+use Rattle.pass_copies.proofs.Stored.{none-is, none-length, cleared-all}
+use Rattle.pass_copies.proofs.After.{definitions-length, record-storable, definitions-say}
 use Rattle.pass_keep.specs.declared.Kept.{Kept}
-use Rattle.pass_keep.specs.Keeping.{keptOf, putKept, putNodes, keptFrom, Keeps, NodeRoom, WordRoom}
+use Rattle.pass_keep.specs.Keeping.{keptOf, putKept, putNodes, keptFrom, NodeRoom, WordRoom}
 use Rattle.pass_entry.specs.declared.body.Built.{Built}
-use Rattle.pass_entry.specs.Body.{bodyWords, Made, Fitting}
+use Rattle.pass_entry.specs.Body.{BODY-BYTES, LIST-BYTES, bodyWords, builtOf, putBody, putList}
 
 -- ---- the passes by their parts
 
@@ -60,23 +62,22 @@ module _ (b : List ℕ) (k : ℕ) where
   unfolding passes flattenModuleTo3ac eliminateDeadEqualities copyPropagate classifyDefs flattenLists joined defsCut defsAfter equationsCut proversOf usedOf keptOf
   by-parts e = rw e
 
+built-same : {n n′ s s′ e e′ k k′ t t′ : ℕ} → n ≡ n′ → s ≡ s′ → e ≡ e′ → k ≡ k′ → t ≡ t′ →
+    _≡_ {A = Built} (record { next = n; start = s; equalities = e; kept = k; nodes = t })
+    (record { next = n′; start = s′; equalities = e′; kept = k′; nodes = t′ })
+built-same a b c d e = rw (a, b, c, d, e)
+
 -- ---- one list behind another
 
 behind : (xs ys d : List ℕ) (i j : ℕ) {d1 d2 : List ℕ} → d1 ≡ setWords d i xs → j ≡ i + length xs → d2 ≡ setWords d1 j ys → d2 ≡ setWords d i (xs ++ ys)
 behind xs ys d i j e f g = g ∙ ap₂ (λ (x : List ℕ) (y : ℕ). setWords x y ys) e f ∙ sym (setWords-append xs ys d i)
-
--- words from the front on, as bytes
-taken : (ws d : List ℕ) {d1 : List ℕ} (n : ℕ) → d1 ≡ setWords d 0 ws → n ≡ 4 * length ws → n ≤ length d → take n d1 ≡ bytesOf ws
-taken ws d n e f l =
-    ap (take n) (e ∙ setWords-bytes ws d 0 (omega arith))
-    ∙ take-at (bytesOf ws) (drop (4 * (0 + length ws)) d) n (length-bytesOf ws ∙ sym f)
 
 kept-few : {A : Type 0} (c : Bool) (a : A) (l : List A) {n : ℕ} → length l ≤ n → length (keepIf c a l) ≤ suc n
 unfolding keepIf
 kept-few true a l h = omega arith
 kept-few false a l h = omega arith
 
-ids-few : (t : ℕ → Bool) (a n : ℕ) → length (idsFrom t a n) ≤ n
+pub ids-few : (t : ℕ → Bool) (a n : ℕ) → length (idsFrom t a n) ≤ n
 unfolding idsFrom
 ids-few t a zero = omega arith
 ids-few t a (suc n) = kept-few (t a) a (idsFrom t (suc a) n) (ids-few t (suc a) n)
@@ -88,14 +89,14 @@ pub record Lists (b provers body body2 : List ℕ) (start : ℕ) : Type 0 where
   pub written : body2 ≡ setWords body 0 (moduleOf b .publics ++ idsFrom (marked provers) 0 (next b))
   pub place : start ≡ publics b + length (idsFrom (marked provers) 0 (next b))
 
-pub lists-made : (b provers body : List ℕ) {body1 body2 : List ℕ} {n m start : ℕ} → n ≡ publics b → m ≡ next b → body1 ≡ setWords body 0 (rows n 0 (λ k. wordAt b (6 + k))) → (body2 ≡ setWords body1 n (idsFrom (marked provers) 0 m)) × (start ≡ n + length (idsFrom (marked provers) 0 m)) → Lists b provers body body2 start
+pub lists-made : (b provers body : List ℕ) {body1 body2 : List ℕ} {n m start : ℕ} → n ≡ publics b → m ≡ next b → body1 ≡ setWords body 0 (rows n 0 (publicAt b)) → (body2 ≡ setWords body1 n (idsFrom (marked provers) 0 m)) × (start ≡ n + length (idsFrom (marked provers) 0 m)) → Lists b provers body body2 start
 unfolding moduleOf
 lists-made b provers body {body1 = body1} {n = n} {m = m} e f g h =
     record {
       written =
-          behind (rows (publics b) 0 (λ k. wordAt b (6 + k))) (idsFrom (marked provers) 0 (next b)) body 0 (publics b)
-          (g ∙ ap (λ (x : ℕ). setWords body 0 (rows x 0 (λ k. wordAt b (6 + k)))) e)
-          (omega (arith, length-rows (λ k. wordAt b (6 + k)) (publics b) 0))
+          behind (rows (publics b) 0 (publicAt b)) (idsFrom (marked provers) 0 (next b)) body 0 (publics b)
+          (g ∙ ap (λ (x : ℕ). setWords body 0 (rows x 0 (publicAt b))) e)
+          (omega (arith, length-rows (publicAt b) (publics b) 0))
           (h .0 ∙ ap₂ (λ (x y : ℕ). setWords body1 x (idsFrom (marked provers) 0 y)) e f);
       place = h .1 ∙ ap₂ (λ (x y : ℕ). x + length (idsFrom (marked provers) 0 y)) e f;
     }
@@ -127,7 +128,7 @@ copies-long ps k s [] = refl
 copies-long ps k s (d ∷ ds) = ap suc (copies-long ps k (afterDef ps k s d) ds)
 
 module _ (b : List ℕ) (k : ℕ) where
-  kept-nodes-few : definitionsNodes (keptDefinitions b k) ≤ definitionsNodes (moduleOf b .definitions)
+  pub kept-nodes-few : definitionsNodes (keptDefinitions b k) ≤ definitionsNodes (moduleOf b .definitions)
   unfolding keptOf usedOf
   kept-nodes-few =
       let u = usedOf b (moduleOf b .definitions) in
@@ -138,7 +139,7 @@ module _ (b : List ℕ) (k : ℕ) where
         those-nodes (λ v. not (isNever (usage (moduleOf b) v))) (moduleOf b .definitions),
       )
 
-  kept-count-few : length (keptDefinitions b k) ≤ length (moduleOf b .definitions)
+  pub kept-count-few : length (keptDefinitions b k) ≤ length (moduleOf b .definitions)
   unfolding keptOf usedOf
   kept-count-few =
       let u = usedOf b (moduleOf b .definitions) in
@@ -149,17 +150,30 @@ module _ (b : List ℕ) (k : ℕ) where
         those-few (λ v. not (isNever (usage (moduleOf b) v))) (moduleOf b .definitions),
       )
 
-definitions-count : (b : List ℕ) → length (moduleOf b .definitions) ≡ definitions b
+pub definitions-count : (b : List ℕ) → length (moduleOf b .definitions) ≡ definitions b
 unfolding moduleOf
 definitions-count b = length-rows _ (definitions b) 0
 
+-- what flatten_defs leaves, in the order of its promises
+abbrev pub DefsLeave : List ℕ → ℕ → List ℕ → List ℕ → List ℕ → List ℕ → ℕ → ℕ → Place → Type 0
+DefsLeave b k m m′ c c′ at n r =
+    (c′ ≡ putEqualities c at (defsCut b k (substOf m) (moduleOf b .definitions) n .equalities))
+    × ((r ≡ placeFrom at (defsCut b k (substOf m) (moduleOf b .definitions) n)) × (m′ ≡ putDefinitions k m (counted (moduleOf b))))
+
+-- what keep_defs leaves of the body, of the list and as its answer
+abbrev pub KeptLeave : List ℕ → ℕ → ℕ → List ℕ → List ℕ → List ℕ → List ℕ → List ℕ → List ℕ → Kept → Type 0
+KeptLeave b k at m m′ body body′ list list′ o =
+    (body′ ≡ putKept body at 0 (keptOf b k (substOf m) (moduleOf b .definitions)))
+    × ((list′ ≡ putNodes list 0 (keptOf b k (substOf m) (moduleOf b .definitions)))
+    × ((o ≡ keptFrom at 0 (keptOf b k (substOf m) (moduleOf b .definitions))) × (m′ ≡ putDefinitions k m (counted (moduleOf b)))))
+
 -- ---- the rooms that the calls ask for
 
-module _ {b us ps : List ℕ} (r : Readable b) (c : Classified b us ps) (few : moduleNodes (moduleOf b) ≤ 16384) {body body2 : List ℕ} (long : length body ≡ 753920) {start : ℕ} (l : Lists b ps body body2 start) (k : ℕ) where
-  first-long : length body2 ≡ 753920
+module _ {b us ps : List ℕ} (r : Readable b) (c : Classified b us ps) (few : moduleNodes (moduleOf b) ≤ 16384) {body body2 : List ℕ} (long : length body ≡ BODY-BYTES) {start : ℕ} (l : Lists b ps body body2 start) (k : ℕ) where
+  first-long : length body2 ≡ BODY-BYTES
   first-long = ap length (l .written) ∙ length-setWords (moduleOf b .publics ++ idsFrom (marked ps) 0 (next b)) body 0 ∙ long
 
-  start-small : start ≤ 65600
+  start-small : start ≤ PUBLICS + IDS
   start-small = omega (arith, l .place, ids-few (marked ps) 0 (next b), r .publics-few, r .next-small)
 
   nodes-few : definitionsNodes (moduleOf b .definitions) + equationsNodes (moduleOf b .equations) ≤ 16384
@@ -170,31 +184,49 @@ module _ {b us ps : List ℕ} (r : Readable b) (c : Classified b us ps) (few : m
   room-definitions n e = record { words = omega (arith, first-long, start-small, nodes-few); ids = omega (arith, nodes-few, r .next-small) }
 
   -- after the definitions, which left the body body3 and the place p
-  module _ (n : ℕ) (en : n ≡ next b) (m0 m1 : List ℕ) (z : substOf m0 ≡ none-yet b k) (body3 : List ℕ) (p : Place) (d : DefsLeave b k (moduleOf b .definitions) m0 m1 body2 body3 start n p) where
+  module _ (n : ℕ) (en : n ≡ next b) (m0 m1 : List ℕ) (z : m0 ≡ noSubstitutions) (body3 : List ℕ) (p : Place)
+      (d : DefsLeave b k m0 m1 body2 body3 start n p) where
+    none-say : substOf m0 ≡ none-yet b k
+    none-say = ap substOf z ∙ none-is
+
     -- with the first id and no substitutions
     definitions-are : defsCut b k (substOf m0) (moduleOf b .definitions) n ≡ cutDefinitions b k
     unfolding moduleOf
-    definitions-are = ap₂ (λ (x : Substitutions) (y : ℕ). defsCut b k x (moduleOf b .definitions) y) z en
+    definitions-are = ap₂ (λ (x : Substitutions) (y : ℕ). defsCut b k x (moduleOf b .definitions) y) none-say en
+
+    first-words : length m0 ≡ SUBSTITUTION-WORDS
+    first-words = ap length z ∙ none-length
+
+    -- an array of substitutions still has its words
+    pub second-words : length m1 ≡ SUBSTITUTION-WORDS
+    second-words = ap length (d .1 .1) ∙ definitions-length k m0 (counted (moduleOf b)) ∙ first-words
+
+    pub cleared-words : (m2 : List ℕ) → m2 ≡ replicate (length m1) 0 → length m2 ≡ SUBSTITUTION-WORDS
+    cleared-words m2 e = ap length e ∙ length-replicate {A = ℕ} (length m1) 0 ∙ second-words
 
     substitutions-are : substOf m1 ≡ defsAfter b k (none-yet b k) (moduleOf b .definitions)
-    substitutions-are = d .2 ∙ ap (λ (x : Substitutions). defsAfter b k x (moduleOf b .definitions)) z
+    unfolding defsAfter counted countedOf usedOf proversOf classifyDefs
+    substitutions-are =
+        ap substOf (d .1 .1)
+        ∙ definitions-say b k m0 (moduleOf b .definitions) first-words (record-storable r)
+        ∙ ap (λ (x : Substitutions). defsAfter b k x (moduleOf b .definitions)) none-say
 
     second-written : body3 ≡ setWords body2 start (equalitiesWords (cutDefinitions b k .equalities))
     unfolding putEqualities
     second-written = d .0 ∙ ap (λ (x : Cuts). setWords body2 start (equalitiesWords (x .equalities))) definitions-are
 
-    second-place : p .at ≡ start + 7 * length (cutDefinitions b k .equalities)
+    second-place : p .at ≡ start + EQUALITY-WORDS * length (cutDefinitions b k .equalities)
     unfolding after
-    second-place = place-at start _ (d .1) ∙ ap (λ (x : Cuts). start + 7 * length (x .equalities)) definitions-are
+    second-place = place-at start _ (d .1 .0) ∙ ap (λ (x : Cuts). start + EQUALITY-WORDS * length (x .equalities)) definitions-are
 
     second-next : p .next ≡ cutDefinitions b k .next
-    second-next = place-next start _ (d .1) ∙ ap (λ (x : Cuts). x .next) definitions-are
+    second-next = place-next start _ (d .1 .0) ∙ ap (λ (x : Cuts). x .next) definitions-are
 
     second-few : Few (cutDefinitions b k) (definitionsNodes (moduleOf b .definitions)) (next b)
     unfolding moduleOf
     second-few = few-defs b k (none-yet b k) (moduleOf b .definitions) (next b)
 
-    second-long : length body3 ≡ 753920
+    second-long : length body3 ≡ BODY-BYTES
     second-long = ap length second-written ∙ length-setWords (equalitiesWords (cutDefinitions b k .equalities)) body2 start ∙ first-long
 
     pub room-of-equations : Room (equationsNodes (moduleOf b .equations)) (p .at) (p .next) body3
@@ -213,9 +245,9 @@ module _ {b us ps : List ℕ} (r : Readable b) (c : Classified b us ps) (few : m
       unfolding putEqualities
       third-written = e .0 ∙ ap (λ (x : Cuts). setWords body3 (p .at) (equalitiesWords (x .equalities))) equations-are
 
-      third-place : q .at ≡ p .at + 7 * length (cutEquations b k .equalities)
+      third-place : q .at ≡ p .at + EQUALITY-WORDS * length (cutEquations b k .equalities)
       unfolding after
-      third-place = place-at (p .at) _ (e .1) ∙ ap (λ (x : Cuts). p .at + 7 * length (x .equalities)) equations-are
+      third-place = place-at (p .at) _ (e .1) ∙ ap (λ (x : Cuts). p .at + EQUALITY-WORDS * length (x .equalities)) equations-are
 
       third-next : q .next ≡ cutEquations b k .next
       third-next = place-next (p .at) _ (e .1) ∙ ap (λ (x : Cuts). x .next) equations-are
@@ -223,38 +255,38 @@ module _ {b us ps : List ℕ} (r : Readable b) (c : Classified b us ps) (few : m
       third-few : Few (cutEquations b k) (equationsNodes (moduleOf b .equations)) (cutDefinitions b k .next)
       third-few = few-equations k (defsAfter b k (none-yet b k) (moduleOf b .definitions)) (moduleOf b .equations) (cutDefinitions b k .next)
 
-      third-long : length body4 ≡ 753920
+      third-long : length body4 ≡ BODY-BYTES
       third-long = ap length third-written ∙ length-setWords (equalitiesWords (cutEquations b k .equalities)) body3 (p .at) ∙ second-long
 
-      third-small : q .at ≤ 180288
+      third-small : q .at ≤ PUBLICS + IDS + EQUALITY-WORDS * NODES
       third-small = omega (arith, third-place, second-place, second-few .equalities, third-few .equalities, start-small, nodes-few)
 
       pub room-of-kept : {count : ℕ} → count ≡ definitions b → WordRoom count (q .at) body4
       room-of-kept f = record { long = omega (arith, third-long, third-small, r .definitions-few) }
 
-      pub room-of-nodes : {list : List ℕ} → length list ≡ 262144 → NodeRoom (definitionsNodes (moduleOf b .definitions)) 0 list
+      pub room-of-nodes : {list : List ℕ} → length list ≡ LIST-BYTES → NodeRoom (definitionsNodes (moduleOf b .definitions)) 0 list
       room-of-nodes g = record { long = omega (arith, nodes-few); few = omega (arith, nodes-few) }
 
       -- after the kept definitions, worked out again from no substitutions
-      module _ (body5 list list1 : List ℕ) (m2 : List ℕ) (y : substOf m2 ≡ none-yet b k) (o : Kept) (long-list : length list ≡ 262144) (m3 : List ℕ) (w : Keeps b k (moduleOf b .definitions) (q .at) 0 m2 body4 list m3 body5 list1 o) where
+      module _ (body5 list list1 m2 m3 : List ℕ) (y : m2 ≡ replicate (length m1) 0) (o : Kept) (w : KeptLeave b k (q .at) m2 m3 body4 body5 list list1 o) where
         kept-are : keptOf b k (substOf m2) (moduleOf b .definitions) ≡ keptDefinitions b k
-        kept-are = ap (λ (x : Substitutions). keptOf b k x (moduleOf b .definitions)) y
+        kept-are = ap (λ (x : Substitutions). keptOf b k x (moduleOf b .definitions)) (ap substOf (cleared-all m1 second-words y) ∙ none-is)
 
         fourth-written : body5 ≡ setWords body4 (q .at) (keptWords 0 (keptDefinitions b k))
         unfolding putKept
-        fourth-written = w .body-is ∙ ap (λ (x : List Definition). setWords body4 (q .at) (keptWords 0 x)) kept-are
+        fourth-written = w .0 ∙ ap (λ (x : List Definition). setWords body4 (q .at) (keptWords 0 x)) kept-are
 
         list-written : list1 ≡ setWords list 0 (keptNodes 0 (keptDefinitions b k))
         unfolding putNodes
-        list-written = w .list-is ∙ ap (λ (x : List Definition). setWords list 0 (keptNodes 0 x)) kept-are
+        list-written = w .1 .0 ∙ ap (λ (x : List Definition). setWords list 0 (keptNodes 0 x)) kept-are
 
-        fourth-place : o .at ≡ q .at + 2 * length (keptDefinitions b k)
+        fourth-place : o .at ≡ q .at + KEPT-WORDS * length (keptDefinitions b k)
         unfolding keptFrom
-        fourth-place = ap (λ (x : Kept). x .at) (w .answer-is) ∙ ap (λ (x : List Definition). q .at + 2 * length x) kept-are
+        fourth-place = ap (λ (x : Kept). x .at) (w .1 .1 .0) ∙ ap (λ (x : List Definition). q .at + KEPT-WORDS * length x) kept-are
 
         list-place : o .nodes ≡ definitionsNodes (keptDefinitions b k)
         unfolding keptFrom
-        list-place = omega (arith, ap (λ (x : Kept). x .nodes) (w .answer-is) ∙ ap (λ (x : List Definition). 0 + definitionsNodes x) kept-are)
+        list-place = omega (arith, ap (λ (x : Kept). x .nodes) (w .1 .1 .0) ∙ ap (λ (x : List Definition). 0 + definitionsNodes x) kept-are)
 
         provers-are : proversOf b ≡ idsFrom (marked ps) 0 (next b)
         unfolding proversOf
@@ -262,7 +294,7 @@ module _ {b us ps : List ℕ} (r : Readable b) (c : Classified b us ps) (few : m
 
         publics-long : length (moduleOf b .publics) ≡ publics b
         unfolding moduleOf
-        publics-long = length-rows (λ j. wordAt b (6 + j)) (publics b) 0
+        publics-long = length-rows (publicAt b) (publics b) 0
 
         lists-written : body2 ≡ setWords body 0 (moduleOf b .publics ++ proversOf b)
         lists-written = l .written ∙ ap (λ (x : List ℕ). setWords body 0 (moduleOf b .publics ++ x)) (sym provers-are)
@@ -287,47 +319,16 @@ module _ {b us ps : List ℕ} (r : Readable b) (c : Classified b us ps) (few : m
         pub body-same : length body5 ≡ length body
         body-same = ap length body-written ∙ length-setWords (bodyWords (parts b k)) body 0
 
-        abbrev the-built : Built
-        the-built = record { next = q .next; start = start; equalities = q .at; kept = o .at; nodes = o .nodes }
-
         both-long : length (cutDefinitions b k .equalities ++ cutEquations b k .equalities) ≡ length (cutDefinitions b k .equalities) + length (cutEquations b k .equalities)
         both-long = length-append (cutDefinitions b k .equalities) (cutEquations b k .equalities)
 
-        words-long : length (bodyWords (parts b k)) ≡ o .at
-        unfolding bodyWords
-        words-long =
-            simp length-append
-            (omega (arith, fourth-place, third-place, second-place, start-is, both-long, length-equalities (cutDefinitions b k .equalities ++ cutEquations b k .equalities), length-kept (keptDefinitions b k) 0))
-
-        kept-few-nodes : definitionsNodes (keptDefinitions b k) ≤ 16384
-        kept-few-nodes = omega (arith, kept-nodes-few b k, nodes-few)
-
-        kept-few-words : length (keptDefinitions b k) ≤ 4096
-        kept-few-words = omega (arith, kept-count-few b k, definitions-long, r .definitions-few)
-          where
-            definitions-long : length (moduleOf b .definitions) ≡ definitions b
-            definitions-long = definitions-count b
-
-        pub fits : Fitting the-built (publics b) body5 list1
-        fits =
-            record {
-              publics-first = omega (arith, l .place);
-              start-first = omega (arith, third-place, second-place);
-              equalities-first = omega (arith, fourth-place);
-              body-long = omega (arith, body-same ∙ long, fourth-place, third-small, kept-few-words);
-              list-long = omega (arith, ap length list-written ∙ length-setWords (keptNodes 0 (keptDefinitions b k)) list 0 ∙ long-list, list-place, kept-few-nodes);
-              kept-small = omega (arith, fourth-place, third-small, kept-few-words);
-              nodes-small = omega (arith, list-place, kept-few-nodes);
-            }
-
-        pub made : Made (parts b k) the-built body5 list1
-        made =
-            record {
-              next-is = third-next;
-              start-is = start-is;
-              equalities-is = omega (arith, third-place, second-place, both-long);
-              kept-is = fourth-place;
-              nodes-is = list-place;
-              body-is = taken (bodyWords (parts b k)) body (4 * o .at) body-written (omega (arith, words-long)) (omega (arith, long, fourth-place, third-small, kept-few-words));
-              list-is = taken (keptNodes 0 (keptDefinitions b k)) list (16 * o .nodes) list-written (omega (arith, list-place, length-kept-nodes (keptDefinitions b k) 0)) (omega (arith, long-list, list-place, kept-few-nodes));
-            }
+        -- THE RECORD IS BUILT: the numbers, the body and the list
+        pub built : (record { next = q .next; start = start; equalities = q .at; kept = o .at; nodes = o .nodes } ≡ builtOf (parts b k)) ×
+            ((body5 ≡ putBody body (parts b k)) × (list1 ≡ putList list (parts b k)))
+        unfolding builtOf putBody putList
+        built =
+            let e : q .at ≡ length (moduleOf b .publics) + length (proversOf b) + EQUALITY-WORDS * length
+            (cutDefinitions b k .equalities ++ cutEquations b k .equalities) = omega (arith, third-place, second-place, start-is, both-long) in
+            let f : o .at ≡ length (moduleOf b .publics) + length (proversOf b) + EQUALITY-WORDS * length
+            (cutDefinitions b k .equalities ++ cutEquations b k .equalities) + KEPT-WORDS * length (keptDefinitions b k) = omega (arith, fourth-place, e) in
+            (built-same third-next start-is e f list-place, (body-written, list-written))

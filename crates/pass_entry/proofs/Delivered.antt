@@ -11,14 +11,15 @@ use Rattle.words.specs.Words.{setWords, bytesOf}
 use Rattle.words.proofs.Laws.{setWords-bytes, bytesOf-append, length-bytesOf}
 use Rattle.flat.specs.Record.{pick}
 use Rattle.constraint.specs.Trees.{ConstraintModule}
-use Rattle.constraint.specs.Record.{headerWords, constraintWords, constraintBytes, equalitiesWords, keptWords, keptNodes}
+use Rattle.constraint.specs.Record.{EQUALITY-WORDS, KEPT-WORDS, headerWords, constraintWords, constraintBytes, equalitiesWords, keptWords, keptNodes}
 use Rattle.flat.specs.Trees.{definitionsNodes}
 use Rattle.constraint.proofs.Lengths.{length-bytes}
 use Rattle.pass_trees.specs.Passes.{cut}
 use Rattle.pass_entry.specs.declared.Answer.the-variants.{Written, Refused}
+use Rattle.pass_entry.specs.declared.Need.{Need}
 use Rattle.pass_entry.specs.declared.body.Built.{Built}
-use Rattle.pass_entry.specs.Body.{bodyWords, Made}
-use Rattle.pass_entry.specs.Cut.{answerFor, outputFor}
+use Rattle.pass_entry.specs.Body.{bodyWords, builtOf, Made}
+use Rattle.pass_entry.specs.Cut.{answerFor, outputFor, needOf}
 
 -- ---- one piece behind another
 
@@ -69,31 +70,51 @@ module _ (c : ConstraintModule) (built : Built) (body list : List ℕ) (made : M
   unfolding answerFor outputFor pick
   not-delivered out l = let z : length out < length (constraintBytes c) = omega (arith, size-is) in (rw (lt-leb _ _ z), rw (lt-leb _ _ z))
 
-  header-is : (publics : ℕ) → publics ≡ length (c .publics) → headerWords (built .next) publics (built .start - publics) ((built .equalities - built .start) / 7) ((built .kept - built .equalities) / 2) (built .nodes) ≡ headerWords (c .next) (length (c .publics)) (length (c .provers)) (length (c .equalities)) (length (c .kept)) (definitionsNodes (c .kept))
-  header-is publics e =
-      let z1 : built .start - publics ≡ length (c .provers) = omega (arith, made .start-is) in
-      let z2 : (built .equalities - built .start) / 7 ≡ length (c .equalities) = omega (arith, made .equalities-is) in
-      let z3 : (built .kept - built .equalities) / 2 ≡ length (c .kept) = omega (arith, made .kept-is) in
-      let z0 = made .next-is in
-      let z4 = made .nodes-is in
-      cc
+  module _ (publics equalities : ℕ) (e : publics ≡ length (c .publics)) (q : equalities ≡ (built .equalities - built .start) / EQUALITY-WORDS) where
+    -- the header as the code has it
+    abbrev header : List ℕ
+    header = headerWords (built .next) publics (built .start - publics) equalities ((built .kept - built .equalities) / KEPT-WORDS) (built .nodes)
 
-  pub delivered : (publics : ℕ) (out out1 out2 out3 : List ℕ) → publics ≡ length (c .publics) → 24 + 4 * built .kept + 16 * built .nodes ≤ length out → 4 * built .kept ≤ length body → out1 ≡ setWords out 0 (headerWords (built .next) publics (built .start - publics) ((built .equalities - built .start) / 7) ((built .kept - built .equalities) / 2) (built .nodes)) → out2 ≡ paste out1 24 body (4 * built .kept) → out3 ≡ paste out2 (24 + 4 * built .kept) list (16 * built .nodes) → (Written (24 + 4 * built .kept + 16 * built .nodes) ≡ answerFor (length out) (cut c)) × (out3 ≡ outputFor out (cut c))
-  unfolding answerFor outputFor pick
-  delivered publics out out1 out2 out3 e l m e1 e2 e3 =
-      let z : length (constraintBytes c) ≤ length out = omega (arith, size-is) in (
-        rw (le-leb _ _ z) (ap Written (sym size-is)),
-        rw (le-leb _ _ z) (whole ∙ ap (λ (n : ℕ). constraintBytes c ++ drop n out) (sym size-is)),
-      )
-    where
-      h : List ℕ
-      h = headerWords (built .next) publics (built .start - publics) ((built .equalities - built .start) / 7) ((built .kept - built .equalities) / 2) (built .nodes)
+    header-is : header ≡ headerWords (c .next) (length (c .publics)) (length (c .provers)) (length (c .equalities)) (length (c .kept)) (definitionsNodes (c .kept))
+    header-is =
+        let z1 : built .start - publics ≡ length (c .provers) = omega (arith, made .start-is) in
+        let z2 : equalities ≡ length (c .equalities) = omega (arith, made .equalities-is) in
+        let z3 : (built .kept - built .equalities) / KEPT-WORDS ≡ length (c .kept) = omega (arith, made .kept-is) in
+        let z0 = made .next-is in
+        let z4 = made .nodes-is in
+        cc
 
-      front : out1 ≡ bytesOf h ++ drop 24 out
-      front = e1 ∙ front-is h out (header-long _ _ _ _ _ _) (omega arith)
+    pub delivered : (size : ℕ) (out out1 out2 out3 : List ℕ) → size ≡ 24 + 4 * built .kept + 16 * built .nodes → size ≤ length out → 4 * built .kept ≤ length body →
+        out1 ≡ setWords out 0 header → out2 ≡ paste out1 24 body (4 * built .kept) → out3 ≡ paste out2 (24 + 4 * built .kept) list (16 * built .nodes) →
+        (Written size ≡ answerFor (length out) (cut c)) × (out3 ≡ outputFor out (cut c))
+    unfolding answerFor outputFor pick
+    delivered size out out1 out2 out3 s l m e1 e2 e3 =
+        let z : length (constraintBytes c) ≤ length out = omega (arith, size-is) in (
+          rw (le-leb _ _ z) (ap Written (s ∙ sym size-is)),
+          rw (le-leb _ _ z) (whole ∙ ap (λ (n : ℕ). constraintBytes c ++ drop n out) (sym size-is)),
+        )
+      where
+        front : out1 ≡ bytesOf header ++ drop 24 out
+        front = e1 ∙ front-is header out (header-long _ _ _ _ _ _) (omega arith)
 
-      whole : out3 ≡ constraintBytes c ++ drop (24 + 4 * built .kept + 16 * built .nodes) out
-      whole =
-          three (bytesOf h) out body list out1 out2 out3 24 (4 * built .kept) (16 * built .nodes) (length-bytesOf h ∙ ap (λ (n : ℕ). 4 * n) (header-long _ _ _ _ _ _)) m front e2 e3
-          ∙ ap (λ (x : List ℕ). x ++ drop (24 + 4 * built .kept + 16 * built .nodes) out)
-          (ap₂ (λ (x y : List ℕ). x ++ y) (ap₂ (λ (x y : List ℕ). bytesOf x ++ y) (header-is publics e) (made .body-is)) (made .list-is) ∙ sym (in-parts c))
+        header-bytes : length (bytesOf header) ≡ 24
+        header-bytes = length-bytesOf header ∙ ap (λ (n : ℕ). 4 * n) (header-long _ _ _ _ _ _)
+
+        whole : out3 ≡ constraintBytes c ++ drop (24 + 4 * built .kept + 16 * built .nodes) out
+        whole =
+            three (bytesOf header) out body list out1 out2 out3 24 (4 * built .kept) (16 * built .nodes) header-bytes m front e2 e3
+            ∙ ap (λ (x : List ℕ). x ++ drop (24 + 4 * built .kept + 16 * built .nodes) out)
+            (ap₂ (λ (x y : List ℕ). x ++ y) (ap₂ (λ (x y : List ℕ). bytesOf x ++ y) header-is (made .body-is)) (made .list-is) ∙ sym (in-parts c))
+
+-- what it needs, by the numbers that were built
+pub needs-numbers : (c : ConstraintModule) {x : Built} {equalities bytes : ℕ} → x ≡ builtOf c → equalities ≡ (x .equalities - x .start) / EQUALITY-WORDS →
+    bytes ≡ 24 + 4 * x .kept + 16 * x .nodes → Need.Fits equalities bytes ≡ needOf (cut c)
+unfolding builtOf needOf
+needs-numbers c {x} {equalities} {bytes} q e s =
+    let start = ap (λ (y : Built). y .start) q in
+    let after = ap (λ (y : Built). y .equalities) q in
+    let kept = ap (λ (y : Built). y .kept) q in
+    let nodes = ap (λ (y : Built). y .nodes) q in
+    let e1 : equalities ≡ length (c .equalities) = omega (arith, start, after) in
+    let s1 : bytes ≡ length (constraintBytes c) = omega (arith, length-bytes c, kept, nodes) in
+    ap₂ Need.Fits e1 s1

@@ -1,4 +1,5 @@
 pub mod Turns
 pub mod Delivered
 pub mod Building
+pub mod Fits
 pub mod Answers

@@ -2,29 +2,33 @@
 use Prim.Native.Nat.{ℕ, _+_, _*_, _≤_}
 use mathlib.Core.Path.{_≡_}
 use mathlib.Core.List.{List, _++_}
+use mathlib.Core.Bool.{_&&_}
 use lib.ListN.{length, take, replicate}
-use Rattle.words.specs.Words.{bytesOf}
+use Rattle.words.specs.Words.{bytesOf, setWords}
 use Rattle.constraint.specs.Trees.{ConstraintModule}
-use Rattle.flat.specs.Trees.{definitionsNodes}
-use Rattle.constraint.specs.Record.{equalitiesWords, keptWords, keptNodes}
+use Rattle.flat.specs.Trees.{FlatModule, definitionsNodes}
+use Rattle.flat.specs.Record.{pick}
+use Rattle.pass_trees.specs.Passes.{Outcome, cut, refused, passes, counted, cuttableDefs, cuttableEquations}
+use Rattle.constraint.specs.Record.{EQUALITY-WORDS, KEPT-WORDS, equalitiesWords, keptWords, keptNodes}
 use Rattle.pass_entry.specs.declared.body.Built.{Built}
-use Rattle.records.specs.FlatRecord.{NODES}
+use Rattle.pass_entry.specs.declared.body.Passed.{Passed}
+use Rattle.records.specs.FlatRecord.{IDS, LISTED, NODES, PUBLICS}
+use Rattle.records.specs.Kinds.{NODE-WORDS}
 
 -- the most that a flat record can give: publics, prover ids, an equality for each node, kept definitions; and the nodes of these
 abbrev pub BODY-WORDS : ℕ
-BODY-WORDS = 188480
+BODY-WORDS = PUBLICS + IDS + EQUALITY-WORDS * NODES + KEPT-WORDS * LISTED
 
 abbrev pub BODY-BYTES : ℕ
-BODY-BYTES = 753920
+BODY-BYTES = 4 * BODY-WORDS
 
 abbrev pub LIST-BYTES : ℕ
-LIST-BYTES = 262144
+LIST-BYTES = 4 * (NODE-WORDS * NODES)
 
--- 64 publics, 65,536 prover ids, 7 words for each of 16,384 equalities, 2 for each of 4,096 kept definitions
+-- the lists before anything is written to them
 unfoldable pub noBody : List ℕ
 noBody = replicate BODY-BYTES 0
 
--- 4 words for each of 16,384 nodes
 unfoldable pub noList : List ℕ
 noList = replicate LIST-BYTES 0
 
@@ -32,12 +36,37 @@ noList = replicate LIST-BYTES 0
 unfoldable pub bodyWords : ConstraintModule → List ℕ
 bodyWords c = c .publics ++ (c .provers ++ (equalitiesWords (c .equalities) ++ keptWords 0 (c .kept)))
 
+-- the numbers that say where its lists stand in the body: the next id, the words up to the equalities, up to the kept definitions and in all, the nodes
+unfoldable pub builtOf : ConstraintModule → Built
+builtOf c =
+    let start : ℕ = length (c .publics) + length (c .provers) in
+    let equalities : ℕ = start + EQUALITY-WORDS * length (c .equalities) in
+    record { next = c .next; start = start; equalities = equalities; kept = equalities + KEPT-WORDS * length (c .kept); nodes = definitionsNodes (c .kept) }
+
+-- the two lists with a constraint module at their front
+unfoldable pub putBody : List ℕ → ConstraintModule → List ℕ
+putBody body c = setWords body 0 (bodyWords c)
+
+unfoldable pub putList : List ℕ → ConstraintModule → List ℕ
+putList list c = setWords list 0 (keptNodes 0 (c .kept))
+
+-- what the passes leave of a flat module: the numbers where it is cut, else the refusal; and the lists, which stay untouched at 22
+unfoldable pub passedOf : Outcome → Passed
+passedOf (cut c) = Passed.Made (builtOf c)
+passedOf (refused n) = Passed.Refused n
+
+unfoldable pub bodyAfter : List ℕ → FlatModule → List ℕ
+bodyAfter body f = pick (cuttableDefs (counted f) && cuttableEquations (f .equations)) (putBody body (passes f)) body
+
+unfoldable pub listAfter : List ℕ → FlatModule → List ℕ
+listAfter list f = pick (cuttableDefs (counted f) && cuttableEquations (f .equations)) (putList list (passes f)) list
+
 -- two lists that hold a constraint module, and the numbers that say so
 pub record Made (c : ConstraintModule) (built : Built) (body list : List ℕ) : Type 0 where
   pub next-is : built .next ≡ c .next
   pub start-is : built .start ≡ length (c .publics) + length (c .provers)
-  pub equalities-is : built .equalities ≡ built .start + 7 * length (c .equalities)
-  pub kept-is : built .kept ≡ built .equalities + 2 * length (c .kept)
+  pub equalities-is : built .equalities ≡ built .start + EQUALITY-WORDS * length (c .equalities)
+  pub kept-is : built .kept ≡ built .equalities + KEPT-WORDS * length (c .kept)
   pub nodes-is : built .nodes ≡ definitionsNodes (c .kept)
   pub body-is : take (4 * built .kept) body ≡ bytesOf (bodyWords c)
   pub list-is : take (16 * built .nodes) list ≡ bytesOf (keptNodes 0 (c .kept))

@@ -1,4 +1,4 @@
--- What `cut` answers, and what it leaves in the output. For a reader with document 01, "Constraint record" and "Numbers by place of the check", beside it.
+-- What `cut` and `measure` answer, and what `cut` leaves in the output. For a reader with document 01, "Constraint record" and "Numbers by place of the check", beside it.
 use Prim.Native.Nat.{ℕ}
 use mathlib.Core.List.{List, _++_}
 use lib.ListN.{length, drop}
@@ -8,6 +8,7 @@ use Rattle.constraint.specs.Record.{constraintBytes}
 use Rattle.pass_trees.specs.Passes.{Outcome, cut, refused, cutOf}
 use Rattle.pass_entry.specs.declared.Answer.{Answer}
 use Rattle.pass_entry.specs.declared.Answer.the-variants.{Written, Refused}
+use Rattle.pass_entry.specs.declared.Need.{Need}
 
 -- "lent flat record, before the passes: 20, 21", then 22 and 32
 unfoldable pub cutRead : Read → Outcome
@@ -26,3 +27,8 @@ answerFor room (refused n) = Refused n
 unfoldable pub outputFor : List ℕ → Outcome → List ℕ
 outputFor out (cut c) = pick (leb (length (constraintBytes c)) (length out)) (constraintBytes c ++ drop (length (constraintBytes c)) out) out
 outputFor out (refused n) = out
+
+-- the equalities and the bytes of the constraint record, before any output is lent
+unfoldable pub needOf : Outcome → Need
+needOf (cut c) = Need.Fits (length (c .equalities)) (length (constraintBytes c))
+needOf (refused n) = Need.Refused n

@@ -1,7 +1,9 @@
 // The lists that the body takes over as they are, and copies of bytes.
+use constraint::EQUALITY_WORDS;
+use constraint::KEPT_WORDS;
+use flat::entries::public_at;
 use pass_classify::Provers;
 use records::NODE_WORDS;
-use records::flat_record::HEADER;
 use records::flat_record::ID_COUNT;
 use records::flat_record::LISTED;
 use records::flat_record::NODES;
@@ -10,29 +12,29 @@ ghost use mathlib.Core.Path.{_≡_};
 ghost use Prim.Native.Nat.{_+_, _*_, _≤_, _<_};
 ghost use lib.ListN.{length};
 ghost use lib.Seq.{paste};
-ghost use Rattle.words.specs.Words.{wordAt, setWords};
-ghost use Rattle.flat.specs.Record.{rows};
+ghost use Rattle.words.specs.Words.{setWords};
+ghost use Rattle.flat.specs.Record.{publicAt, rows};
 ghost use Rattle.pass_trees.specs.Passes.{idsFrom};
 ghost use Rattle.pass_classify.specs.Arrays.{marked};
 ghost use Rattle.pass_entry.specs.Body.{noBody, noList};
-ghost use Rattle.records.specs.FlatRecord.{IDS};
+ghost use Rattle.records.specs.FlatRecord.{HEADER, IDS};
 
 // The most that a flat record can give: publics, prover ids, an equality for each node, kept definitions; and the nodes of these.
-pub const BODY_BYTES: usize = 4 * (PUBLICS + ID_COUNT + 7 * NODES + 2 * LISTED);
+pub const BODY_BYTES: usize = 4
+    * (PUBLICS + ID_COUNT + EQUALITY_WORDS * NODES + KEPT_WORDS * LISTED);
 
 pub const LIST_BYTES: usize = 4 * NODE_WORDS * NODES;
 
 use words::put_word;
-use words::word_at;
 
-// The n public ids of the record, which start at word 6, at the front of the body.
+// The n public ids of the record, at the front of the body.
 pub fn put_publics(s: &[u8], n: usize, body: &mut [u8])
-    requires { ⌜ (4 * (6 + n) ≤ length (now s)) × (4 * n ≤ length (now body)) ⌝ }
-    ensures { λ _. ⌜ now (body .exit) ≡ setWords (now (body .entry)) 0 (rows n 0 (λ k. wordAt (now (s .entry)) (6 + k))) ⌝ }
+    requires { ⌜ (4 * (HEADER + n) ≤ length (now s)) × (4 * n ≤ length (now body)) ⌝ }
+    ensures { λ _. ⌜ now (body .exit) ≡ setWords (now (body .entry)) 0 (rows n 0 (publicAt (now (s .entry)))) ⌝ }
 {
     let mut k = 0usize;
     while k < n {
-        put_word(body, k, word_at(s, HEADER + k));
+        put_word(body, k, public_at(s, k));
         k += 1;
     }
 }

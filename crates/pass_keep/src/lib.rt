@@ -1,9 +1,11 @@
 // The definitions of prover variables, kept uncut with the substitutions made: pairs of id and node in the body, nodes in a list of their own.
+use constraint::KEPT_WORDS;
 use constraint::Term;
 use constraint::operator_number;
 use constraint::put_definition;
 use constraint::put_node;
 use flat::Node;
+use flat::entries::definition_at;
 use pass_classify::NEVER;
 use pass_classify::Provers;
 use pass_classify::Usages;
@@ -16,7 +18,6 @@ use records::kinds::INFIX;
 use records::kinds::NEGATE;
 use records::kinds::VARIABLE;
 use words::unsigned;
-use words::word_at;
 ghost use mathlib.Core.Path.{_≡_};
 ghost use mathlib.Core.List.{[], _∷_};
 ghost use Prim.Native.Nat.{_+_, _<_};
@@ -25,10 +26,10 @@ ghost use Rattle.flat.specs.Trees.{treeNodes, definitionsNodes};
 ghost use Rattle.flat.specs.Record.{tree, moduleOf, definitions as definitionCount, definitionsAt, nodesAt};
 ghost use Rattle.flat.specs.Readable.{Readable, Inside};
 ghost use Rattle.constraint.specs.Record.{nextFrom};
-ghost use Rattle.pass_trees.specs.Passes.{toExpr, copyPropagateExpr};
+ghost use Rattle.pass_trees.specs.Passes.{toExpr, counted, copyPropagateExpr};
 ghost use Rattle.pass_classify.specs.Arrays.{Classified};
-ghost use Rattle.pass_copies.specs.Substituted.{substOf, SUBSTITUTION-WORDS};
-ghost use Rattle.pass_keep.specs.Keeping.{putTree, Keeps, NodeRoom, WordRoom};
+ghost use Rattle.pass_copies.specs.Substituted.{substOf, putDefinitions, SUBSTITUTION-WORDS};
+ghost use Rattle.pass_keep.specs.Keeping.{recordKept, putTree, putKept, putNodes, keptFrom, Keeps, NodeRoom, WordRoom};
 ghost use Rattle.records.specs.FlatRecord.{IDS};
 
 // The node of a term.
@@ -127,7 +128,7 @@ fn keep_def(
     let after = put_tree(s, nodes, k, subs, steps, list, base);
     put_definition(body, at, id, (after - 1) as u32);
     Kept {
-        at: at + 2,
+        at: at + KEPT_WORDS,
         nodes: after,
     }
 }
@@ -148,19 +149,21 @@ pub fn keep_defs(
 ) -> Kept
     requires { ⌜ Readable (now s) × Classified (now s) (now usage) (now provers) × (definitions ≡ definitionsAt (now s)) × (n ≡ definitionCount (now s)) × (nodes ≡ nodesAt (now s)) ⌝ }
     requires { ⌜ (length (now subs) ≡ SUBSTITUTION-WORDS) × WordRoom n at (now body) × NodeRoom (definitionsNodes (moduleOf (now s) .definitions)) 0 (now list) ⌝ }
-    ensures { λ r. ⌜ Keeps (now (s .entry)) steps (moduleOf (now (s .entry)) .definitions) at 0 (now (subs .entry)) (now (body .entry)) (now (list .entry)) (now (subs .exit)) (now (body .exit)) (now (list .exit)) r ⌝ }
+    ensures { λ _. ⌜ now (body .exit) ≡ putKept (now (body .entry)) at 0 (recordKept (now (s .entry)) steps (now (subs .entry))) ⌝ }
+    ensures { λ _. ⌜ now (list .exit) ≡ putNodes (now (list .entry)) 0 (recordKept (now (s .entry)) steps (now (subs .entry))) ⌝ }
+    ensures { λ r. ⌜ r ≡ keptFrom at 0 (recordKept (now (s .entry)) steps (now (subs .entry))) ⌝ }
+    ensures { λ _. ⌜ now (subs .exit) ≡ putDefinitions steps (now (subs .entry)) (counted (moduleOf (now (s .entry)))) ⌝ }
 {
     let mut to = at;
     let mut base = 0usize;
     let mut k = 0usize;
     while k < n {
-        let v = word_at(s, definitions + 2 * k);
-        let node = word_at(s, definitions + 2 * k + 1) as usize;
+        let d = definition_at(s, definitions, k);
         let p = keep_def(
             s,
             nodes,
-            v,
-            node,
+            d.id,
+            d.node,
             usage,
             provers,
             subs,

@@ -5,7 +5,7 @@ use Rattle.flat.proofs.check_flat.Tie as tie
 use native.Mathlib.Omega.{arith}
 use mathlib.Core.Path.{_∙_, sym}
 use borrow.Author.Tests.{not-true, not-false}
-use Rattle.flat.proofs.Answers.{measured-has, laid, is-20, is-21, is-accepted}
+use Rattle.flat.proofs.Answers.{measured-has, is-20, is-21, is-accepted}
 
 measures-requires : tie.Need-measures-requires
 measures-requires c κs = search needs
@@ -17,13 +17,15 @@ layout-of-requires : tie.Need-layout-of-requires
 layout-of-requires c κs = omega (arith, (measured-has _ (sym (c .before .measures .ensures) ∙ not-false _ (c .if1 .left))) .long)
 
 rules-hold-requires : tie.Need-rules-hold-requires
-rules-hold-requires c κs = laid _ (c .before .before .measures .ensures) (not-false _ (c .before .if1 .left)) (c .layout-of .ensures)
+rules-hold-requires c κs =
+    let w = measured-has _ (sym (c .before .before .measures .ensures) ∙ not-false _ (c .before .if1 .left)) in
+    (c .layout-of .ensures, (w .long, w .nodes-few))
 
 returns-2 : tie.Need-returns-2
-returns-2 c = is-21 _ (c .before .before .before .before .measures .ensures) (not-false _ (c .before .before .before .if1 .left)) (c .before .before .layout-of .ensures) (c .before .rules-hold .ensures) (not-true _ (c .if2 .taken))
+returns-2 c = is-21 _ (c .before .before .before .before .measures .ensures) (not-false _ (c .before .before .before .if1 .left)) (c .before .rules-hold .ensures) (not-true _ (c .if2 .taken))
 
 returns-3 : tie.Need-returns-3
-returns-3 c = is-accepted _ (c .before .before .before .before .measures .ensures) (not-false _ (c .before .before .before .if1 .left)) (c .before .before .layout-of .ensures) (c .before .rules-hold .ensures) (not-false _ (c .if2 .left))
+returns-3 c = is-accepted _ (c .before .before .before .before .measures .ensures) (not-false _ (c .before .before .before .if1 .left)) (c .before .rules-hold .ensures) (not-false _ (c .if2 .left))
 
 pub check-flat-spec : {M : Type 1} → statement M
 check-flat-spec =

@@ -38,32 +38,32 @@ count-requires-5 c κs = search needs
 returns-6 : tie.Need-returns-6
 returns-6 c = measured-6 (c .before .before .before .before .before .before .before .before .before .before .before .before .args .s .now) (omega arith) (omega arith) (omega arith) (omega arith) (omega arith) (omega arith)
 
-add-result : tie.Need-add-result
-add-result c = search needs
+add-size : tie.Need-add-size
+add-size c = search needs
 
-add-result-2 : tie.Need-add-result-2
-add-result-2 c = search needs
+add-size-2 : tie.Need-add-size-2
+add-size-2 c = search needs
+
+mul-size : tie.Need-mul-size
+mul-size c = search needs
+
+add-size-3 : tie.Need-add-size-3
+add-size-3 c = search needs
+
+mul-size-2 : tie.Need-mul-size-2
+mul-size-2 c = search needs
+
+add-size-4 : tie.Need-add-size-4
+add-size-4 c = search needs
+
+mul-size-3 : tie.Need-mul-size-3
+mul-size-3 c = search needs
+
+add-size-5 : tie.Need-add-size-5
+add-size-5 c = search needs
 
 mul-result : tie.Need-mul-result
 mul-result c = search needs
-
-add-result-3 : tie.Need-add-result-3
-add-result-3 c = search needs
-
-mul-result-2 : tie.Need-mul-result-2
-mul-result-2 c = search needs
-
-add-result-4 : tie.Need-add-result-4
-add-result-4 c = search needs
-
-mul-result-3 : tie.Need-mul-result-3
-mul-result-3 c = search needs
-
-add-result-5 : tie.Need-add-result-5
-add-result-5 c = search needs
-
-mul-result-4 : tie.Need-mul-result-4
-mul-result-4 c = search needs
 
 returns-7 : tie.Need-returns-7
 returns-7 c = measured-7 (c .before .before .before .before .before .before .before .before .before .before .before .before .args .s .now) _ (omega arith) (omega arith) (omega arith) (omega arith) (omega arith) (omega arith) (omega arith)
@@ -83,13 +83,13 @@ measures-spec =
     returns-5
     count-requires-5
     returns-6
-    add-result
-    add-result-2
+    add-size
+    add-size-2
+    mul-size
+    add-size-3
+    mul-size-2
+    add-size-4
+    mul-size-3
+    add-size-5
     mul-result
-    add-result-3
-    mul-result-2
-    add-result-4
-    mul-result-3
-    add-result-5
-    mul-result-4
     returns-7)

@@ -5,69 +5,56 @@ use Rattle.flat.proofs.rules_hold.Tie as tie
 use native.Mathlib.Omega.{arith}
 use mathlib.Core.Path.{_∙_, sym}
 use borrow.Author.Tests.{not-true, not-false, le-leb, lt-leb}
-use Rattle.flat.specs.Record.{rulesOf}
 use Rattle.flat.proofs.Laws.{and-no, and-on}
-use Rattle.flat.proofs.Answers.{hold-definitions, hold-nodes}
+use Rattle.flat.proofs.Answers.{hold-definitions, hold-nodes, rules-by, laid}
 
 returns : tie.Need-returns
-unfolding rulesOf
-returns c = and-no _ _ (lt-leb _ _ (c .if1 .taken))
+returns c =
+    let tests = and-no _ _ (lt-leb _ _ (c .if1 .taken)) in
+    tests ∙ rules-by _ (c .before .before .pre .0)
 
 all-below-requires : tie.Need-all-below-requires
-all-below-requires c κs = search needs
+all-below-requires c κs = (let pre = c .before .before .pre in laid _ (pre .0) (pre .1 .0) (pre .1 .1)) .0 .0
 
 returns-2 : tie.Need-returns-2
-unfolding rulesOf
-returns-2 c = and-on _ (le-leb _ _ (c .before .before .if1 .left)) (and-no _ _ (sym (c .before .all-below .ensures) ∙ not-true _ (c .if2 .taken)))
-
-add-p : tie.Need-add-p
-add-p c = search needs
+returns-2 c =
+    let tests = and-on _ (le-leb _ _ (c .before .before .if1 .left)) (and-no _ _ (sym (c .before .all-below .ensures) ∙ not-true _ (c .if2 .taken))) in
+    tests ∙ rules-by _ (c .before .before .before .before .pre .0)
 
 all-below-requires-2 : tie.Need-all-below-requires-2
-all-below-requires-2 c κs = search needs
+all-below-requires-2 c κs = (let pre = c .before .before .before .before .pre in laid _ (pre .0) (pre .1 .0) (pre .1 .1)) .0 .1
 
 returns-3 : tie.Need-returns-3
-unfolding rulesOf
-returns-3 c = and-on _ (le-leb _ _ (c .before .before .before .before .if1 .left)) (and-on _ (sym (c .before .before .before .all-below .ensures) ∙ (not-false _ (c .before .before .if2 .left))) (and-no _ _ (sym (c .before .all-below2 .ensures) ∙ not-true _ (c .if3 .taken))))
+returns-3 c =
+    let tests = and-on _ (le-leb _ _ (c .before .before .before .before .if1 .left)) (and-on _ (sym (c .before .before .before .all-below .ensures) ∙ not-false _ (c .before .before .if2 .left)) (and-no _ _ (sym (c .before .all-below2 .ensures) ∙ not-true _ (c .if3 .taken)))) in
+    tests ∙ rules-by _ (c .before .before .before .before .before .before .pre .0)
 
 rises-requires : tie.Need-rises-requires
-rises-requires c κs = search needs
+rises-requires c κs = (let pre = c .before .before .before .before .before .before .pre in laid _ (pre .0) (pre .1 .0) (pre .1 .1)) .0 .1
 
 returns-4 : tie.Need-returns-4
-unfolding rulesOf
-returns-4 c = and-on _ (le-leb _ _ (c .before .before .before .before .before .before .if1 .left)) (and-on _ (sym (c .before .before .before .before .before .all-below .ensures) ∙ (not-false _ (c .before .before .before .before .if2 .left))) (and-on _ (sym (c .before .before .before .all-below2 .ensures) ∙ (not-false _ (c .before .before .if3 .left))) (and-no _ _ (sym (c .before .rises .ensures) ∙ not-true _ (c .if4 .taken)))))
-
-add-d : tie.Need-add-d
-add-d c = search needs
-
-mul-e : tie.Need-mul-e
-mul-e c = search needs
-
-add-e : tie.Need-add-e
-add-e c = search needs
-
-mul-t : tie.Need-mul-t
-mul-t c = search needs
-
-add-t : tie.Need-add-t
-add-t c = search needs
-
-mul-trees-hold : tie.Need-mul-trees-hold
-mul-trees-hold c = search needs
+returns-4 c =
+    let tests = and-on _ (le-leb _ _ (c .before .before .before .before .before .before .if1 .left)) (and-on _ (sym (c .before .before .before .before .before .all-below .ensures) ∙ not-false _ (c .before .before .before .before .if2 .left)) (and-on _ (sym (c .before .before .before .all-below2 .ensures) ∙ not-false _ (c .before .before .if3 .left)) (and-no _ _ (sym (c .before .rises .ensures) ∙ not-true _ (c .if4 .taken))))) in
+    tests ∙ rules-by _ (c .before .before .before .before .before .before .before .before .pre .0)
 
 trees-hold-requires : tie.Need-trees-hold-requires
-trees-hold-requires c κs = search needs
+trees-hold-requires c κs = (let pre = c .before .before .before .before .before .before .before .before .pre in laid _ (pre .0) (pre .1 .0) (pre .1 .1)) .1
 
 returns-5 : tie.Need-returns-5
-unfolding rulesOf
-returns-5 c = and-on _ (le-leb _ _ (c .before .before .before .before .before .before .before .before .if1 .left)) (and-on _ (sym (c .before .before .before .before .before .before .before .all-below .ensures) ∙ (not-false _ (c .before .before .before .before .before .before .if2 .left))) (and-on _ (sym (c .before .before .before .before .before .all-below2 .ensures) ∙ (not-false _ (c .before .before .before .before .if3 .left))) (and-on _ (sym (c .before .before .before .rises .ensures) ∙ (not-false _ (c .before .before .if4 .left))) (and-no _ _ (sym (c .before .trees-hold .ensures) ∙ not-true _ (c .if5 .taken))))))
+returns-5 c =
+    let tests = and-on _ (le-leb _ _ (c .before .before .before .before .before .before .before .before .if1 .left)) (and-on _ (sym (c .before .before .before .before .before .before .before .all-below .ensures) ∙ not-false _ (c .before .before .before .before .before .before .if2 .left)) (and-on _ (sym (c .before .before .before .before .before .all-below2 .ensures) ∙ not-false _ (c .before .before .before .before .if3 .left)) (and-on _ (sym (c .before .before .before .rises .ensures) ∙ not-false _ (c .before .before .if4 .left)) (and-no _ _ (sym (c .before .trees-hold .ensures) ∙ not-true _ (c .if5 .taken)))))) in
+    tests ∙ rules-by _ (c .before .before .before .before .before .before .before .before .before .before .pre .0)
 
 in-order-requires : tie.Need-in-order-requires
-in-order-requires c κs = ((hold-definitions _ _ _ _ _ _ _ _ (sym (c .before .trees-hold .ensures) ∙ (not-false _ (c .if5 .left))), hold-nodes _ _ _ _ _ _ _ _ (sym (c .before .trees-hold .ensures) ∙ (not-false _ (c .if5 .left)))), (omega (arith, c .before .before .before .before .before .before .before .before .before .before .pre .0), (omega (arith, c .before .before .before .before .before .before .before .before .before .before .pre .0), c .before .before .before .before .before .before .before .before .if1 .left)))
+in-order-requires c κs =
+    let hold = sym (c .before .trees-hold .ensures) ∙ not-false _ (c .if5 .left) in
+    let stand = (let pre = c .before .before .before .before .before .before .before .before .before .before .pre in laid _ (pre .0) (pre .1 .0) (pre .1 .1)) .1 in
+    ((hold-definitions _ _ _ _ _ _ _ _ hold, hold-nodes _ _ _ _ _ _ _ _ hold), (stand .1 .0, (stand .0 .0, c .before .before .before .before .before .before .before .before .if1 .left)))
 
 returns-6 : tie.Need-returns-6
-unfolding rulesOf
-returns-6 c = and-on _ (le-leb _ _ (c .before .before .before .before .before .before .before .before .before .if1 .left)) (and-on _ (sym (c .before .before .before .before .before .before .before .before .all-below .ensures) ∙ (not-false _ (c .before .before .before .before .before .before .before .if2 .left))) (and-on _ (sym (c .before .before .before .before .before .before .all-below2 .ensures) ∙ (not-false _ (c .before .before .before .before .before .if3 .left))) (and-on _ (sym (c .before .before .before .before .rises .ensures) ∙ (not-false _ (c .before .before .before .if4 .left))) (and-on _ (sym (c .before .before .trees-hold .ensures) ∙ (not-false _ (c .before .if5 .left))) (c .in-order .ensures)))))
+returns-6 c =
+    let tests = and-on _ (le-leb _ _ (c .before .before .before .before .before .before .before .before .before .if1 .left)) (and-on _ (sym (c .before .before .before .before .before .before .before .before .all-below .ensures) ∙ not-false _ (c .before .before .before .before .before .before .before .if2 .left)) (and-on _ (sym (c .before .before .before .before .before .before .all-below2 .ensures) ∙ not-false _ (c .before .before .before .before .before .if3 .left)) (and-on _ (sym (c .before .before .before .before .rises .ensures) ∙ not-false _ (c .before .before .before .if4 .left)) (and-on _ (sym (c .before .before .trees-hold .ensures) ∙ not-false _ (c .before .if5 .left)) (c .in-order .ensures))))) in
+    tests ∙ rules-by _ (c .before .before .before .before .before .before .before .before .before .before .before .pre .0)
 
 pub rules-hold-spec : {M : Type 1} → statement M
 rules-hold-spec =
@@ -76,17 +63,10 @@ rules-hold-spec =
     returns
     all-below-requires
     returns-2
-    add-p
     all-below-requires-2
     returns-3
     rises-requires
     returns-4
-    add-d
-    mul-e
-    add-e
-    mul-t
-    add-t
-    mul-trees-hold
     trees-hold-requires
     returns-5
     in-order-requires

@@ -8,13 +8,13 @@ element-copy-out-if1 : tie.Need-element-copy-out-if1
 element-copy-out-if1 c = search needs
 
 returns : tie.Need-returns
-returns c = way-unused (c .before .before .before .before .pre .1) _ _ _ _ _ _ _ (c .if1 .taken) (c .before .before .before .before .pre .3)
+returns c = way-unused (c .before .before .before .before .pre .1) _ _ _ _ _ _ _ (c .if1 .taken)
 
 element-copy-out-if2 : tie.Need-element-copy-out-if2
 element-copy-out-if2 c = search needs
 
 returns-2 : tie.Need-returns-2
-returns-2 c = way-prover (c .before .before .before .before .before .before .pre .1) _ _ _ _ _ _ _ (c .before .before .if1 .left) (c .if2 .taken) (c .before .before .before .before .before .before .pre .3)
+returns-2 c = way-prover (c .before .before .before .before .before .before .pre .1) _ _ _ _ _ _ _ (c .before .before .if1 .left) (c .if2 .taken)
 
 flatten-expr-to-3ac-requires : tie.Need-flatten-expr-to-3ac-requires
 flatten-expr-to-3ac-requires c κs = search needs

@@ -22,44 +22,45 @@ abbrev μ-loop : tie.MeasureT-loop
 loop-holds : tie.Need-loop-holds Inv-loop μ-loop
 loop-holds c = (record { count = c .before .before .pre .2; place = c .before .before .pre .1; trees = c .before .before .pre .3; within = omega arith }, equations-start _ _ _ _ _ _, room-equations-start _ (c .before .before .pre .4), refl)
 
-mul-word-at : tie.Need-mul-word-at Inv-loop μ-loop
-mul-word-at c = omega (arith, c .before .before .before .before .pre .0 .long, c .before .before .before .before .pre .0 .nodes-few, c .before .loop .inv .0 .count, c .before .loop .inv .0 .place, c .loop-test .taken)
-
-add-word-at : tie.Need-add-word-at Inv-loop μ-loop
-add-word-at c = omega (arith, c .before .before .before .before .pre .0 .long, c .before .before .before .before .pre .0 .nodes-few, c .before .loop .inv .0 .count, c .before .loop .inv .0 .place, c .loop-test .taken)
-
-word-at-requires : tie.Need-word-at-requires Inv-loop μ-loop
-word-at-requires c κs = omega (arith, c .before .before .before .before .pre .0 .long, c .before .before .before .before .pre .0 .nodes-few, c .before .loop .inv .0 .count, c .before .loop .inv .0 .place, c .loop-test .taken)
-
-cast-left : tie.Need-cast-left Inv-loop μ-loop
-cast-left c = omega (arith, c .before .before .before .before .before .pre .0 .long, c .before .before .before .before .before .pre .0 .nodes-few, c .before .before .loop .inv .0 .count, c .before .before .loop .inv .0 .place, c .before .loop-test .taken)
-
-mul-word-at-2 : tie.Need-mul-word-at-2 Inv-loop μ-loop
-mul-word-at-2 c = omega (arith, c .before .before .before .before .before .pre .0 .long, c .before .before .before .before .before .pre .0 .nodes-few, c .before .before .loop .inv .0 .count, c .before .before .loop .inv .0 .place, c .before .loop-test .taken)
-
-add-word-at-2 : tie.Need-add-word-at-2 Inv-loop μ-loop
-add-word-at-2 c = omega (arith, c .before .before .before .before .before .pre .0 .long, c .before .before .before .before .before .pre .0 .nodes-few, c .before .before .loop .inv .0 .count, c .before .before .loop .inv .0 .place, c .before .loop-test .taken)
-
-add-word-at-3 : tie.Need-add-word-at-3 Inv-loop μ-loop
-add-word-at-3 c = omega (arith, c .before .before .before .before .before .pre .0 .long, c .before .before .before .before .before .pre .0 .nodes-few, c .before .before .loop .inv .0 .count, c .before .before .loop .inv .0 .place, c .before .loop-test .taken)
-
-word-at-requires-2 : tie.Need-word-at-requires-2 Inv-loop μ-loop
-word-at-requires-2 c κs = omega (arith, c .before .before .before .before .before .pre .0 .long, c .before .before .before .before .before .pre .0 .nodes-few, c .before .before .loop .inv .0 .count, c .before .before .loop .inv .0 .place, c .before .loop-test .taken)
-
-cast-right : tie.Need-cast-right Inv-loop μ-loop
-cast-right c = omega (arith, c .before .before .before .before .before .before .pre .0 .long, c .before .before .before .before .before .before .pre .0 .nodes-few, c .before .before .before .loop .inv .0 .count, c .before .before .before .loop .inv .0 .place, c .before .before .loop-test .taken)
+equation-at-requires : tie.Need-equation-at-requires Inv-loop μ-loop
+equation-at-requires c κs =
+    let readable = c .before .before .before .before .pre .0 in
+    omega (arith, readable .long, readable .nodes-few, c .before .loop .inv .0 .count, c .before .loop .inv .0 .place, c .loop-test .taken)
 
 flatten-equation-requires : tie.Need-flatten-equation-requires Inv-loop μ-loop
-flatten-equation-requires c κs = (left-side (c .before .before .before .before .before .before .before .pre .0) (c .before .before .before .before .loop .inv .0) (c .before .before .before .loop-test .taken) (c .before .before .word-at .ensures) (c .before .word-at2 .ensures), right-side (c .before .before .before .before .before .before .before .pre .0) (c .before .before .before .before .loop .inv .0) (c .before .before .before .loop-test .taken) (c .before .before .word-at .ensures) (c .before .word-at2 .ensures), room-equation (c .before .before .before .before .loop .inv .0) (c .before .before .before .before .before .before .before .pre .0) (c .before .before .before .loop-test .taken) (c .before .before .word-at .ensures) (c .before .word-at2 .ensures) (c .before .before .before .before .loop .inv .2))
+flatten-equation-requires c κs =
+    let r = c .before in
+    let l = r .before .before in
+    let readable = l .before .before .before .pre .0 in
+    let o = l .loop .inv .0 in
+    let more = r .before .loop-test .taken in
+    let read = r .equation-at .ensures in
+    (left-side readable o more read, right-side readable o more read, room-equation o readable more read (l .loop .inv .2))
 
 add-k : tie.Need-add-k Inv-loop μ-loop
-add-k c = omega (arith, c .before .before .before .before .before .before .before .before .before .before .pre .0 .long, c .before .before .before .before .before .before .before .before .before .before .pre .0 .nodes-few, c .before .before .before .before .before .before .before .loop .inv .0 .count, c .before .before .before .before .before .before .before .loop .inv .0 .place, c .before .before .before .before .before .before .loop-test .taken)
+add-k c =
+    let r = c .before .before .before .before in
+    let readable = r .before .before .before .before .before .pre .0 in
+    let o = r .before .before .loop .inv .0 in
+    omega (arith, readable .long, readable .nodes-few, o .count, o .place, r .before .loop-test .taken)
 
 loop-less : tie.Need-loop-less Inv-loop μ-loop
 loop-less c = search needs
 
 loop-again : tie.Need-loop-again Inv-loop μ-loop
-loop-again c = (over-equations-next (c .before .before .before .before .before .before .before .loop .inv .0) (c .before .before .before .before .before .before .loop-test .taken), equations-turn (c .before .before .before .before .before .before .before .loop .inv .0) (c .before .before .before .before .before .before .before .before .before .before .pre .0) (c .before .before .before .before .before .before .loop-test .taken) (c .before .before .before .before .before .word-at .ensures) (c .before .before .before .before .word-at2 .ensures) _ _ _ _ _ (c .before .before .flatten-equation .ensures) _ _ _ (c .before .before .before .before .before .before .before .loop .inv .1), room-equations-turn (c .before .before .before .before .before .before .before .loop .inv .0) (c .before .before .before .before .before .before .before .before .before .before .pre .0) (c .before .before .before .before .before .before .loop-test .taken) (c .before .before .before .before .before .word-at .ensures) (c .before .before .before .before .word-at2 .ensures) _ _ _ _ _ (c .before .before .flatten-equation .ensures) (c .before .before .before .before .before .before .before .loop .inv .2), ap length (c .before .before .flatten-equation .ensures .0) ∙ length-put _ _ _ ∙ c .before .before .before .before .before .before .before .loop .inv .3)
+loop-again c =
+    let r = c .before .before .before .before in
+    let l = r .before .before in
+    let readable = l .before .before .before .pre .0 in
+    let o = l .loop .inv .0 in
+    let more = r .before .loop-test .taken in
+    let read = r .equation-at .ensures in
+    let cut = c .before .before .flatten-equation .ensures in (
+      over-equations-next o more,
+      equations-turn o readable more read _ _ _ _ _ cut _ _ _ (l .loop .inv .1),
+      room-equations-turn o readable more read _ _ _ _ _ cut (l .loop .inv .2),
+      ap length (cut .0) ∙ length-put _ _ _ ∙ l .loop .inv .3,
+    )
 
 same-length : tie.Need-same-length Inv-loop μ-loop
 same-length c = c .before .loop .inv .3
@@ -74,15 +75,7 @@ flatten-equations-spec =
     Inv-loop
     μ-loop
     loop-holds
-    mul-word-at
-    add-word-at
-    word-at-requires
-    cast-left
-    mul-word-at-2
-    add-word-at-2
-    add-word-at-3
-    word-at-requires-2
-    cast-right
+    equation-at-requires
     flatten-equation-requires
     add-k
     loop-less

@@ -4,12 +4,11 @@ use Rattle.pass_classify.proofs.add_witnesses.Tie as tie
 use borrow.Author.Needs.{needs}
 use native.Mathlib.Omega.{arith}
 use Prim.Native.Nat.{_-_, _≤_}
-use mathlib.Core.Path.{_≡_}
-use lib.ListN.{length}
+use Rattle.pass_classify.specs.Arrays.{Codes}
 use Rattle.pass_classify.proofs.Turns.{WitnessesTo, witnesses-start, witnesses-turn, witnesses-end}
 
 abbrev Inv-loop : tie.InvT-loop
-Inv-loop usage next provers₀ v₀ provers v = (v ≤ next) × ((length provers ≡ 65536) × WitnessesTo usage provers₀ provers v)
+Inv-loop usage next provers₀ v₀ provers v = (v ≤ next) × (Codes 1 provers × WitnessesTo usage provers₀ provers v)
 
 abbrev μ-loop : tie.MeasureT-loop
 μ-loop usage next provers₀ v₀ provers v = next - v
@@ -27,7 +26,7 @@ loop-less : tie.Need-loop-less Inv-loop μ-loop
 loop-less c = search needs
 
 loop-again : tie.Need-loop-again Inv-loop μ-loop
-loop-again c = (omega arith, (c .add-witness .ensures .long, witnesses-turn _ _ _ _ (c .before .before .before .loop .inv .1 .1) (c .add-witness .ensures)))
+loop-again c = (omega arith, (c .add-witness .ensures .codes, witnesses-turn _ _ _ _ (c .before .before .before .loop .inv .1 .1) (c .add-witness .ensures)))
 
 returns : tie.Need-returns Inv-loop μ-loop
 returns c = witnesses-end _ _ _ _ _ (omega (arith, c .loop-test .left)) (c .before .loop .inv .1 .1) (c .before .loop .inv .1 .0)

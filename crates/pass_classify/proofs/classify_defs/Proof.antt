@@ -3,26 +3,29 @@ use borrow.Author.Needs.{needs}
 use Rattle.pass_classify.proofs.classify_defs.Statement.{statement}
 use Rattle.pass_classify.proofs.classify_defs.Tie as tie
 use native.Mathlib.Omega.{arith}
+use mathlib.Core.Path.{ap, _∙_}
+use Rattle.pass_classify.specs.Arrays.{marked}
+use Rattle.pass_classify.proofs.Arrays.{none-codes, none-marked}
 use Rattle.pass_classify.proofs.Lists.{layout-next}
 use Rattle.pass_classify.proofs.Whole.{provers-marked, classified-whole}
 
 mark-provers-requires : tie.Need-mark-provers-requires
-mark-provers-requires c κs = search needs
+mark-provers-requires c κs = (c .before .before .pre .0, none-codes 1 (c .before .before .pre .2))
 
 mark-equations-requires : tie.Need-mark-equations-requires
-mark-equations-requires c κs = search needs
+mark-equations-requires c κs = (c .before .before .before .before .pre .0, none-codes 2 (c .before .before .before .before .pre .1))
 
 mark-definitions-requires : tie.Need-mark-definitions-requires
-mark-definitions-requires c κs = (c .before .before .before .before .before .before .before .pre .0, (c .before .before .mark-equations .ensures .long, provers-marked _ _ (c .before .before .before .before .before .before .before .pre .1 .no-prover) (c .before .before .before .before .mark-provers .ensures)))
+mark-definitions-requires c κs = (c .before .before .before .before .before .before .before .pre .0, (c .before .before .mark-equations .ensures .codes, provers-marked _ _ (ap marked (c .before .before .before .before .before .before .before .pre .2) ∙ none-marked) (c .before .before .before .before .mark-provers .ensures)))
 
 layout-of-requires : tie.Need-layout-of-requires
 layout-of-requires c κs = search needs
 
 add-witnesses-requires : tie.Need-add-witnesses-requires
-add-witnesses-requires c κs = (omega (arith, layout-next _ (c .before .before .layout-of .ensures), c .before .before .before .before .before .before .before .before .before .before .before .pre .0 .next-small), c .before .before .before .before .before .before .before .before .mark-provers .ensures .long)
+add-witnesses-requires c κs = (omega (arith, layout-next _ (c .before .before .layout-of .ensures), c .before .before .before .before .before .before .before .before .before .before .before .pre .0 .next-small), c .before .before .before .before .before .before .before .before .mark-provers .ensures .codes)
 
 returns : tie.Need-returns
-returns c = classified-whole _ _ (c .before .before .before .before .before .before .before .before .before .before .before .before .pre .0) (c .before .before .before .before .before .before .before .before .before .before .before .before .pre .1) (layout-next _ (c .before .before .before .layout-of .ensures)) (c .before .before .before .before .before .before .before .before .before .mark-provers .ensures) (c .before .before .before .before .before .before .before .mark-equations .ensures) (c .before .before .before .before .mark-definitions .ensures) (c .add-witnesses .ensures)
+returns c = classified-whole _ _ (c .before .before .before .before .before .before .before .before .before .before .before .before .pre .0) (c .before .before .before .before .before .before .before .before .before .before .before .before .pre .1) (c .before .before .before .before .before .before .before .before .before .before .before .before .pre .2) (layout-next _ (c .before .before .before .layout-of .ensures)) (c .before .before .before .before .before .before .before .before .before .mark-provers .ensures) (c .before .before .before .before .before .before .before .mark-equations .ensures) (c .before .before .before .before .mark-definitions .ensures) (c .add-witnesses .ensures)
 
 pub classify-defs-spec : {M : Type 1} → statement M
 classify-defs-spec =

@@ -20,38 +20,17 @@ layout-of-requires c κs = search needs
 loop-holds : tie.Need-loop-holds Inv-loop μ-loop
 loop-holds c = (over-definitions (c .layout-of .ensures), counted-start _)
 
-mul-word-at : tie.Need-mul-word-at Inv-loop μ-loop
-mul-word-at c = search needs
-
-add-word-at : tie.Need-add-word-at Inv-loop μ-loop
-add-word-at c = search needs
-
-word-at-requires : tie.Need-word-at-requires Inv-loop μ-loop
-word-at-requires c κs = search needs
+definition-at-requires : tie.Need-definition-at-requires Inv-loop μ-loop
+definition-at-requires c κs = search needs
 
 cast-id : tie.Need-cast-id Inv-loop μ-loop
 cast-id c = search needs
 
-mul-word-at-2 : tie.Need-mul-word-at-2 Inv-loop μ-loop
-mul-word-at-2 c = search needs
-
-add-word-at-2 : tie.Need-add-word-at-2 Inv-loop μ-loop
-add-word-at-2 c = search needs
-
-add-word-at-3 : tie.Need-add-word-at-3 Inv-loop μ-loop
-add-word-at-3 c = search needs
-
-word-at-requires-2 : tie.Need-word-at-requires-2 Inv-loop μ-loop
-word-at-requires-2 c κs = search needs
-
-cast-node : tie.Need-cast-node Inv-loop μ-loop
-cast-node c = search needs
-
 cuttable-def-requires : tie.Need-cuttable-def-requires Inv-loop μ-loop
-cuttable-def-requires c κs = (definition-inside (c .before .before .before .before .before .before .pre .0) (c .before .before .before .loop .inv .0) (c .before .before .loop-test .taken) (c .before .word-at .ensures) (c .word-at2 .ensures), definition-small (c .before .before .before .before .before .before .pre .0) (c .before .before .before .loop .inv .0) (c .before .before .loop-test .taken) (c .before .word-at .ensures) (c .word-at2 .ensures))
+cuttable-def-requires c κs = (definition-inside (c .before .before .before .before .before .before .pre .0) (c .before .before .before .loop .inv .0) (c .before .before .loop-test .taken) (c .before .definition-at .ensures), definition-small (c .before .before .before .before .before .before .pre .0) (c .before .before .before .loop .inv .0) (c .before .before .loop-test .taken) (c .before .definition-at .ensures))
 
 returns : tie.Need-returns Inv-loop μ-loop
-returns c = counted-fails (c .before .before .before .before .before .before .before .before .pre .0) (c .before .before .before .before .before .before .before .before .pre .1) (c .before .before .before .before .before .loop .inv .0) (c .before .before .before .before .loop-test .taken) (c .before .before .before .word-at .ensures) (c .before .before .word-at2 .ensures) (c .before .cuttable-def .ensures) (c .before .before .before .before .before .loop .inv .1) (not-true _ (c .if1 .taken))
+returns c = counted-fails (c .before .before .before .before .before .before .before .before .pre .0) (c .before .before .before .before .before .before .before .before .pre .1) (c .before .before .before .before .before .loop .inv .0) (c .before .before .before .before .loop-test .taken) (c .before .before .before .definition-at .ensures) (c .before .cuttable-def .ensures) (c .before .before .before .before .before .loop .inv .1) (not-true _ (c .if1 .taken))
 
 add-k : tie.Need-add-k Inv-loop μ-loop
 add-k c = search needs
@@ -60,7 +39,7 @@ loop-less : tie.Need-loop-less Inv-loop μ-loop
 loop-less c = search needs
 
 loop-again : tie.Need-loop-again Inv-loop μ-loop
-loop-again c = (record { count = c .before .before .before .before .before .loop .inv .0 .count; place = c .before .before .before .before .before .loop .inv .0 .place; trees = c .before .before .before .before .before .loop .inv .0 .trees; within = omega arith }, counted-turn (c .before .before .before .before .before .before .before .before .pre .0) (c .before .before .before .before .before .before .before .before .pre .1) (c .before .before .before .before .before .loop .inv .0) (c .before .before .before .before .loop-test .taken) (c .before .before .before .word-at .ensures) (c .before .before .word-at2 .ensures) (c .before .cuttable-def .ensures) (c .before .before .before .before .before .loop .inv .1) (not-false _ (c .if1 .left)))
+loop-again c = (record { count = c .before .before .before .before .before .loop .inv .0 .count; place = c .before .before .before .before .before .loop .inv .0 .place; trees = c .before .before .before .before .before .loop .inv .0 .trees; within = omega arith }, counted-turn (c .before .before .before .before .before .before .before .before .pre .0) (c .before .before .before .before .before .before .before .before .pre .1) (c .before .before .before .before .before .loop .inv .0) (c .before .before .before .before .loop-test .taken) (c .before .before .before .definition-at .ensures) (c .before .cuttable-def .ensures) (c .before .before .before .before .before .loop .inv .1) (not-false _ (c .if1 .left)))
 
 returns-2 : tie.Need-returns-2 Inv-loop μ-loop
 returns-2 c = counted-end (c .before .loop .inv .0) (c .loop-test .left) (c .before .loop .inv .1)
@@ -73,15 +52,8 @@ cuttable-defs-spec =
     μ-loop
     layout-of-requires
     loop-holds
-    mul-word-at
-    add-word-at
-    word-at-requires
+    definition-at-requires
     cast-id
-    mul-word-at-2
-    add-word-at-2
-    add-word-at-3
-    word-at-requires-2
-    cast-node
     cuttable-def-requires
     returns
     add-k

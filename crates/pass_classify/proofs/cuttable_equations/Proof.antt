@@ -21,44 +21,36 @@ layout-of-requires c κs = search needs
 loop-holds : tie.Need-loop-holds Inv-loop μ-loop
 loop-holds c = (over-equations (c .layout-of .ensures), cuttable-start _)
 
-mul-word-at : tie.Need-mul-word-at Inv-loop μ-loop
-mul-word-at c = search needs
-
-add-word-at : tie.Need-add-word-at Inv-loop μ-loop
-add-word-at c = search needs
-
-word-at-requires : tie.Need-word-at-requires Inv-loop μ-loop
-word-at-requires c κs = search needs
-
-cast-left : tie.Need-cast-left Inv-loop μ-loop
-cast-left c = search needs
-
-mul-word-at-2 : tie.Need-mul-word-at-2 Inv-loop μ-loop
-mul-word-at-2 c = search needs
-
-add-word-at-2 : tie.Need-add-word-at-2 Inv-loop μ-loop
-add-word-at-2 c = search needs
-
-add-word-at-3 : tie.Need-add-word-at-3 Inv-loop μ-loop
-add-word-at-3 c = search needs
-
-word-at-requires-2 : tie.Need-word-at-requires-2 Inv-loop μ-loop
-word-at-requires-2 c κs = search needs
-
-cast-right : tie.Need-cast-right Inv-loop μ-loop
-cast-right c = search needs
+equation-at-requires : tie.Need-equation-at-requires Inv-loop μ-loop
+equation-at-requires c κs = search needs
 
 cuttable-expr-requires : tie.Need-cuttable-expr-requires Inv-loop μ-loop
-cuttable-expr-requires c κs = left-side (c .before .before .before .before .before .before .pre) (c .before .before .before .loop .inv .0) (c .before .before .loop-test .taken) (c .before .word-at .ensures) (c .word-at2 .ensures)
+cuttable-expr-requires c κs =
+    let l = c .before .before in
+    left-side (l .before .before .before .pre) (l .loop .inv .0) (c .before .loop-test .taken) (c .equation-at .ensures)
 
 returns : tie.Need-returns Inv-loop μ-loop
-returns c = left-fails (c .before .before .before .before .before .before .before .before .pre) (c .before .before .before .before .before .loop .inv .0) (c .before .before .before .before .loop-test .taken) (c .before .before .before .word-at .ensures) (c .before .before .word-at2 .ensures) (c .before .before .before .before .before .loop .inv .1) (c .before .cuttable-expr .ensures) (not-true _ (c .if1 .taken))
+returns c =
+    let r = c .before .before in
+    let l = r .before .before in
+    let readable = l .before .before .before .pre in
+    left-fails readable (l .loop .inv .0) (r .before .loop-test .taken) (r .equation-at .ensures) (l .loop .inv .1) (c .before .cuttable-expr .ensures) (not-true _ (c .if1 .taken))
 
 cuttable-expr-requires-2 : tie.Need-cuttable-expr-requires-2 Inv-loop μ-loop
-cuttable-expr-requires-2 c κs = right-side (c .before .before .before .before .before .before .before .before .pre) (c .before .before .before .before .before .loop .inv .0) (c .before .before .before .before .loop-test .taken) (c .before .before .before .word-at .ensures) (c .before .before .word-at2 .ensures)
+cuttable-expr-requires-2 c κs =
+    let r = c .before .before in
+    let l = r .before .before in
+    right-side (l .before .before .before .pre) (l .loop .inv .0) (r .before .loop-test .taken) (r .equation-at .ensures)
 
 returns-2 : tie.Need-returns-2 Inv-loop μ-loop
-returns-2 c = right-fails (c .before .before .before .before .before .before .before .before .before .before .pre) (c .before .before .before .before .before .before .before .loop .inv .0) (c .before .before .before .before .before .before .loop-test .taken) (c .before .before .before .before .before .word-at .ensures) (c .before .before .before .before .word-at2 .ensures) (c .before .before .before .before .before .before .before .loop .inv .1) (c .before .before .before .cuttable-expr .ensures) (not-false _ (c .before .before .if1 .left)) (c .before .cuttable-expr2 .ensures) (not-true _ (c .if2 .taken))
+returns-2 c =
+    let r = c .before .before .before .before in
+    let l = r .before .before in
+    let readable = l .before .before .before .pre in
+    let left = c .before .before .before .cuttable-expr .ensures in
+    let left-true = not-false _ (c .before .before .if1 .left) in
+    let right = c .before .cuttable-expr2 .ensures in
+    right-fails readable (l .loop .inv .0) (r .before .loop-test .taken) (r .equation-at .ensures) (l .loop .inv .1) left left-true right (not-true _ (c .if2 .taken))
 
 add-k : tie.Need-add-k Inv-loop μ-loop
 add-k c = search needs
@@ -67,7 +59,18 @@ loop-less : tie.Need-loop-less Inv-loop μ-loop
 loop-less c = search needs
 
 loop-again : tie.Need-loop-again Inv-loop μ-loop
-loop-again c = (record { count = c .before .before .before .before .before .before .before .loop .inv .0 .count; place = c .before .before .before .before .before .before .before .loop .inv .0 .place; trees = c .before .before .before .before .before .before .before .loop .inv .0 .trees; within = omega arith }, cuttable-turn (c .before .before .before .before .before .before .before .before .before .before .pre) (c .before .before .before .before .before .before .before .loop .inv .0) (c .before .before .before .before .before .before .loop-test .taken) (c .before .before .before .before .before .word-at .ensures) (c .before .before .before .before .word-at2 .ensures) (c .before .before .before .before .before .before .before .loop .inv .1) (c .before .before .before .cuttable-expr .ensures) (not-false _ (c .before .before .if1 .left)) (c .before .cuttable-expr2 .ensures) (not-false _ (c .if2 .left)))
+loop-again c =
+    let r = c .before .before .before .before in
+    let l = r .before .before in
+    let o = l .loop .inv .0 in
+    let readable = l .before .before .before .pre in
+    let more = r .before .loop-test .taken in
+    let read = r .equation-at .ensures in
+    let left = c .before .before .before .cuttable-expr .ensures in
+    let right = c .before .cuttable-expr2 .ensures in (
+      record { count = o .count; place = o .place; trees = o .trees; within = omega arith },
+      cuttable-turn readable o more read (l .loop .inv .1) left (not-false _ (c .before .before .if1 .left)) right (not-false _ (c .if2 .left)),
+    )
 
 returns-3 : tie.Need-returns-3 Inv-loop μ-loop
 returns-3 c = cuttable-end (c .before .loop .inv .0) (c .loop-test .left) (c .before .loop .inv .1)
@@ -80,15 +83,7 @@ cuttable-equations-spec =
     μ-loop
     layout-of-requires
     loop-holds
-    mul-word-at
-    add-word-at
-    word-at-requires
-    cast-left
-    mul-word-at-2
-    add-word-at-2
-    add-word-at-3
-    word-at-requires-2
-    cast-right
+    equation-at-requires
     cuttable-expr-requires
     returns
     cuttable-expr-requires-2

@@ -11,10 +11,10 @@ element-write-usage : tie.Need-element-write-usage
 element-write-usage c = search needs
 
 returns : tie.Need-returns
-returns c = mark-more _ _ _ (c .before .before .pre .0) (c .before .before .pre .1) (c .if1 .taken)
+returns c = mark-more _ _ _ (c .before .before .pre .0) (c .before .before .pre .1) (c .before .before .pre .2) (c .if1 .taken)
 
 returns-2 : tie.Need-returns-2
-returns-2 c = mark-none _ _ _ (c .before .before .pre .1) (c .if1 .left)
+returns-2 c = mark-none _ _ _ (c .before .before .pre .2) (c .if1 .left)
 
 pub mark-spec : {M : Type 1} → statement M
 mark-spec = tie.close (tie.spec element-copy-out-if1 element-write-usage returns returns-2)

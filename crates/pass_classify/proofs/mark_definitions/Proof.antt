@@ -4,13 +4,13 @@ use Rattle.pass_classify.proofs.mark_definitions.Tie as tie
 use borrow.Author.Needs.{needs}
 use native.Mathlib.Omega.{arith}
 use Prim.Native.Nat.{_-_}
-use mathlib.Core.Path.{_≡_}
-use lib.ListN.{length}
+use Rattle.pass_classify.specs.Arrays.{Codes}
+use Rattle.pass_classify.proofs.Arrays.{code-small}
 use Rattle.pass_classify.proofs.Lists.{over-from-last, OverDefinitions, over-definitions, definition-small, definition-inside}
 use Rattle.pass_classify.proofs.Turns.{ClassifiedFrom, classified-start, classified-turn, classified-end}
 
 abbrev Inv-loop : tie.InvT-loop
-Inv-loop s provers usage₀ n definitions at done₀ usage done = OverDefinitions s n definitions at done × ((length usage ≡ 65536) × ClassifiedFrom s usage₀ usage (n - done))
+Inv-loop s provers usage₀ n definitions at done₀ usage done = OverDefinitions s n definitions at done × (Codes 2 usage × ClassifiedFrom s usage₀ usage (n - done))
 
 abbrev μ-loop : tie.MeasureT-loop
 μ-loop s provers usage₀ n definitions at done₀ usage done = n - done
@@ -27,44 +27,23 @@ add-done c = search needs
 sub-k : tie.Need-sub-k Inv-loop μ-loop
 sub-k c = search needs
 
-mul-word-at : tie.Need-mul-word-at Inv-loop μ-loop
-mul-word-at c = search needs
-
-add-word-at : tie.Need-add-word-at Inv-loop μ-loop
-add-word-at c = search needs
-
-word-at-requires : tie.Need-word-at-requires Inv-loop μ-loop
-word-at-requires c κs = search needs
+definition-at-requires : tie.Need-definition-at-requires Inv-loop μ-loop
+definition-at-requires c κs = search needs
 
 cast-id : tie.Need-cast-id Inv-loop μ-loop
 cast-id c = search needs
 
-mul-word-at-2 : tie.Need-mul-word-at-2 Inv-loop μ-loop
-mul-word-at-2 c = search needs
-
-add-word-at-2 : tie.Need-add-word-at-2 Inv-loop μ-loop
-add-word-at-2 c = search needs
-
-add-word-at-3 : tie.Need-add-word-at-3 Inv-loop μ-loop
-add-word-at-3 c = search needs
-
-word-at-requires-2 : tie.Need-word-at-requires-2 Inv-loop μ-loop
-word-at-requires-2 c κs = search needs
-
-cast-node : tie.Need-cast-node Inv-loop μ-loop
-cast-node c = search needs
-
 override-usage-requires : tie.Need-override-usage-requires Inv-loop μ-loop
-override-usage-requires c κs = (definition-small (c .before .before .before .before .before .before .before .pre .0) (over-from-last (c .before .before .before .before .loop .inv .0) (c .before .before .before .loop-test .taken)) (omega arith) (c .before .before .word-at .ensures) (c .before .word-at2 .ensures), c .before .before .before .before .loop .inv .1 .0)
+override-usage-requires c κs = (definition-small (c .before .before .before .before .before .before .before .pre .0) (over-from-last (c .before .before .before .before .loop .inv .0) (c .before .before .before .loop-test .taken)) (omega arith) (c .before .before .definition-at .ensures), c .before .before .before .before .loop .inv .1 .0)
 
 mark-used-requires : tie.Need-mark-used-requires Inv-loop μ-loop
-mark-used-requires c κs = (definition-inside (c .before .before .before .before .before .before .before .before .before .pre .0) (over-from-last (c .before .before .before .before .before .before .loop .inv .0) (c .before .before .before .before .before .loop-test .taken)) (omega arith) (c .before .before .before .before .word-at .ensures) (c .before .before .before .word-at2 .ensures), c .before .override-usage .ensures .1 .long)
+mark-used-requires c κs = (definition-inside (c .before .before .before .before .before .before .before .before .before .pre .0) (over-from-last (c .before .before .before .before .before .before .loop .inv .0) (c .before .before .before .before .before .loop-test .taken)) (omega arith) (c .before .before .before .before .definition-at .ensures), rw (c .before .override-usage .ensures .0) (code-small _), c .before .override-usage .ensures .1 .codes)
 
 loop-less : tie.Need-loop-less Inv-loop μ-loop
 loop-less c = search needs
 
 loop-again : tie.Need-loop-again Inv-loop μ-loop
-loop-again c = (record { count = c .before .before .before .before .before .before .before .loop .inv .0 .count; place = c .before .before .before .before .before .before .before .loop .inv .0 .place; trees = c .before .before .before .before .before .before .before .loop .inv .0 .trees; within = omega arith }, (c .mark-used .ensures .long, classified-turn _ _ _ _ (c .before .before .before .before .before .before .before .before .before .before .pre .0) (c .before .before .before .before .before .before .before .loop .inv .0) (c .before .before .before .before .before .before .loop-test .taken) (c .before .before .before .before .before .word-at .ensures) (c .before .before .before .before .word-at2 .ensures) (c .before .before .before .before .before .before .before .before .before .before .pre .1 .1) (c .before .before .before .before .before .before .before .loop .inv .1 .1) (c .before .before .override-usage .ensures) (c .mark-used .ensures)))
+loop-again c = (record { count = c .before .before .before .before .before .before .before .loop .inv .0 .count; place = c .before .before .before .before .before .before .before .loop .inv .0 .place; trees = c .before .before .before .before .before .before .before .loop .inv .0 .trees; within = omega arith }, (c .mark-used .ensures .codes, classified-turn _ _ _ _ (c .before .before .before .before .before .before .before .before .before .before .pre .0) (c .before .before .before .before .before .before .before .loop .inv .0) (c .before .before .before .before .before .before .loop-test .taken) (c .before .before .before .before .before .definition-at .ensures) (c .before .before .before .before .before .before .before .before .before .before .pre .1 .1) (c .before .before .before .before .before .before .before .loop .inv .1 .1) (c .before .before .override-usage .ensures) (c .mark-used .ensures)))
 
 returns : tie.Need-returns Inv-loop μ-loop
 returns c = classified-end _ _ (c .before .loop .inv .0) (c .loop-test .left) (c .before .loop .inv .1 .1) (c .before .loop .inv .1 .0)
@@ -79,15 +58,8 @@ mark-definitions-spec =
     loop-holds
     add-done
     sub-k
-    mul-word-at
-    add-word-at
-    word-at-requires
+    definition-at-requires
     cast-id
-    mul-word-at-2
-    add-word-at-2
-    add-word-at-3
-    word-at-requires-2
-    cast-node
     override-usage-requires
     mark-used-requires
     loop-less

@@ -4,7 +4,8 @@ use Rattle.pass_copies.proofs.substitute.Statement.{statement}
 use Rattle.pass_copies.proofs.substitute.Tie as tie
 use mathlib.Core.Path.{_∙_, ap, sym}
 use Rattle.pass_copies.specs.declared.Copied.{Copied}
-use Rattle.pass_copies.proofs.Stored.{stored-tree, stored-itself, stored-variable, stored-constant}
+use Rattle.pass_copies.specs.Substituted.{putDefinition}
+use Rattle.pass_copies.proofs.Stored.{put-tree, put-itself, put-variable, put-constant}
 
 copy-expr-requires : tie.Need-copy-expr-requires
 copy-expr-requires c κs = search needs
@@ -16,7 +17,8 @@ enum-told : tie.Need-enum-told
 enum-told c = search needs
 
 returns : tie.Need-returns
-returns c = stored-tree (c .before .before .before .before .before .args .subs .now) (c .before .before .before .before .before .args .id) _ (c .before .before .before .before .before .pre .2) (c .before .before .before .before .before .pre .1) (sym (c .before .before .copy-expr .ensures) ∙ c .enum-told .given .1)
+unfolding putDefinition
+returns c = put-tree (c .before .before .before .before .before .args .subs .now) (c .before .before .before .before .before .args .id) (sym (c .before .before .copy-expr .ensures) ∙ c .enum-told .given .1)
 
 enum-known-term-2 : tie.Need-enum-known-term-2
 enum-known-term-2 c = search needs
@@ -34,13 +36,16 @@ put-substitution-requires-2 : tie.Need-put-substitution-requires-2
 put-substitution-requires-2 c κs = search needs
 
 returns-2 : tie.Need-returns-2
-returns-2 c = stored-variable (c .before .before .before .before .before .before .before .before .before .before .before .before .args .subs .now) (c .before .before .before .before .before .before .before .before .before .before .before .before .args .id) _ (c .before .before .before .before .before .before .before .before .before .before .before .before .pre .2) (c .before .before .before .before .before .before .before .before .before .before .before .before .pre .1) _ (sym (c .before .before .before .before .before .before .before .before .before .copy-expr .ensures) ∙ c .before .before .before .before .before .before .before .term .given .1 ∙ ap Copied.Leaf (c .before .before .before .before .term2 .given .1)) (c .before .before .if1 .taken) (c .put-substitution .ensures)
+unfolding putDefinition
+returns-2 c = put-variable (c .before .before .before .before .before .before .before .before .before .before .before .before .args .subs .now) (c .before .before .before .before .before .before .before .before .before .before .before .before .args .id) _ (sym (c .before .before .before .before .before .before .before .before .before .copy-expr .ensures) ∙ c .before .before .before .before .before .before .before .term .given .1 ∙ ap Copied.Leaf (c .before .before .before .before .term2 .given .1)) (c .before .before .if1 .taken) (c .put-substitution .ensures)
 
 returns-3 : tie.Need-returns-3
-returns-3 c = stored-itself (c .before .before .before .before .before .before .before .before .before .before .args .subs .now) (c .before .before .before .before .before .before .before .before .before .before .args .id) _ (c .before .before .before .before .before .before .before .before .before .before .pre .2) (c .before .before .before .before .before .before .before .before .before .before .pre .1) _ (sym (c .before .before .before .before .before .before .before .copy-expr .ensures) ∙ c .before .before .before .before .before .term .given .1 ∙ ap Copied.Leaf (c .before .before .term2 .given .1)) (c .if1 .left)
+unfolding putDefinition
+returns-3 c = put-itself (c .before .before .before .before .before .before .before .before .before .before .args .subs .now) (c .before .before .before .before .before .before .before .before .before .before .args .id) _ (sym (c .before .before .before .before .before .before .before .copy-expr .ensures) ∙ c .before .before .before .before .before .term .given .1 ∙ ap Copied.Leaf (c .before .before .term2 .given .1)) (c .if1 .left)
 
 returns-4 : tie.Need-returns-4
-returns-4 c = stored-constant (c .before .before .before .before .before .before .before .before .before .before .before .before .args .subs .now) (c .before .before .before .before .before .before .before .before .before .before .before .before .args .id) _ (c .before .before .before .before .before .before .before .before .before .before .before .before .pre .2) (c .before .before .before .before .before .before .before .before .before .before .before .before .pre .1) _ (sym (c .before .before .before .before .before .before .before .before .before .copy-expr .ensures) ∙ c .before .before .before .before .before .before .before .term .given .1 ∙ ap Copied.Leaf (c .before .before .before .before .term3 .given .1)) (record { sfits = c .before .before .before .known-told3 .given .0 .1 }) (c .before .unsigned .ensures) (c .put-substitution2 .ensures)
+unfolding putDefinition
+returns-4 c = put-constant (c .before .before .before .before .before .before .before .before .before .before .before .before .args .subs .now) (c .before .before .before .before .before .before .before .before .before .before .before .before .args .id) _ (sym (c .before .before .before .before .before .before .before .before .before .copy-expr .ensures) ∙ c .before .before .before .before .before .before .before .term .given .1 ∙ ap Copied.Leaf (c .before .before .before .before .term3 .given .1)) (record { sfits = c .before .before .before .known-told3 .given .0 .1 }) (c .before .unsigned .ensures) (c .put-substitution2 .ensures)
 
 pub substitute-spec : {M : Type 1} → statement M
 substitute-spec =

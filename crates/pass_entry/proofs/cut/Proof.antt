@@ -4,9 +4,7 @@ use Rattle.pass_entry.proofs.cut.Statement.{statement}
 use Rattle.pass_entry.proofs.cut.Tie as tie
 use borrow.Author.Needs.{needs}
 use mathlib.Core.Path.{sym, _∙_}
-use Rattle.pass_trees.specs.Passes.{passes}
-use Rattle.flat.proofs.Reading.{checked-readable}
-use Rattle.pass_entry.proofs.Answers.{gives-as, gives-refused, record-refused, record-accepted, record-small}
+use Rattle.pass_entry.proofs.Answers.{gives-as, gives-refused, record-refused, record-accepted, record-passable}
 
 clear-requires : tie.Need-clear-requires
 clear-requires c κs = search needs
@@ -21,7 +19,7 @@ enum-told : tie.Need-enum-told
 enum-told c = search needs
 
 passes-requires : tie.Need-passes-requires
-passes-requires c κs = (checked-readable (c .before .before .before .before .before .before .before .before .before .before .before .args .s .now) (sym (c .before .before .before .check-flat .ensures) ∙ c .before .enum-told .given .1), record-small (c .before .before .before .before .before .before .before .before .before .before .before .args .s .now) (sym (c .before .before .before .check-flat .ensures) ∙ c .before .enum-told .given .1))
+passes-requires c κs = record-passable (c .before .before .before .before .before .before .before .before .before .before .before .args .s .now) (sym (c .before .before .before .check-flat .ensures) ∙ c .before .enum-told .given .1)
 
 same-length : tie.Need-same-length
 same-length c = search needs

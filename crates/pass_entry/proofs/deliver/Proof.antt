@@ -2,24 +2,17 @@
 use borrow.Author.Needs.{needs}
 use Rattle.pass_entry.proofs.deliver.Statement.{statement}
 use Rattle.pass_entry.proofs.deliver.Tie as tie
-use borrow.Author.Needs.{needs}
 use native.Mathlib.Omega.{arith}
 use Rattle.pass_entry.proofs.Delivered.{not-delivered, delivered}
 
-mul-size : tie.Need-mul-size
-mul-size c = search needs
+equalities-of-requires : tie.Need-equalities-of-requires
+equalities-of-requires c κs = search needs
 
-add-size : tie.Need-add-size
-add-size c = search needs
-
-mul-size-2 : tie.Need-mul-size-2
-mul-size-2 c = search needs
-
-add-size-2 : tie.Need-add-size-2
-add-size-2 c = search needs
+bytes-of-requires : tie.Need-bytes-of-requires
+bytes-of-requires c κs = search needs
 
 returns : tie.Need-returns
-returns c = λ m w e. not-delivered m _ _ _ w _ (c .if1 .taken)
+returns c = λ m w e. not-delivered m _ _ _ w _ (omega (arith, c .before .bytes-of .ensures, c .if1 .taken))
 
 cast-put-header : tie.Need-cast-put-header
 cast-put-header c = search needs
@@ -30,14 +23,11 @@ sub-put-header c = search needs
 cast-put-header-2 : tie.Need-cast-put-header-2
 cast-put-header-2 c = search needs
 
-sub-put-header-2 : tie.Need-sub-put-header-2
-sub-put-header-2 c = search needs
-
 cast-put-header-3 : tie.Need-cast-put-header-3
 cast-put-header-3 c = search needs
 
-sub-put-header-3 : tie.Need-sub-put-header-3
-sub-put-header-3 c = search needs
+sub-put-header-2 : tie.Need-sub-put-header-2
+sub-put-header-2 c = search needs
 
 cast-put-header-4 : tie.Need-cast-put-header-4
 cast-put-header-4 c = search needs
@@ -70,23 +60,30 @@ same-length : tie.Need-same-length
 same-length c = search needs
 
 returns-2 : tie.Need-returns-2
-returns-2 c = λ m w e. delivered m _ _ _ w _ _ _ _ _ e (omega (arith, c .before .before .before .before .before .before .before .before .before .before .before .before .if1 .left)) (c .before .before .before .before .before .before .before .before .before .before .before .before .before .before .before .before .pre .body-long) (c .before .before .before .before .before .before .before .before .before .before .put-header .ensures) (c .before .before .before .before .before .before .copy-to .ensures) (c .before .before .copy-to2 .ensures)
+returns-2 c =
+    let second = c .before .before in
+    let first = second .before .before .before .before in
+    let header = first .before .before .before .before in
+    let room = header .before .before .before in
+    let size = room .before in
+    let read = size .before in
+    let start = read .before .before .before .before in
+    let body-long = start .pre .body-long in
+    λ m w e. delivered m _ _ _ w _ _ e (read .equalities-of .ensures) _ _ _ _ _ (size .bytes-of .ensures) (room .if1 .left) body-long (header .put-header .ensures)
+    (first .copy-to .ensures) (second .copy-to2 .ensures)
 
 pub deliver-spec : {M : Type 1} → statement M
 deliver-spec =
     tie.close
     (tie.spec
-    mul-size
-    add-size
-    mul-size-2
-    add-size-2
+    equalities-of-requires
+    bytes-of-requires
     returns
     cast-put-header
     sub-put-header
     cast-put-header-2
-    sub-put-header-2
     cast-put-header-3
-    sub-put-header-3
+    sub-put-header-2
     cast-put-header-4
     cast-put-header-5
     put-header-requires

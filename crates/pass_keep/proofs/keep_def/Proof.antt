@@ -9,7 +9,7 @@ element-copy-out-if1 : tie.Need-element-copy-out-if1
 element-copy-out-if1 c = search needs
 
 returns : tie.Need-returns
-returns c = way-unused (c .before .before .before .before .before .pre .0 .1) (c .before .before .before .before .before .args .steps) (c .before .before .before .before .before .args .id) _ (c .before .before .before .before .before .args .at) (c .before .before .before .before .before .args .base) (c .before .before .before .before .before .args .subs .now) (c .before .before .before .before .before .args .body .now) (c .before .before .before .before .before .args .list .now) (c .if1 .taken) (c .before .before .before .before .before .pre .0 .3)
+returns c = way-unused (c .before .before .before .before .before .pre .0 .1) (c .before .before .before .before .before .args .steps) (c .before .before .before .before .before .args .id) _ (c .before .before .before .before .before .args .at) (c .before .before .before .before .before .args .base) (c .before .before .before .before .before .args .subs .now) (c .before .before .before .before .before .args .body .now) (c .before .before .before .before .before .args .list .now) (c .if1 .taken)
 
 element-copy-out-if2 : tie.Need-element-copy-out-if2
 element-copy-out-if2 c = search needs
@@ -42,7 +42,7 @@ same-length-2 : tie.Need-same-length-2
 same-length-2 c = search needs
 
 returns-3 : tie.Need-returns-3
-returns-3 c = way-kept (c .before .before .before .before .before .before .before .before .before .before .before .before .before .before .before .before .pre .0 .1) (c .before .before .before .before .before .before .before .before .before .before .before .before .before .before .before .before .args .steps) (c .before .before .before .before .before .before .before .before .before .before .before .before .before .before .before .before .args .id) _ (c .before .before .before .before .before .before .before .before .before .before .before .before .before .before .before .before .args .at) (c .before .before .before .before .before .before .before .before .before .before .before .before .before .before .before .before .args .base) (c .before .before .before .before .before .before .before .before .before .before .before .before .before .before .before .before .args .subs .now) (c .before .before .before .before .before .before .before .before .before .before .before .before .before .before .before .before .args .body .now) (c .before .before .before .before .before .before .before .before .before .before .before .before .before .before .before .before .args .list .now) (c .before .before .before .before .before .before .before .before .before .before .before .if1 .left) (c .before .before .before .before .before .before .before .before .before .if2 .left) (c .before .before .before .before .before .before .before .before .before .before .before .before .before .before .before .before .pre .0 .3) (c .before .before .before .before .before .before .put-tree .ensures .0) (c .before .before .before .before .before .before .put-tree .ensures .1) (c .before .before .put-definition .ensures)
+returns-3 c = way-kept (c .before .before .before .before .before .before .before .before .before .before .before .before .before .before .before .before .pre .0 .1) (c .before .before .before .before .before .before .before .before .before .before .before .before .before .before .before .before .args .steps) (c .before .before .before .before .before .before .before .before .before .before .before .before .before .before .before .before .args .id) _ (c .before .before .before .before .before .before .before .before .before .before .before .before .before .before .before .before .args .at) (c .before .before .before .before .before .before .before .before .before .before .before .before .before .before .before .before .args .base) (c .before .before .before .before .before .before .before .before .before .before .before .before .before .before .before .before .args .subs .now) (c .before .before .before .before .before .before .before .before .before .before .before .before .before .before .before .before .args .body .now) (c .before .before .before .before .before .before .before .before .before .before .before .before .before .before .before .before .args .list .now) (c .before .before .before .before .before .before .before .before .before .before .before .if1 .left) (c .before .before .before .before .before .before .before .before .before .if2 .left) (c .before .before .before .before .before .before .put-tree .ensures .0) (c .before .before .before .before .before .before .put-tree .ensures .1) (c .before .before .put-definition .ensures)
 
 pub keep-def-spec : {M : Type 1} → statement M
 keep-def-spec =

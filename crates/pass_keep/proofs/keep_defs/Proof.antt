@@ -3,7 +3,9 @@ use Rattle.pass_keep.proofs.keep_defs.Statement.{statement}
 use Rattle.pass_keep.proofs.keep_defs.Tie as tie
 use borrow.Author.Needs.{needs}
 use Prim.Native.Nat.{_-_}
-use Rattle.pass_classify.proofs.Lists.{definition-small, definition-inside}
+use Rattle.pass_trees.specs.Passes.{classifyDefs, counted}
+use Rattle.pass_classify.specs.Arrays.{proversOf, usedOf, countedOf}
+use Rattle.pass_classify.proofs.Lists.{OverDefinitions, definition-small, definition-inside}
 use Rattle.pass_keep.proofs.Turns.{Going, going-start, going-turn, going-end, first-room}
 
 abbrev Inv-loop : tie.InvT-loop
@@ -15,32 +17,19 @@ abbrev μ-loop : tie.MeasureT-loop
 loop-holds : tie.Need-loop-holds Inv-loop μ-loop
 loop-holds c = going-start _ _ _ _ _ _ _ (c .before .before .before .pre .1 .0) (c .before .before .before .pre .1 .1) (c .before .before .before .pre .1 .2)
 
-mul-word-at : tie.Need-mul-word-at Inv-loop μ-loop
-mul-word-at c = search needs
-
-add-word-at : tie.Need-add-word-at Inv-loop μ-loop
-add-word-at c = search needs
-
-word-at-requires : tie.Need-word-at-requires Inv-loop μ-loop
-word-at-requires c κs = search needs
-
-mul-word-at-2 : tie.Need-mul-word-at-2 Inv-loop μ-loop
-mul-word-at-2 c = search needs
-
-add-word-at-2 : tie.Need-add-word-at-2 Inv-loop μ-loop
-add-word-at-2 c = search needs
-
-add-word-at-3 : tie.Need-add-word-at-3 Inv-loop μ-loop
-add-word-at-3 c = search needs
-
-word-at-requires-2 : tie.Need-word-at-requires-2 Inv-loop μ-loop
-word-at-requires-2 c κs = search needs
-
-cast-node : tie.Need-cast-node Inv-loop μ-loop
-cast-node c = search needs
+definition-at-requires : tie.Need-definition-at-requires Inv-loop μ-loop
+definition-at-requires c κs = search needs
 
 keep-def-requires : tie.Need-keep-def-requires Inv-loop μ-loop
-keep-def-requires c κs = ((definition-inside (c .before .before .before .before .before .before .before .before .before .before .pre .0 .0) (record { count = c .before .before .before .before .before .before .before .before .before .before .pre .0 .3; place = c .before .before .before .before .before .before .before .before .before .before .pre .0 .2; trees = c .before .before .before .before .before .before .before .before .before .before .pre .0 .4; within = c .before .before .before .before .before .before .loop .inv .within }) (c .before .before .before .before .before .loop-test .taken) (c .before .before .before .before .word-at .ensures) (c .before .before .before .word-at2 .ensures), c .before .before .before .before .before .before .before .before .before .before .pre .0 .1, definition-small (c .before .before .before .before .before .before .before .before .before .before .pre .0 .0) (record { count = c .before .before .before .before .before .before .before .before .before .before .pre .0 .3; place = c .before .before .before .before .before .before .before .before .before .before .pre .0 .2; trees = c .before .before .before .before .before .before .before .before .before .before .pre .0 .4; within = c .before .before .before .before .before .before .loop .inv .within }) (c .before .before .before .before .before .loop-test .taken) (c .before .before .before .before .word-at .ensures) (c .before .before .before .word-at2 .ensures), c .before .before .before .before .before .before .loop .inv .subs-long), first-room _ _ _ _ _ _ _ (c .before .before .before .before .before .before .loop .inv) (c .before .before .before .before .before .before .before .before .before .before .pre .0 .0) (record { count = c .before .before .before .before .before .before .before .before .before .before .pre .0 .3; place = c .before .before .before .before .before .before .before .before .before .before .pre .0 .2; trees = c .before .before .before .before .before .before .before .before .before .before .pre .0 .4; within = c .before .before .before .before .before .before .loop .inv .within }) (c .before .before .before .before .before .loop-test .taken) (c .before .before .before .before .word-at .ensures) (c .before .before .before .word-at2 .ensures))
+keep-def-requires c κs =
+    let r = c .before .before .before in
+    let l = r .before .before in
+    let pre = l .before .before .before .before .pre .0 in
+    let g = l .loop .inv in
+    let o : OverDefinitions _ _ _ _ _ = record { count = pre .3; place = pre .2; trees = pre .4; within = g .within } in
+    let more = r .before .loop-test .taken in
+    let read = r .definition-at .ensures in
+    ((definition-inside (pre .0) o more read, pre .1, definition-small (pre .0) o more read, g .subs-long), first-room _ _ _ _ _ _ _ g (pre .0) o more read)
 
 add-k : tie.Need-add-k Inv-loop μ-loop
 add-k c = search needs
@@ -49,7 +38,13 @@ loop-less : tie.Need-loop-less Inv-loop μ-loop
 loop-less c = search needs
 
 loop-again : tie.Need-loop-again Inv-loop μ-loop
-loop-again c = going-turn _ _ _ _ _ _ _ (c .before .before .before .before .before .before .before .before .before .before .before .loop .inv) (c .before .before .before .before .before .before .before .before .before .before .before .before .before .before .before .pre .0 .0) (record { count = c .before .before .before .before .before .before .before .before .before .before .before .before .before .before .before .pre .0 .3; place = c .before .before .before .before .before .before .before .before .before .before .before .before .before .before .before .pre .0 .2; trees = c .before .before .before .before .before .before .before .before .before .before .before .before .before .before .before .pre .0 .4; within = c .before .before .before .before .before .before .before .before .before .before .before .loop .inv .within }) (c .before .before .before .before .before .before .before .before .before .before .loop-test .taken) (c .before .before .before .before .before .before .before .before .before .word-at .ensures) (c .before .before .before .before .before .before .before .before .word-at2 .ensures) (c .before .before .before .before .keep-def .ensures)
+loop-again c =
+    let r = c .before .before .before .before .before .before .before .before in
+    let l = r .before .before in
+    let pre = l .before .before .before .before .pre .0 in
+    let g = l .loop .inv in
+    let o : OverDefinitions _ _ _ _ _ = record { count = pre .3; place = pre .2; trees = pre .4; within = g .within } in
+    going-turn _ _ _ _ _ _ _ g (pre .0) o (r .before .loop-test .taken) (r .definition-at .ensures) (c .before .before .before .before .keep-def .ensures)
 
 same-length : tie.Need-same-length Inv-loop μ-loop
 same-length c = c .before .loop .inv .body-long
@@ -58,7 +53,8 @@ same-length-2 : tie.Need-same-length-2 Inv-loop μ-loop
 same-length-2 c = c .before .loop .inv .list-long
 
 returns : tie.Need-returns Inv-loop μ-loop
-returns c = going-end _ _ _ _ _ _ _ (c .before .loop .inv) (c .before .before .before .before .before .pre .0 .3) (c .loop-test .left)
+unfolding counted countedOf usedOf proversOf classifyDefs
+returns c = let w = going-end _ _ _ _ _ _ _ (c .before .loop .inv) (c .before .before .before .before .before .pre .0 .3) (c .loop-test .left) in (w .body-is, (w .list-is, (w .answer-is, w .subs-are)))
 
 pub keep-defs-spec : {M : Type 1} → statement M
 keep-defs-spec =
@@ -67,14 +63,7 @@ keep-defs-spec =
     Inv-loop
     μ-loop
     loop-holds
-    mul-word-at
-    add-word-at
-    word-at-requires
-    mul-word-at-2
-    add-word-at-2
-    add-word-at-3
-    word-at-requires-2
-    cast-node
+    definition-at-requires
     keep-def-requires
     add-k
     loop-less

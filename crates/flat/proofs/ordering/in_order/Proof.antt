@@ -10,6 +10,7 @@ use lib.ListN.{length, length-set}
 use borrow.Author.Tests.{not-true, not-false}
 use Rattle.flat.specs.Record.{ordered, rows, definitionAt}
 use Rattle.flat.specs.Marks.{Later}
+use Rattle.flat.proofs.Parts.{id-is, node-is}
 use Rattle.flat.proofs.Order.{order-start, order-end, order-double, order-used, order-more, definition-fits}
 
 abbrev Inv-loop : tie.InvT-loop
@@ -27,73 +28,66 @@ loop-holds c = order-start (c .before .before .args .n) (definitionAt (c .before
 sub-k : tie.Need-sub-k Inv-loop μ-loop
 sub-k c = search needs
 
-mul-count : tie.Need-mul-count Inv-loop μ-loop
-mul-count c = search needs
+definition-at-requires : tie.Need-definition-at-requires Inv-loop μ-loop
+definition-at-requires c κs = search needs
 
-add-count : tie.Need-add-count Inv-loop μ-loop
-add-count c = search needs
-
-count-requires : tie.Need-count-requires Inv-loop μ-loop
-count-requires c κs = search needs
-
-mul-count-2 : tie.Need-mul-count-2 Inv-loop μ-loop
-mul-count-2 c = search needs
-
-add-count-2 : tie.Need-add-count-2 Inv-loop μ-loop
-add-count-2 c = search needs
-
-add-count-3 : tie.Need-add-count-3 Inv-loop μ-loop
-add-count-3 c = search needs
-
-count-requires-2 : tie.Need-count-requires-2 Inv-loop μ-loop
-count-requires-2 c κs = search needs
+cast-id : tie.Need-cast-id Inv-loop μ-loop
+cast-id c = search needs
 
 mul-if1 : tie.Need-mul-if1 Inv-loop μ-loop
 mul-if1 c = search needs
 
 -- the definition that was read fits
-fits : (c : tie.After-count2 Inv-loop μ-loop) → (c .before .count .result < c .before .before .before .before .before .before .args .limit) × (c .count2 .result < c .before .before .before .before .before .before .args .nodes)
-fits c = definition-fits _ _ _ _ _ (c .before .before .before .loop .k - 1) _ _ (c .before .before .before .before .before .before .pre .0 .0) (omega arith) (c .before .count .ensures .0) (c .count2 .ensures .0)
+fits : (c : tie.After-definition-at Inv-loop μ-loop) → (c .definition-at .result .id < c .before .before .before .before .before .args .limit) × (c .definition-at .result .node < c .before .before .before .before .before .args .nodes)
+fits c =
+    let read = c .definition-at .ensures in
+    definition-fits _ _ _ _ _ (c .before .before .loop .k - 1) _ _ (c .before .before .before .before .before .pre .0 .0) (omega arith) (id-is read) (node-is read)
 
 -- and its id is marked
-marked : (c : tie.After-count2 Inv-loop μ-loop) → c .before .count .result < length (c .before .before .before .loop .later)
-marked c = omega (arith, fits c .0, c .before .before .before .loop .inv .1 .1)
+marked : (c : tie.After-definition-at Inv-loop μ-loop) → c .definition-at .result .id < length (c .before .before .loop .later)
+marked c = omega (arith, fits c .0, c .before .before .loop .inv .1 .1)
 
 array-read-if1 : tie.Need-array-read-if1 Inv-loop μ-loop
-array-read-if1 c = omega (arith, fits c .0)
+array-read-if1 c = omega (arith, fits (c .before) .0)
 
 returns : tie.Need-returns Inv-loop μ-loop
 returns c =
-    let r = c .before in
-    let l = r .before .before .before .loop in
-    order-double _ _ _ _ _ _ (r .before .before .loop-test .taken) (l .inv .1 .0) (l .later) (l .inv .0 .1) _ _ (r .before .count .ensures .0) (r .count2 .ensures .0) (c .if1 .taken)
+    let r = c .before .before in
+    let l = r .before .before .loop in
+    let read = r .definition-at .ensures in
+    order-double _ _ _ _ _ _ (r .before .loop-test .taken) (l .inv .1 .0) (l .later) (l .inv .0 .1) _ _ (id-is read) (node-is read) (c .if1 .taken)
 
 mul-later : tie.Need-mul-later Inv-loop μ-loop
 mul-later c = search needs
 
 array-write-later : tie.Need-array-write-later Inv-loop μ-loop
-array-write-later c = omega (arith, fits (c .before) .0)
+array-write-later c = omega (arith, fits (c .before .before) .0)
 
 free-requires : tie.Need-free-requires Inv-loop μ-loop
 free-requires c κs =
-    let w = fits (c .before .before) in
+    let w = fits (c .before .before .before) in
     let p = c .before .before .before .before .before .before .before .before .pre in
     ((w .1, p .0 .1), (p .1 .0, p .1 .1 .1))
 
 returns-2 : tie.Need-returns-2 Inv-loop μ-loop
 returns-2 c =
-    let r = c .before .before .before .before in
-    let l = r .before .before .before .loop in
-    order-used _ _ _ _ _ _ (r .before .before .loop-test .taken) (l .inv .1 .0) (l .later) (l .inv .0 .1) _ _ (r .before .count .ensures .0) (r .count2 .ensures .0) _ (c .before .before .before .if1 .left) (marked r) (fits r .1) (c .before .free .ensures) (not-true _ (c .if2 .taken))
+    let r = c .before .before .before .before .before in
+    let l = r .before .before .loop in
+    let read = r .definition-at .ensures in
+    let free = c .before .before .before .if1 .left in
+    order-used _ _ _ _ _ _ (r .before .loop-test .taken) (l .inv .1 .0) (l .later) (l .inv .0 .1) _ _ (id-is read) (node-is read) _ free (marked r) (fits r .1) (c .before .free .ensures) (not-true _ (c .if2 .taken))
 
 loop-less : tie.Need-loop-less Inv-loop μ-loop
 loop-less c = search needs
 
 loop-again : tie.Need-loop-again Inv-loop μ-loop
 loop-again c =
-    let r = c .before .before .before .before in
-    let l = r .before .before .before .loop in (
-      order-more _ _ _ _ _ _ (r .before .before .loop-test .taken) (l .inv .1 .0) (l .later) (l .inv .0 .1) _ _ (r .before .count .ensures .0) (r .count2 .ensures .0) _ (c .before .before .before .if1 .left) (marked r) (fits r .1) (c .before .free .ensures) (not-false _ (c .if2 .left)) (l .inv .0 .0),
+    let r = c .before .before .before .before .before in
+    let l = r .before .before .loop in
+    let read = r .definition-at .ensures in
+    let free = c .before .before .before .if1 .left in
+    let walked = c .before .free .ensures in (
+      order-more _ _ _ _ _ _ (r .before .loop-test .taken) (l .inv .1 .0) (l .later) (l .inv .0 .1) _ _ (id-is read) (node-is read) _ free (marked r) (fits r .1) walked (not-false _ (c .if2 .left)) (l .inv .0 .0),
       (omega arith, simp length-set (l .inv .1 .1)),
     )
 
@@ -109,13 +103,8 @@ in-order-spec =
     no-later-requires
     loop-holds
     sub-k
-    mul-count
-    add-count
-    count-requires
-    mul-count-2
-    add-count-2
-    add-count-3
-    count-requires-2
+    definition-at-requires
+    cast-id
     mul-if1
     array-read-if1
     returns

@@ -8,9 +8,10 @@ use mathlib.Core.Path.{_≡_, refl, sym}
 use mathlib.Core.Bool.{true}
 use borrow.Author.Tests.{not-true, not-false}
 use Rattle.flat.specs.Record.{byDefinitions, definitionsFit}
+use Rattle.flat.proofs.Parts.{id-is, node-is}
 use Rattle.flat.proofs.Laws.{not-both}
 use Rattle.flat.specs.Marks.{Adds}
-use Rattle.flat.proofs.Marks.{defs-fail, defs-more, defs-none, node-below}
+use Rattle.flat.proofs.Marks.{defs-fail, defs-more, defs-none, both-below}
 
 abbrev Inv-loop : tie.InvT-loop
 Inv-loop s at n limit nodes marks₀ k₀ marks k = ((definitionsFit s at k limit nodes ≡ true) × Adds marks₀ marks (byDefinitions s at k)) × (k ≤ n)
@@ -21,32 +22,22 @@ abbrev μ-loop : tie.MeasureT-loop
 loop-holds : tie.Need-loop-holds Inv-loop μ-loop
 loop-holds c = (defs-none _ _ _ _ _, omega arith)
 
-mul-count : tie.Need-mul-count Inv-loop μ-loop
-mul-count c = search needs
+definition-at-requires : tie.Need-definition-at-requires Inv-loop μ-loop
+definition-at-requires c κs = search needs
 
-add-count : tie.Need-add-count Inv-loop μ-loop
-add-count c = search needs
-
-count-requires : tie.Need-count-requires Inv-loop μ-loop
-count-requires c κs = search needs
-
-mul-count-2 : tie.Need-mul-count-2 Inv-loop μ-loop
-mul-count-2 c = search needs
-
-add-count-2 : tie.Need-add-count-2 Inv-loop μ-loop
-add-count-2 c = search needs
-
-add-count-3 : tie.Need-add-count-3 Inv-loop μ-loop
-add-count-3 c = search needs
-
-count-requires-2 : tie.Need-count-requires-2 Inv-loop μ-loop
-count-requires-2 c κs = search needs
+cast-fits : tie.Need-cast-fits Inv-loop μ-loop
+cast-fits c = search needs
 
 returns : tie.Need-returns Inv-loop μ-loop
-returns c = (defs-fail _ _ _ _ _ _ _ _ (c .before .before .before .loop-test .taken) (c .before .before .count .ensures .0) (c .before .count2 .ensures .0) (not-true _ (c .if1 .taken)), λ e. absurd (not-both refl e))
+returns c =
+    let read = c .before .before .before .definition-at .ensures in
+    (defs-fail _ _ _ _ _ _ _ _ (c .before .before .before .before .loop-test .taken) (id-is read) (node-is read) (not-true _ (c .if1 .taken)), λ e. absurd (not-both refl e))
 
 use-node-requires : tie.Need-use-node-requires Inv-loop μ-loop
-use-node-requires c κs = omega (arith, node-below (c .before .before .before .count .result) (c .before .before .before .before .before .before .before .args .limit) (c .before .before .count2 .result) (c .before .before .before .before .before .before .before .args .nodes) (not-false _ (c .before .if1 .left)))
+use-node-requires c κs =
+    let d = c .before .before .before .before .definition-at .result in
+    let args = c .before .before .before .before .before .before .before .before .args in
+    omega (arith, both-below (d .id) (args .limit) (d .node) (args .nodes) (not-false _ (c .before .if1 .left)) .1)
 
 add-k : tie.Need-add-k Inv-loop μ-loop
 add-k c = search needs
@@ -55,7 +46,10 @@ loop-less : tie.Need-loop-less Inv-loop μ-loop
 loop-less c = search needs
 
 loop-again : tie.Need-loop-again Inv-loop μ-loop
-loop-again c = (defs-more _ _ _ _ _ _ _ (c .before .before .before .before .before .before .loop .inv .0 .0) (c .before .before .before .before .before .before .loop .inv .0 .1) (c .before .before .before .before .count .ensures .0) (c .before .before .before .count2 .ensures .0) (not-false _ (c .before .before .if1 .left)) (c .use-node .ensures), omega arith)
+loop-again c =
+    let read = c .before .before .before .before .before .definition-at .ensures in
+    let inv = c .before .before .before .before .before .before .before .loop .inv .0 in
+    (defs-more _ _ _ _ _ _ _ (inv .0) (inv .1) (id-is read) (node-is read) (not-false _ (c .before .before .if1 .left)) (c .use-node .ensures), omega arith)
 
 returns-2 : tie.Need-returns-2 Inv-loop μ-loop
 returns-2 c = let e : c .before .loop .k ≡ c .before .before .before .args .n = omega (arith, c .loop-test .left) in (rw e at (sym (c .before .loop .inv .0 .0)), λ _. rw e at (c .before .loop .inv .0 .1))
@@ -67,13 +61,8 @@ read-definitions-spec =
     Inv-loop
     μ-loop
     loop-holds
-    mul-count
-    add-count
-    count-requires
-    mul-count-2
-    add-count-2
-    add-count-3
-    count-requires-2
+    definition-at-requires
+    cast-fits
     returns
     use-node-requires
     add-k

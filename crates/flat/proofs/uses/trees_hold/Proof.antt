@@ -18,26 +18,26 @@ returns : tie.Need-returns
 unfolding treesHold
 returns c = and-no _ _ (sym (c .before .read-definitions .ensures .0) ∙ not-true _ (c .if1 .taken))
 
-read-sides-requires : tie.Need-read-sides-requires
-read-sides-requires c κs = search needs
+read-equations-requires : tie.Need-read-equations-requires
+read-equations-requires c κs = search needs
 
 returns-2 : tie.Need-returns-2
 unfolding treesHold
-returns-2 c = and-on _ (sym (c .before .before .before .before .read-definitions .ensures .0) ∙ (not-false _ (c .before .before .before .if1 .left))) (and-no _ _ (sym (c .before .read-sides .ensures .0) ∙ not-true _ (c .if2 .taken)))
+returns-2 c = and-on _ (sym (c .before .before .before .before .read-definitions .ensures .0) ∙ (not-false _ (c .before .before .before .if1 .left))) (and-no _ _ (sym (c .before .read-equations .ensures .0) ∙ not-true _ (c .if2 .taken)))
 
 read-nodes-requires : tie.Need-read-nodes-requires
 read-nodes-requires c κs = search needs
 
 returns-3 : tie.Need-returns-3
 unfolding treesHold
-returns-3 c = and-on _ (sym (c .before .before .before .before .before .before .before .read-definitions .ensures .0) ∙ (not-false _ (c .before .before .before .before .before .before .if1 .left))) (and-on _ (sym (c .before .before .before .before .read-sides .ensures .0) ∙ (not-false _ (c .before .before .before .if2 .left))) (and-no _ _ (sym (c .before .read-nodes .ensures .0) ∙ not-true _ (c .if3 .taken))))
+returns-3 c = and-on _ (sym (c .before .before .before .before .before .before .before .read-definitions .ensures .0) ∙ (not-false _ (c .before .before .before .before .before .before .if1 .left))) (and-on _ (sym (c .before .before .before .before .read-equations .ensures .0) ∙ (not-false _ (c .before .before .before .if2 .left))) (and-no _ _ (sym (c .before .read-nodes .ensures .0) ∙ not-true _ (c .if3 .taken))))
 
 all-once-requires : tie.Need-all-once-requires
 all-once-requires c κs = search needs
 
 returns-4 : tie.Need-returns-4
 unfolding treesHold
-returns-4 c = and-on _ (sym (c .before .before .before .before .before .before .before .before .before .read-definitions .ensures .0) ∙ (not-false _ (c .before .before .before .before .before .before .before .before .if1 .left))) (and-on _ (sym (c .before .before .before .before .before .before .read-sides .ensures .0) ∙ (not-false _ (c .before .before .before .before .before .if2 .left))) (and-on _ (sym (c .before .before .before .read-nodes .ensures .0) ∙ (not-false _ (c .before .before .if3 .left))) (all-marks _ _ _ _ _ _ _ (c .before .before .before .before .before .before .before .before .before .before .before .before .before .pre .1 .1) (c .before .before .before .before .before .before .before .before .before .before .before .no-marks .ensures) (c .before .before .before .before .before .before .before .before .before .read-definitions .ensures .1 (not-false _ (c .before .before .before .before .before .before .before .before .if1 .left))) (c .before .before .before .before .before .before .read-sides .ensures .1 (not-false _ (c .before .before .before .before .before .if2 .left))) (c .before .before .before .read-nodes .ensures .1 (not-false _ (c .before .before .if3 .left))) (c .all-once .ensures))))
+returns-4 c = and-on _ (sym (c .before .before .before .before .before .before .before .before .before .read-definitions .ensures .0) ∙ (not-false _ (c .before .before .before .before .before .before .before .before .if1 .left))) (and-on _ (sym (c .before .before .before .before .before .before .read-equations .ensures .0) ∙ (not-false _ (c .before .before .before .before .before .if2 .left))) (and-on _ (sym (c .before .before .before .read-nodes .ensures .0) ∙ (not-false _ (c .before .before .if3 .left))) (all-marks _ _ _ _ _ _ _ (c .before .before .before .before .before .before .before .before .before .before .before .before .before .pre .1 .1) (c .before .before .before .before .before .before .before .before .before .before .before .no-marks .ensures) (c .before .before .before .before .before .before .before .before .before .read-definitions .ensures .1 (not-false _ (c .before .before .before .before .before .before .before .before .if1 .left))) (c .before .before .before .before .before .before .read-equations .ensures .1 (not-false _ (c .before .before .before .before .before .if2 .left))) (c .before .before .before .read-nodes .ensures .1 (not-false _ (c .before .before .if3 .left))) (c .all-once .ensures))))
 
 pub trees-hold-spec : {M : Type 1} → statement M
 trees-hold-spec =
@@ -46,7 +46,7 @@ trees-hold-spec =
     no-marks-requires
     read-definitions-requires
     returns
-    read-sides-requires
+    read-equations-requires
     returns-2
     read-nodes-requires
     returns-3
