@@ -1,13 +1,17 @@
 #!/usr/bin/env python3
 """Runs the programs with faults: what they do where a read or a write fails, where arguments are wrong, and where the stack is short.
 
-    python3 tools/faults.py [FOLDER]
+    python3 tools/faults.py [FOLDER [PROGRAM..]]
 
-FOLDER has the built programs (target/bin by default, after `rt check equalities flatten flatten_equalities`). Every fault has to leave a line on
-standard error, or end the program by a signal, and to leave on standard output nothing but a front of the right bytes: none is taken for success.
-Printed is a line for each fault that was not handled so, then the counts; the exit status is 1 if there is one.
+FOLDER has the built programs, target/bin by default, after
+`rt check cut_flat equalities flatten flatten_equalities test_eval test_field test_flat test_flatten test_numbering test_source`; all ten are tried, or
+those named. Every fault has to leave a line on standard error, or end the program by a signal, and to leave on standard output nothing but a front of the
+right bytes: none is taken for success. A test program is tried on the first cases of its input and on many that differ from what they expect, each of
+which it tells by a line; without a fault on all of its input too. Printed is a line for each fault that was not handled so, then how many were tried
+on each program and the counts; the exit status is 1 if there is one.
 """
 import fcntl
+import itertools
 import os
 import resource
 import signal
@@ -50,10 +54,57 @@ def many_flat(n):
     return words(1, 0, 0, 0, n, len(nodes), *sides, *(w for x in nodes for w in x))
 
 
+# The inputs of the test programs are parts, one after the other. Of a part: how many words say its length, how many bytes it has by these, and which word
+# says what to expect.
+BASE, REFUSED = 0xFFFFFFFF, 0xFFFF0000
+PARTS = {
+    "test_eval": (3, lambda length, runs, size: 12 + 8 * runs + length + size, 4),
+    "test_flat": (4, lambda length, room, store, answer: 16 + length + (answer if answer < REFUSED else 0), 3),
+    "test_flatten": (3, lambda length, runs, size: 12 + 12 * runs + length + size, 5),
+    "test_numbering": (4, lambda length, answer, ids, publics: 16 + length + 4 * (ids + publics), 1),
+    "test_source": (2, lambda length, size: 24 + (size if length == BASE else 0), 1),
+}
+
+
+def word(part, k):
+    return int.from_bytes(part[4 * k:4 * k + 4], "little")
+
+
+def parts(name):
+    """The parts of a test program's input."""
+    data, (head, size, _) = read("crates", name, "stdin"), PARTS[name]
+    at = 0
+    while at < len(data):
+        n = size(*(word(data[at:at + 4 * head], k) for k in range(head)))
+        yield data[at:at + n]
+        at += n
+
+
+def front(name):
+    """The first parts of a test program's input."""
+    return b"".join(itertools.islice(parts(name), 6))
+
+
+def many_different(name):
+    """One case, 400 times, which another number than its own is expected of. A base of test_source comes before it."""
+    k, before = PARTS[name][2], b""
+    for part in parts(name):
+        if name == "test_source" and word(part, 0) == BASE:
+            before = part
+        elif name != "test_flat" or word(part, k) > REFUSED:
+            return before + 400 * (part[:4 * k] + words(word(part, k) + 1) + part[4 * k + 4:])
+
+
+# programs that take numbers as arguments: some that change nothing
+NUMBERS = {"flatten": ("0" * 3000 + "1048560", "0" * 4000 + "1016088"), "cut_flat": ("0" * 4000 + "1016088",)}
+
 PROGRAMS = {
-    "equalities": (read("crates", "equalities", "stdin"), many_flat(400)),
-    "flatten": (read("crates", "flatten", "stdin"), many_equations(400)),
-    "flatten_equalities": (read("crates", "flatten_equalities", "stdin"), many_equations(400)),
+    "cut_flat": lambda: (read("crates", "cut_flat", "stdin"), many_flat(400)),
+    "equalities": lambda: (read("crates", "equalities", "stdin"), many_flat(400)),
+    "flatten": lambda: (read("crates", "flatten", "stdin"), many_equations(400)),
+    "flatten_equalities": lambda: (read("crates", "flatten_equalities", "stdin"), many_equations(400)),
+    "test_field": lambda: (b"", b""),
+    **{name: lambda name=name: (front(name), many_different(name)) for name in PARTS},
 }
 
 
@@ -131,13 +182,15 @@ def reads(name, record, whole):
     expect(name + ", read by single bytes with pauses", (out, err) == (whole, b""))
     status, out, err = run(name, before=lambda: os.close(0), stdin=subprocess.DEVNULL)
     expect(name + ", standard input closed", out == b"" and said(err, b"input: Bad file descriptor"))
-    r, w = os.pipe()
-    os.write(w, record[:8])
-    fcntl.fcntl(r, fcntl.F_SETFL, fcntl.fcntl(r, fcntl.F_GETFL) | os.O_NONBLOCK)
-    status, out, err = run(name, stdin=r)
-    os.close(w)
-    os.close(r)
-    expect(name + ", a read that would have to wait", out == b"" and said(err, b"input: Resource temporarily unavailable"))
+    for sent in (record[:8], record):
+        r, w = os.pipe()
+        os.write(w, sent)
+        fcntl.fcntl(r, fcntl.F_SETFL, fcntl.fcntl(r, fcntl.F_GETFL) | os.O_NONBLOCK)
+        status, out, err = run(name, stdin=r)
+        os.close(w)
+        os.close(r)
+        told = said(err, b"input: Resource temporarily unavailable")
+        expect("%s, a read behind %d bytes that would have to wait" % (name, len(sent)), out == b"" and told)
     folder = os.open(TOP, os.O_RDONLY)
     status, out, err = run(name, stdin=folder)
     os.close(folder)
@@ -146,7 +199,8 @@ def reads(name, record, whole):
 
 def slow_reader(name, record, whole):
     p = subprocess.Popen([os.path.join(BIN, name)], stdin=subprocess.PIPE, stdout=subprocess.PIPE, stderr=subprocess.PIPE)
-    p.stdin.write(record)
+    if record:
+        p.stdin.write(record)
     p.stdin.close()
     got = b""
     while True:
@@ -160,13 +214,17 @@ def slow_reader(name, record, whole):
 
 def arguments(name, record, whole):
     usage = b"usage: " + name.encode()
-    wrong = [("--help",), ("-x",), ("1", "2", "3", "4"), ("9" * 5000,) if name != "flatten" else ("x" * 5000,)]
+    wrong = [("--help",), ("-x",), ("1", "2", "3", "4"), ("9" * 5000,) if name not in NUMBERS else ("x" * 5000,)]
+    if name.startswith("test_"):
+        wrong += [("1",), ("",)]
     for args in wrong:
         status, out, err = run(name, record, args)
         expect("%s %s" % (name, " ".join(a[:12] for a in args)), out == b"" and said(err, usage))
-    if name == "flatten":
-        status, out, err = run(name, record, ("0" * 3000 + "1048560", "0" * 4000 + "1016088"))
-        expect("flatten, long numbers", (out, err) == (whole, b""))
+    if name.startswith("test_"):
+        return
+    if name in NUMBERS:
+        status, out, err = run(name, record, NUMBERS[name])
+        expect(name + ", long numbers", (out, err) == (whole, b""))
         return
     with tempfile.NamedTemporaryFile() as f:
         f.write(record)
@@ -176,22 +234,58 @@ def arguments(name, record, whole):
     expect(name + ", a file that is missing", out == b"" and said(err, b"no such file: No such file or directory"))
 
 
-def environment(name, record, whole):
-    """1 MB of environment, which stands on the stack, at 8 MiB of stack."""
+def crowded(name, record):
+    """A run with 1 MB of environment, which stands on the stack, at 8 MiB of stack."""
     env = {"E%03d" % k: "x" * 10000 for k in range(100)}
-    stack = lambda: resource.setrlimit(resource.RLIMIT_STACK, (8192 * 1024, 8192 * 1024))
-    expect(name + ", 1 MB of environment", run(name, record, before=stack, env=env)[1:] == (whole, b""))
+    return run(name, record, before=lambda: resource.setrlimit(resource.RLIMIT_STACK, (8192 * 1024, 8192 * 1024)), env=env)
 
 
-for name, (small, large) in PROGRAMS.items():
-    for record in (small, large):
+def environment(name, record, whole):
+    expect(name + ", 1 MB of environment", crowded(name, record)[1:] == (whole, b""))
+
+
+def some_cases(name, small, large):
+    """A case that ends too early, and cases that differ: each is told by a line, and counted."""
+    out = run(name, small[:-1])[1]
+    expect(name + ", an input that is cut short", out.startswith(b"part 5 of the input is broken\n") and out.endswith(b" 1 differ\n"))
+    out = run(name, large)[1]
+    expect(name + ", cases that differ", out.count(b"\n") == 401 and out.endswith(b" 400 differ\n"))
+
+
+def all_cases(name):
+    """All of a test program's input, also by pieces with pauses, and with 1 MB of environment, where the deepest records may end it by a signal."""
+    record, whole = read("crates", name, "stdin"), read("crates", name, "stdout")
+    expect(name + ", all of its input", run(name, record) == (0, whole, b""))
+    expect(name + ", all of its input, 1 MB of environment", crowded(name, record) in ((0, whole, b""), (-signal.SIGSEGV, b"", b"")))
+    p = subprocess.Popen([os.path.join(BIN, name)], stdin=subprocess.PIPE, stdout=subprocess.PIPE, stderr=subprocess.PIPE)
+    for at in range(0, len(record), 50001):
+        p.stdin.write(record[at:at + 50001])
+        p.stdin.flush()
+        time.sleep(0.001)
+    out, err = p.communicate(timeout=60)
+    expect(name + ", all of its input by pieces with pauses", (out, err) == (whole, b""))
+
+
+def tried(name):
+    small, large = PROGRAMS[name]()
+    for record in dict.fromkeys((small, large)):
         status, whole, err = run(name, record)
         expect(name + ", no fault", whole and err == b"" and status == 0)
         writes(name, record, whole)
         environment(name, record, whole)
     slow_reader(name, large, whole)
     status, whole, err = run(name, small)
-    reads(name, small, whole)
     arguments(name, small, whole)
+    if name != "test_field":
+        reads(name, small, whole)
+    if name in PARTS:
+        some_cases(name, small, large)
+        all_cases(name)
+
+
+for name in sys.argv[2:] or sorted(PROGRAMS):
+    count = passed + len(failed)
+    tried(name)
+    print("%s: %d tried" % (name, passed + len(failed) - count))
 print("%d faults handled, %d not" % (passed, len(failed)))
 sys.exit(1 if failed else 0)

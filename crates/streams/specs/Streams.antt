@@ -31,3 +31,8 @@ Stepped Step.Failed size = Unit {0}
 abbrev pub Descriptor : Opened → Type 0
 Descriptor (Opened.At fd) = ltZ fd (pos 0) ≡ false
 Descriptor Opened.Failed = Unit {0}
+
+-- the descriptor of standard input
+abbrev pub Standard : Opened → Type 0
+Standard (Opened.At fd) = fd ≡ pos 0
+Standard Opened.Failed = Unit {0}

@@ -3,7 +3,7 @@ use libc::STDERR_FILENO;
 use libc::STDIN_FILENO;
 use libc::STDOUT_FILENO;
 ghost use lib.ListN.{length};
-ghost use Rattle.streams.specs.Streams.{Within, Whole, Stepped, Descriptor};
+ghost use Rattle.streams.specs.Streams.{Within, Whole, Stepped, Descriptor, Standard};
 
 // So many bytes, up to the end of the input or of the buffer; or a read failed, which was said.
 pub enum Input {
@@ -109,6 +109,17 @@ fn open_named(name: &[u8], usage: &[u8]) -> Opened
         return Opened::Failed;
     }
     Opened::At(fd)
+}
+
+// Standard input, of a program that takes no arguments: any are answered by the line of usage.
+pub fn open_standard(usage: &[u8]) -> Opened
+    ensures { λ r. ⌜ Standard r ⌝ }
+{
+    if os::arg_count() < 2 {
+        return Opened::At(STDIN_FILENO);
+    }
+    say_usage(usage);
+    Opened::Failed
 }
 
 // Standard input, or the file that the only argument names. Options and further arguments are answered by the line of usage.

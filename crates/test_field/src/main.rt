@@ -1,9 +1,15 @@
-// Runs the field on vectors that another program made, and writes how many there were and how many answers differ.
+// Runs the field on vectors that another program made, and writes how many there were and how many answers differ. A write that
+// fails is said on standard error.
 mod vectors;
 
 ghost use Prim.Native.Nat.{_≤_};
 use field::Answer;
 use field::InfixOp;
+use streams::Opened;
+use streams::open_standard;
+use test_report::Part;
+use test_report::tell;
+use test_report::tell_last;
 use vectors::COUNTS;
 use vectors::POWERS;
 use vectors::ROWS;
@@ -92,16 +98,16 @@ fn differing_counts(rows: &[u64]) -> u64 {
     wrong
 }
 
-fn report(what: &[u8], n: u64, wrong: u64) {
-    io::print_decimal(1, n);
-    io::write_all(1, what);
-    io::print_decimal(1, wrong);
-    io::write_all(1, b" differ\n");
-}
-
 fn main() {
+    let Opened::At(_) = open_standard(b"usage: test_field\n") else {
+        return;
+    };
     let vectors = VECTORS;
-    report(b" vectors, ", ROWS as u64, differing_vectors(&vectors));
+    let of_vectors = [ROWS as u64, differing_vectors(&vectors)];
+    let Part::Whole = tell(b"# vectors, # differ\n", &of_vectors) else {
+        return;
+    };
     let powers = POWERS;
-    report(b" power counts, ", COUNTS as u64, differing_counts(&powers));
+    let of_powers = [COUNTS as u64, differing_counts(&powers)];
+    tell_last(b"# power counts, # differ\n", &of_powers);
 }

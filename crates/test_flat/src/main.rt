@@ -1,7 +1,18 @@
 // Replays cases of the passes: flat records with the answers of the Rust, made by tools/flat_cases.py. A case on standard
 // input: the words record length, output room, store length and expected answer (a length, or 4,294,901,760 and the number
-// of a refusal), the record, and the expected constraint record.
+// of a refusal), the record, and the expected constraint record. A read or a write that fails is said on standard error.
 use pass_entry::Answer;
+use streams::Opened;
+use streams::open_standard;
+use test_report::ACCEPTED;
+use test_report::DIFFERENT;
+use test_report::KINDS_OF_CASES;
+use test_report::Part;
+use test_report::REFUSED;
+use test_report::count_case;
+use test_report::finish_cases;
+use test_report::read_part;
+use test_report::read_rest;
 use words::word_at;
 ghost use mathlib.Core.Path.{_≡_};
 ghost use Prim.Native.Nat.{_+_, _≤_, _<_};
@@ -21,20 +32,18 @@ const CASES: u64 = 1000000;
 // Bytes are compared by blocks.
 const BLOCK: usize = 4096;
 
-const REFUSED: u32 = 4294901760;
+const REFUSAL: u32 = 4294901760;
 
 // What stands in the output and in the store before a case.
 const UNWRITTEN: u8 = 165;
 
 const UNCLEARED: u8 = 90;
 
-// What a case came to. Broken: it does not fit here, or the input ends within it, so that no next case can be found.
-enum Seen {
-    Accepted,
-    Refused,
-    Differs,
-    Broken,
-    End,
+// What the next bytes of the input are: those that were asked for, others, or none to be had.
+enum Next {
+    These,
+    Others,
+    Missing(Part),
 }
 
 fn fill(s: &mut [u8], b: u8)
@@ -60,48 +69,54 @@ fn all_are(s: &[u8], at: usize, b: u8) -> bool {
     true
 }
 
-// The end of at most 4,096 bytes that start at `at`, of n.
-fn chunk_end(at: usize, n: usize) -> usize
+// The end of a block that starts at `at`, of n bytes.
+fn block_end(at: usize, n: usize) -> usize
     requires { ⌜ at < n ⌝ }
     ensures { λ r. ⌜ (at < r) × ((r ≤ n) × (r ≤ at + 4096)) ⌝ }
 {
     if n - at < BLOCK { n } else { at + BLOCK }
 }
 
-// Whether the next bytes of the input, as many as `chunk` has, are those of `s`.
-fn read_is(s: &[u8], chunk: &mut [u8]) -> bool {
-    let got = io::read_full(0, chunk);
-    if got < chunk.len() {
-        return false;
+// Reads as many bytes as `block` has; are they those of `s`?
+fn read_block(s: &[u8], block: &mut [u8]) -> Next {
+    let part = read_rest(block);
+    let Part::Whole = part else {
+        return Next::Missing(part);
+    };
+    if check::same(block, s) {
+        Next::These
+    } else {
+        Next::Others
     }
-    check::same(chunk, s)
 }
 
-// Whether the next bytes of the input are those of `s`.
-fn chunk_is_next(s: &[u8]) -> bool
+fn block_is_next(s: &[u8]) -> Next
     requires { ⌜ length (now s) ≤ 4096 ⌝ }
 {
-    let mut chunk = io::buffer();
+    let mut block = io::buffer();
     let n = s.len();
-    read_is(s, &mut chunk[..n])
+    read_block(s, &mut block[..n])
 }
 
-// The same of any length. It reads as many bytes as `s` has, whatever they are.
-fn is_next(s: &[u8]) -> bool {
+// The same of any length. As many bytes as `s` has are read, whatever they are.
+fn is_next(s: &[u8]) -> Next {
     let mut same = true;
     let mut at = 0usize;
     while at < s.len() {
-        let end = chunk_end(at, s.len());
-        if !chunk_is_next(&s[at..end]) {
-            same = false;
+        let end = block_end(at, s.len());
+        let next = block_is_next(&s[at..end]);
+        match next {
+            Next::These => {}
+            Next::Others => same = false,
+            Next::Missing(_) => return next,
         }
         at = end;
     }
-    same
+    if same { Next::These } else { Next::Others }
 }
 
 // The same of the first n bytes of `s`.
-fn front_is_next(s: &[u8], n: usize) -> bool
+fn front_is_next(s: &[u8], n: usize) -> Next
     requires { ⌜ n ≤ length (now s) ⌝ }
 {
     is_next(&s[..n])
@@ -110,161 +125,124 @@ fn front_is_next(s: &[u8], n: usize) -> bool
 fn answer_number(answer: Answer) -> u64 {
     match answer {
         Answer::Written(n) => n as u64,
-        Answer::Refused(number) => REFUSED as u64 + number as u64,
+        Answer::Refused(number) => REFUSAL as u64 + number as u64,
     }
 }
 
 // How many bytes an expected answer writes.
-fn expected_length(expected: u32) -> usize {
-    if expected < REFUSED {
-        expected as usize
-    } else {
-        0
-    }
+fn expected_length(answer: u32) -> usize {
+    if answer < REFUSAL { answer as usize } else { 0 }
 }
 
-fn verdict(expected: u32, as_expected: bool) -> Seen {
+// The place in the counts.
+fn verdict(answer: u32, as_expected: bool) -> usize {
     if !as_expected {
-        return Seen::Differs;
+        return DIFFERENT;
     }
-    if expected < REFUSED {
-        return Seen::Accepted;
+    if answer < REFUSAL {
+        return ACCEPTED;
     }
-    Seen::Refused
+    REFUSED
+}
+
+// Whether the answer is the expected one, and the output as it was behind its first n bytes.
+fn answers(flat: &[u8], store: &mut [u8], out: &mut [u8], n: usize, answer: u32) -> bool {
+    fill(store, UNCLEARED);
+    fill(out, UNWRITTEN);
+    let got = answer_number(pass_entry::cut(flat, store, out));
+    let rest = all_are(out, n, UNWRITTEN);
+    let cleared = all_are(store, 0, 0);
+    (got == answer as u64) & rest & cleared
+}
+
+// A case whose answer was right or not, with the expected record next in the input.
+fn judge(out: &[u8], n: usize, answer: u32, right: bool, case: u64, counts: &mut [u64]) -> Part
+    requires { ⌜ n ≤ length (now out) ⌝ }
+{
+    match front_is_next(out, n) {
+        Next::These => count_case(counts, verdict(answer, right), DIFFERENT, case),
+        Next::Others => count_case(counts, DIFFERENT, DIFFERENT, case),
+        Next::Missing(part) => part,
+    }
 }
 
 // A case whose lengths are those of the slices.
-fn replay_case(flat: &mut [u8], store: &mut [u8], out: &mut [u8], expected: u32) -> Seen {
-    let got = io::read_full(0, flat);
-    let length = expected_length(expected);
-    if got < flat.len() {
-        return Seen::Broken;
+fn replay_case(
+    flat: &mut [u8],
+    store: &mut [u8],
+    out: &mut [u8],
+    answer: u32,
+    case: u64,
+    counts: &mut [u64],
+) -> Part {
+    let record = read_rest(flat);
+    let Part::Whole = record else {
+        return record;
+    };
+    let n = expected_length(answer);
+    if out.len() < n {
+        return Part::Broken;
     }
-    if out.len() < length {
-        return Seen::Broken;
-    }
-    fill(store, UNCLEARED);
-    fill(out, UNWRITTEN);
-    let answer = answer_number(pass_entry::cut(flat, store, out));
-    let same = front_is_next(out, length);
-    let rest = all_are(out, length, UNWRITTEN);
-    let cleared = all_are(store, 0, 0);
-    verdict(
-        expected,
-        answer == expected as u64 && same && rest && cleared,
-    )
+    let right = answers(flat, store, out, n, answer);
+    judge(out, n, answer, right, case, counts)
 }
 
 // The next case of the input.
-fn replay(flat: &mut [u8], store: &mut [u8], out: &mut [u8]) -> Seen {
+fn replay(
+    flat: &mut [u8],
+    store: &mut [u8],
+    out: &mut [u8],
+    case: u64,
+    counts: &mut [u64],
+) -> Part {
     let mut head = [0u8; HEAD];
-    let got = io::read_full(0, &mut head);
-    if got == 0 {
-        return Seen::End;
-    }
-    if got < HEAD {
-        return Seen::Broken;
-    }
+    let part = read_part(&mut head);
+    let Part::Whole = part else {
+        return part;
+    };
     let length = word_at(&head, 0) as usize;
     let room = word_at(&head, 1) as usize;
     let held = word_at(&head, 2) as usize;
-    let expected = word_at(&head, 3);
+    let answer = word_at(&head, 3);
     if flat.len() < length {
-        return Seen::Broken;
+        return Part::Broken;
     }
     if store.len() < held {
-        return Seen::Broken;
+        return Part::Broken;
     }
     if out.len() < room {
-        return Seen::Broken;
+        return Part::Broken;
     }
     replay_case(
         &mut flat[..length],
         &mut store[..held],
         &mut out[..room],
-        expected,
+        answer,
+        case,
+        counts,
     )
 }
 
-fn is_accepted(seen: Seen) -> u64
-    ensures { λ r. ⌜ r ≤ 1 ⌝ }
-{
-    match seen {
-        Seen::Accepted => 1,
-        _ => 0,
+// Every case of the input, with what is lent to them.
+fn replay_all(flat: &mut [u8], store: &mut [u8], out: &mut [u8], counts: &mut [u64]) -> Part {
+    let mut case = 0u64;
+    while case < CASES {
+        let part = replay(flat, store, out, case, counts);
+        let Part::Whole = part else {
+            return finish_cases(part, case, counts);
+        };
+        case += 1;
     }
-}
-
-fn is_refused(seen: Seen) -> u64
-    ensures { λ r. ⌜ r ≤ 1 ⌝ }
-{
-    match seen {
-        Seen::Refused => 1,
-        _ => 0,
-    }
-}
-
-fn is_different(seen: Seen) -> u64
-    ensures { λ r. ⌜ r ≤ 1 ⌝ }
-{
-    match seen {
-        Seen::Differs => 1,
-        Seen::Broken => 1,
-        _ => 0,
-    }
-}
-
-// The turns left after a case: none where no next case is to be had.
-fn turns_after(seen: Seen, left: u64) -> u64
-    requires { ⌜ 0 < left ⌝ }
-    ensures { λ r. ⌜ r < left ⌝ }
-{
-    match seen {
-        Seen::End => 0,
-        Seen::Broken => 0,
-        _ => left - 1,
-    }
-}
-
-fn report(n: u64, what: &[u8]) {
-    io::print_decimal(1, n);
-    io::write_all(1, what);
-}
-
-// The case that differs, counted from 0.
-fn report_different(different: u64, case: u64) {
-    if different != 0 {
-        io::write_all(1, b"case ");
-        report(case, b" differs\n");
-    }
-}
-
-fn report_all(accepted: u64, refused: u64, differ: u64) {
-    report(accepted, b" accepted, ");
-    report(refused, b" refused, ");
-    report(differ, b" differ\n");
-}
-
-// Every case of the input, with what is lent to them. Nothing says that the input ends, so the cases are counted down.
-fn replay_all(flat: &mut [u8], store: &mut [u8], out: &mut [u8]) {
-    let mut accepted = 0u64;
-    let mut refused = 0u64;
-    let mut differ = 0u64;
-    let mut left = CASES;
-    while 0 < left {
-        let seen = replay(flat, store, out);
-        report_different(is_different(seen), accepted + refused + differ);
-        accepted += is_accepted(seen);
-        refused += is_refused(seen);
-        differ += is_different(seen);
-        left = turns_after(seen, left);
-    }
-    report_all(accepted, refused, differ);
+    finish_cases(Part::Whole, case, counts)
 }
 
 fn main() {
+    let Opened::At(_) = open_standard(b"usage: test_flat < CASES\n") else {
+        return;
+    };
     let mut flat = [0u8; RECORD];
     let mut store = [0u8; STORE];
     let mut out = [0u8; OUTPUT];
-    replay_all(&mut flat, &mut store, &mut out);
+    let mut counts = [0u64; KINDS_OF_CASES];
+    replay_all(&mut flat, &mut store, &mut out, &mut counts);
 }

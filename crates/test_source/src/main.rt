@@ -2,27 +2,36 @@
 // a time, the first of which is either 4,294,967,295, and then the next says how many bytes follow, the base of the cases to come; or
 // the length of a case: so many bytes of the base, with two words of it written anew. A case's words: length, expected answer (the
 // next id, or 4,294,901,760 and the number of a refusal), and twice the index of a word and the word that it becomes.
+// A read or a write that fails is said on standard error.
 use numbering::Numbered;
 use records::source_record::NODES;
+use streams::Opened;
+use streams::open_standard;
+use test_report::Part;
+use test_report::count_case;
+use test_report::finish;
+use test_report::read_part;
+use test_report::read_rest;
 use words::put_word;
 use words::word_at;
-ghost use mathlib.Core.Path.{_≡_};
-ghost use Prim.Native.Nat.{_+_, _*_, _≤_, _<_};
+ghost use Prim.Native.Nat.{_≤_};
 ghost use lib.ListN.{length};
 
 const BASE: u32 = 4294967295;
 
 const REFUSED: u32 = 4294901760;
 
-// What a case came to: its place in the counts, 0 for an accepted one, else the number of its refusal. Broken: it does not fit here,
-// or the input ends within it, so that no next case can be found.
-enum Seen {
-    Base,
-    As(u32),
-    Differs,
-    Broken,
-    End,
-}
+// The counts of cases: accepted, refused by 1 to 6, different.
+const ACCEPTED: usize = 0;
+
+const DIFFERENT: usize = 7;
+
+const KINDS_OF_CASES: usize = 8;
+
+// Bytes of a case's words, and how many cases and bases there may be.
+const HEAD: usize = 24;
+
+const PARTS: u64 = 1000000;
 
 fn no_ids(ids: &[u32; NODES]) -> bool {
     let mut i = 0usize;
@@ -46,26 +55,24 @@ fn no_publics(publics: &[u32; 64]) -> bool {
     true
 }
 
-// An accepted record has its next id, and is counted at 0.
-fn judge_accepted(next: u32, answer: u32) -> Seen {
-    if next == answer {
-        Seen::As(0)
-    } else {
-        Seen::Differs
-    }
+// An accepted record has its next id.
+fn judge_accepted(next: u32, answer: u32) -> usize {
+    if next == answer { ACCEPTED } else { DIFFERENT }
 }
 
 // A refused one has its number, and no id in either array.
-fn judge_refused(number: u32, answer: u32, none: bool) -> Seen {
+fn judge_refused(number: u32, answer: u32, none: bool) -> usize {
     let same = REFUSED as u64 + number as u64 == answer as u64;
-    if same & none {
-        Seen::As(number)
+    let known = (number as usize) < DIFFERENT;
+    if same & none & known {
+        number as usize
     } else {
-        Seen::Differs
+        DIFFERENT
     }
 }
 
-fn judge(image: &[u8], answer: u32) -> Seen {
+// The place in the counts of a case.
+fn judge(image: &[u8], answer: u32) -> usize {
     let r = numbering::number_module_variables(image);
     let ids = r.ids;
     let publics = r.publics;
@@ -81,9 +88,9 @@ fn judge(image: &[u8], answer: u32) -> Seen {
 }
 
 // The record is the first n bytes of the image.
-fn judge_front(image: &[u8], n: usize, answer: u32) -> Seen {
+fn judge_front(image: &[u8], n: usize, answer: u32) -> usize {
     if image.len() < n {
-        return Seen::Broken;
+        return DIFFERENT;
     }
     judge(&image[..n], answer)
 }
@@ -107,122 +114,77 @@ fn damage(image: &mut [u8], i: usize, w: u32) {
 }
 
 // A new base: its bytes go to the front of the buffer.
-fn read_base(base: &mut [u8], n: usize) -> Seen {
+fn read_base(base: &mut [u8], n: usize) -> Part {
     if base.len() < n {
-        return Seen::Broken;
+        return Part::Broken;
     }
-    let got = io::read_full(0, &mut base[..n]);
-    if got < n {
-        return Seen::Broken;
-    }
-    Seen::Base
+    read_rest(&mut base[..n])
 }
 
 // A case, by its six words.
-fn replay_case(base: &[u8], image: &mut [u8], head: &[u8; 24]) -> Seen {
+fn replay_case(
+    base: &[u8],
+    image: &mut [u8],
+    head: &[u8; HEAD],
+    case: u64,
+    counts: &mut [u64],
+) -> Part {
     let n = word_at(head, 0) as usize;
     if base.len() < n {
-        return Seen::Broken;
+        return Part::Broken;
     }
     if image.len() < n {
-        return Seen::Broken;
+        return Part::Broken;
     }
     copy(base, image, n);
     damage(image, word_at(head, 2) as usize, word_at(head, 3));
     damage(image, word_at(head, 4) as usize, word_at(head, 5));
-    judge_front(image, n, word_at(head, 1))
+    let k = judge_front(image, n, word_at(head, 1));
+    count_case(counts, k, DIFFERENT, case)
 }
 
-// The next case or base of the input.
-fn replay(base: &mut [u8], image: &mut [u8]) -> Seen {
-    let mut head = [0u8; 24];
-    let got = io::read_full(0, &mut head);
-    if got == 0 {
-        return Seen::End;
-    }
-    if got < 24 {
-        return Seen::Broken;
-    }
+// The next case or base of the input; both have a number.
+fn replay(base: &mut [u8], image: &mut [u8], case: u64, counts: &mut [u64]) -> Part {
+    let mut head = [0u8; HEAD];
+    let part = read_part(&mut head);
+    let Part::Whole = part else {
+        return part;
+    };
     if word_at(&head, 0) == BASE {
         return read_base(base, word_at(&head, 1) as usize);
     }
-    replay_case(base, image, &head)
+    replay_case(base, image, &head, case, counts)
 }
 
-// One more at place k of the counts: 0 to 6 as seen, 7 for a case that differs.
-fn count(counts: &mut [u64; 8], k: usize)
-    requires { ⌜ k < 8 ⌝ }
-{
-    if counts[k] < 1000000 {
-        counts[k] += 1;
+fn finish_counts(last: Part, at: u64, counts: &mut [u64]) -> Part {
+    finish(
+        last,
+        at,
+        counts,
+        DIFFERENT,
+        b"# accepted; refused: # by 1, # by 2, # by 3, # by 4, # by 5, # by 6; # differ\n",
+    )
+}
+
+// Every case of the input, with what is lent to them.
+fn replay_all(base: &mut [u8], image: &mut [u8], counts: &mut [u64]) -> Part {
+    let mut case = 0u64;
+    while case < PARTS {
+        let part = replay(base, image, case, counts);
+        let Part::Whole = part else {
+            return finish_counts(part, case, counts);
+        };
+        case += 1;
     }
-}
-
-// The place in the counts of what a case came to; 8 for none.
-fn place(seen: Seen) -> usize {
-    match seen {
-        Seen::As(k) => { if k < 7 { k as usize } else { 7 } }
-        Seen::Differs => 7,
-        Seen::Broken => 7,
-        Seen::Base => 8,
-        Seen::End => 8,
-    }
-}
-
-// The turns left after a case: none where no next case is to be had.
-fn turns_after(seen: Seen, left: u64) -> u64
-    requires { ⌜ 0 < left ⌝ }
-    ensures { λ r. ⌜ r < left ⌝ }
-{
-    match seen {
-        Seen::End => 0,
-        Seen::Broken => 0,
-        _ => left - 1,
-    }
-}
-
-fn report(n: u64, what: &[u8]) {
-    io::print_decimal(1, n);
-    io::write_all(1, what);
-}
-
-// What differs, by its place in the input, bases counted too.
-fn report_different(k: usize, case: u64) {
-    if k == 7 {
-        io::write_all(1, b"case ");
-        report(case, b" differs\n");
-    }
-}
-
-fn report_all(counts: &[u64; 8]) {
-    report(counts[0], b" accepted; refused: ");
-    report(counts[1], b" by 1, ");
-    report(counts[2], b" by 2, ");
-    report(counts[3], b" by 3, ");
-    report(counts[4], b" by 4, ");
-    report(counts[5], b" by 5, ");
-    report(counts[6], b" by 6; ");
-    report(counts[7], b" differ\n");
-}
-
-// Every case of the input, with what is lent to them. Nothing says that the input ends, so the cases are counted down.
-fn replay_all(base: &mut [u8], image: &mut [u8]) {
-    let mut counts = [0u64; 8];
-    let mut left = 1000000u64;
-    while 0 < left {
-        let seen = replay(base, image);
-        let k = place(seen);
-        report_different(k, 1000000 - left);
-        if k < 8 {
-            count(&mut counts, k);
-        }
-        left = turns_after(seen, left);
-    }
-    report_all(&counts);
+    finish_counts(Part::Whole, case, counts)
 }
 
 fn main() {
+    let Opened::At(_) = open_standard(b"usage: test_source < CASES\n") else {
+        return;
+    };
     let mut base = [0u8; 80000];
     let mut image = [0u8; 80000];
-    replay_all(&mut base, &mut image);
+    let mut counts = [0u64; KINDS_OF_CASES];
+    replay_all(&mut base, &mut image, &mut counts);
 }

@@ -5,7 +5,7 @@ use Rattle.flatten.proofs.flatten_input.Statement.{statement}
 use Rattle.flatten.proofs.flatten_input.Tie as tie
 use Rattle.flatten.proofs.flatten_input.Reads as reads
 use Rattle.flatten.proofs.flatten_input.Lts as lts
-use Rattle.flatten.proofs.print_answer.Reads as print-answer-reads
+use Rattle.answer_record.proofs.print_answer.Reads as print-answer-reads
 use Rattle.flatten_entry.proofs.buffers.record_buffer.Reads as record-buffer-reads
 use Rattle.flatten_entry.proofs.flatten.Reads as flatten-reads
 use Rattle.streams.proofs.read_input.Reads as read-input-reads

@@ -1,8 +1,8 @@
--- `test_flat::front_is_next` meets its contract. Assumes nothing.
+-- `test_flat::front_is_next` meets its contract. Assumes nothing but the contracts of libc.
 use borrow.Author.Needs.{needs}
+use Rattle.io.proofs.Counting.{counts}
 use Rattle.test_flat.proofs.front_is_next.Statement.{statement}
 use Rattle.test_flat.proofs.front_is_next.Tie as tie
-use Rattle.io.proofs.Counting.{counts}
 
 slice-aggregate-is-next : tie.Need-slice-aggregate-is-next
 slice-aggregate-is-next c = counts _ _ (c .before .before .pre) .1

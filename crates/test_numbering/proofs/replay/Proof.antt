@@ -1,29 +1,22 @@
+-- `test_numbering::replay` meets its contract. Assumes nothing but the contracts of libc.
 use borrow.Author.Needs.{needs}
+use Prim.Native.Nat.{_+_, _*_}
+use native.Mathlib.Omega.{arith}
+use Rattle.io.proofs.Counting.{counts}
 use Rattle.test_numbering.proofs.replay.Statement.{statement}
 use Rattle.test_numbering.proofs.replay.Tie as tie
-use Rattle.test_numbering.proofs.replay.Reads as reads
-use Rattle.test_numbering.proofs.replay.Lts as lts
-use Rattle.io.proofs.read_full.Reads as read-full-reads
-use Rattle.test_numbering.proofs.replay_case.Reads as replay-case-reads
-use Rattle.words.proofs.word_at.Reads as word-at-reads
-use borrow.Author.Needs.{needs}
-use native.Mathlib.Omega.{arith}
-use Prim.Native.Nat.{ℕ, _-_, _+_, _*_, _≤_, _<_}
-use mathlib.Core.Path.{_≡_}
-use lib.ListN.{length}
-use Rattle.io.proofs.Counting.{counts}
 
-slice-aggregate-read-full : tie.Need-slice-aggregate-read-full
-slice-aggregate-read-full c = search needs
+slice-aggregate-read-part : tie.Need-slice-aggregate-read-part
+slice-aggregate-read-part c = search needs
 
-read-full-requires : tie.Need-read-full-requires
-read-full-requires c κs = search needs
+read-part-requires : tie.Need-read-part-requires
+read-part-requires c κs = search needs
+
+enum-told : tie.Need-enum-told
+enum-told c = search needs
 
 returns : tie.Need-returns
 returns c = search needs
-
-returns-2 : tie.Need-returns-2
-returns-2 c = search needs
 
 slice-aggregate-word-at : tie.Need-slice-aggregate-word-at
 slice-aggregate-word-at c = search needs
@@ -64,26 +57,32 @@ add-size c = search needs
 mul-size : tie.Need-mul-size
 mul-size c = search needs
 
+returns-2 : tie.Need-returns-2
+returns-2 c = search needs
+
 returns-3 : tie.Need-returns-3
 returns-3 c = search needs
-
-returns-4 : tie.Need-returns-4
-returns-4 c = search needs
 
 slice-relend-prefix-replay-case : tie.Need-slice-relend-prefix-replay-case
 slice-relend-prefix-replay-case c = search needs
 
 slice-aggregate-replay-case : tie.Need-slice-aggregate-replay-case
-slice-aggregate-replay-case c = counts _ _ (c .before .before .if3 .left) .1
+slice-aggregate-replay-case c = counts _ _ (c .before .before .if1 .left) .1
 
 slice-relend-prefix-replay-case-2 : tie.Need-slice-relend-prefix-replay-case-2
 slice-relend-prefix-replay-case-2 c = search needs
 
 slice-aggregate-replay-case-2 : tie.Need-slice-aggregate-replay-case-2
-slice-aggregate-replay-case-2 c = counts _ _ (c .before .before .if4 .left) .1
+slice-aggregate-replay-case-2 c = counts _ _ (c .before .before .if2 .left) .1
 
 replay-case-requires : tie.Need-replay-case-requires
-replay-case-requires c κs = omega (arith, counts (4 * (c .before .before .before .before .before .before .word-at3 .result + c .before .before .before .before .word-at4 .result)) (c .before .before .before .before .before .before .before .before .before .before .before .before .before .before .before .before .before .before .before .args .s .now) (c .before .before .if4 .left) .1)
+replay-case-requires c κs =
+    let test = c .before .before .before in
+    let third = test .before .before .before .before in
+    let p = test .before .before .word-at4 .result in
+    let n = third .word-at3 .result in
+    let start = third .before .before .before .before .before .before .before .before .before .before .before .before .before .before in
+    omega (arith, counts (4 * (n + p)) (start .args .s .now) (test .if2 .left) .1)
 
 same-length : tie.Need-same-length
 same-length c = search needs
@@ -91,17 +90,20 @@ same-length c = search needs
 same-length-2 : tie.Need-same-length-2
 same-length-2 c = search needs
 
-returns-5 : tie.Need-returns-5
-returns-5 c = search needs
+same-length-3 : tie.Need-same-length-3
+same-length-3 c = search needs
+
+returns-4 : tie.Need-returns-4
+returns-4 c = search needs
 
 pub replay-spec : {M : Type 1} → statement M
 replay-spec =
     tie.close
     (tie.spec
-    slice-aggregate-read-full
-    read-full-requires
+    slice-aggregate-read-part
+    read-part-requires
+    enum-told
     returns
-    returns-2
     slice-aggregate-word-at
     word-at-requires
     cast-length
@@ -115,8 +117,8 @@ replay-spec =
     cast-p
     add-size
     mul-size
+    returns-2
     returns-3
-    returns-4
     slice-relend-prefix-replay-case
     slice-aggregate-replay-case
     slice-relend-prefix-replay-case-2
@@ -124,4 +126,5 @@ replay-spec =
     replay-case-requires
     same-length
     same-length-2
-    returns-5)
+    same-length-3
+    returns-4)

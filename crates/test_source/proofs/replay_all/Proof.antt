@@ -1,16 +1,17 @@
--- `test_source::replay_all` meets its contract. Assumes nothing.
-use Rattle.test_source.proofs.replay_all.Statement.{statement}
-use Rattle.test_source.proofs.replay_all.Tie as tie
+-- `test_source::replay_all` meets its contract. Assumes nothing but the contracts of libc.
 use borrow.Author.Needs.{needs}
-use Prim.Native.Nat.{_≤_}
+use Prim.Native.Nat.{_-_, _≤_}
 use mathlib.Core.Path.{_≡_}
 use lib.ListN.{length}
+use Rattle.test_source.proofs.replay_all.Statement.{statement}
+use Rattle.test_source.proofs.replay_all.Tie as tie
 
 abbrev Inv-loop : tie.InvT-loop
-Inv-loop base₀ image₀ counts₀ left₀ base image counts left = ((length base ≡ length base₀) × (length image ≡ length image₀)) × (left ≤ 1000000)
+Inv-loop base₀ image₀ counts₀ case₀ base image counts case =
+    ((length base ≡ length base₀) × ((length image ≡ length image₀) × (length counts ≡ length counts₀))) × (case ≤ 1000000)
 
 abbrev μ-loop : tie.MeasureT-loop
-μ-loop base₀ image₀ counts₀ left₀ base image counts left = left
+μ-loop base₀ image₀ counts₀ case₀ base image counts case = 1000000 - case
 
 loop-holds : tie.Need-loop-holds Inv-loop μ-loop
 loop-holds c = search needs
@@ -18,29 +19,11 @@ loop-holds c = search needs
 replay-requires : tie.Need-replay-requires Inv-loop μ-loop
 replay-requires c κs = search needs
 
-place-requires : tie.Need-place-requires Inv-loop μ-loop
-place-requires c κs = search needs
+enum-told : tie.Need-enum-told Inv-loop μ-loop
+enum-told c = search needs
 
-sub-report-different : tie.Need-sub-report-different Inv-loop μ-loop
-sub-report-different c = search needs
-
-report-different-requires : tie.Need-report-different-requires Inv-loop μ-loop
-report-different-requires c κs = search needs
-
-count-requires : tie.Need-count-requires Inv-loop μ-loop
-count-requires c κs = search needs
-
-turns-after-requires : tie.Need-turns-after-requires Inv-loop μ-loop
-turns-after-requires c κs = search needs
-
-loop-less : tie.Need-loop-less Inv-loop μ-loop
-loop-less c = search needs
-
-loop-again : tie.Need-loop-again Inv-loop μ-loop
-loop-again c = search needs
-
-report-all-requires : tie.Need-report-all-requires Inv-loop μ-loop
-report-all-requires c κs = search needs
+finish-counts-requires : tie.Need-finish-counts-requires Inv-loop μ-loop
+finish-counts-requires c κs = search needs
 
 same-length : tie.Need-same-length Inv-loop μ-loop
 same-length c = search needs
@@ -48,8 +31,35 @@ same-length c = search needs
 same-length-2 : tie.Need-same-length-2 Inv-loop μ-loop
 same-length-2 c = search needs
 
+same-length-3 : tie.Need-same-length-3 Inv-loop μ-loop
+same-length-3 c = search needs
+
 returns : tie.Need-returns Inv-loop μ-loop
 returns c = search needs
+
+add-case : tie.Need-add-case Inv-loop μ-loop
+add-case c = search needs
+
+loop-less : tie.Need-loop-less Inv-loop μ-loop
+loop-less c = search needs
+
+loop-again : tie.Need-loop-again Inv-loop μ-loop
+loop-again c = search needs
+
+finish-counts-requires-2 : tie.Need-finish-counts-requires-2 Inv-loop μ-loop
+finish-counts-requires-2 c κs = search needs
+
+same-length-4 : tie.Need-same-length-4 Inv-loop μ-loop
+same-length-4 c = search needs
+
+same-length-5 : tie.Need-same-length-5 Inv-loop μ-loop
+same-length-5 c = search needs
+
+same-length-6 : tie.Need-same-length-6 Inv-loop μ-loop
+same-length-6 c = search needs
+
+returns-2 : tie.Need-returns-2 Inv-loop μ-loop
+returns-2 c = search needs
 
 pub replay-all-spec : {M : Type 1} → statement M
 replay-all-spec =
@@ -59,14 +69,17 @@ replay-all-spec =
     μ-loop
     loop-holds
     replay-requires
-    place-requires
-    sub-report-different
-    report-different-requires
-    count-requires
-    turns-after-requires
-    loop-less
-    loop-again
-    report-all-requires
+    enum-told
+    finish-counts-requires
     same-length
     same-length-2
-    returns)
+    same-length-3
+    returns
+    add-case
+    loop-less
+    loop-again
+    finish-counts-requires-2
+    same-length-4
+    same-length-5
+    same-length-6
+    returns-2)
