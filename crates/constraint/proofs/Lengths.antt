@@ -6,7 +6,7 @@ use native.Mathlib.Omega.{arith}
 use lib.ListN.{length, length-append}
 use Rattle.words.proofs.Laws.{length-bytesOf}
 use Rattle.flat.specs.Trees.{definitionsNodes}
-pub use Rattle.flat.proofs.Lengths.{tree-positive, length-nodes, length-kept, length-kept-nodes, count-append, kept-append, kept-nodes-append}
+pub use Rattle.flat.proofs.Lengths.{tree-positive, length-nodes, length-definitions, length-definitions-trees, count-append, definitions-append, definitions-trees-append}
 use Rattle.constraint.specs.declared.Term.{Term}
 use Rattle.constraint.specs.declared.Equality.{Equality as Written}
 use Rattle.constraint.specs.Trees.{Equality, ConstraintModule}
@@ -33,7 +33,7 @@ length-equalities (q ∷ qs) = simp length-append (omega (arith, length-equality
 -- the whole record, in words and in bytes
 pub length-words : (m : ConstraintModule) → length (constraintWords m) ≡ 6 + length (m .publics) + length (m .provers) + 7 * length (m .equalities) + 2 * length (m .kept) + 4 * definitionsNodes (m .kept)
 unfolding constraintWords headerWords
-length-words m = simp length-append (omega (arith, length-equalities (m .equalities), length-kept (m .kept) 0, length-kept-nodes (m .kept) 0))
+length-words m = simp length-append (omega (arith, length-equalities (m .equalities), length-definitions (m .kept) 0, length-definitions-trees (m .kept) 0))
 
 pub length-bytes : (m : ConstraintModule) → length (constraintBytes m) ≡ 4 * (6 + length (m .publics) + length (m .provers) + 7 * length (m .equalities) + 2 * length (m .kept) + 4 * definitionsNodes (m .kept))
 unfolding constraintBytes

@@ -14,12 +14,12 @@ use Rattle.flat.specs.Record.{rows, pick, definitionAt}
 pub use Rattle.flat.proofs.WriteBack.{Stands, stands-left, stands-right, at-place, operator-reads, operator-below, root-below, next-below, next-words, ids-read, moved, tree-reads, kept-read}
 use Rattle.constraint.specs.declared.Term.{Term}
 use Rattle.constraint.specs.Trees.{Side, Equality, ConstraintModule, operation, first, second, written}
-use Rattle.constraint.specs.Record.{numberWord, termWords, operatorWord, operationWord, writtenWords, equalityWords, equalitiesWords, keptWords, keptNodes, headerWords, constraintWords, constraintBytes}
+use Rattle.constraint.specs.Record.{numberWord, termWords, operatorWord, operationWord, writtenWords, equalityWords, equalitiesWords, definitionsWords, definitionsTrees, headerWords, constraintWords, constraintBytes}
 use Rattle.constraint.specs.Record.{EQUALITY-WORDS, KEPT-WORDS}
 use Rattle.constraint.specs.Reading.{HEADER, next, publics, provers, equalities, kept, nodes, proversAt, equalitiesAt, keptAt, nodesAt, size}
 use Rattle.constraint.specs.Reading.{publicAt, proverAt, termAt, sideFor, equalityFor, equalityAt, keptDefinition, constraintOf}
 use Rattle.constraint.specs.Reading.{SignedTerm, SignedSide, SignedEquality, SignedTree, ReadBack}
-use Rattle.constraint.proofs.Lengths.{length-term, length-equality, length-equalities, length-kept, length-bytes}
+use Rattle.constraint.proofs.Lengths.{length-term, length-equality, length-equalities, length-definitions, length-bytes}
 
 module _ (b : List ℕ) where
   -- a term
@@ -103,10 +103,10 @@ module _ (m : ConstraintModule) where
   E = equalitiesWords (m .equalities)
 
   K : List ℕ
-  K = keptWords 0 (m .kept)
+  K = definitionsWords 0 (m .kept)
 
   N : List ℕ
-  N = keptNodes 0 (m .kept)
+  N = definitionsTrees 0 (m .kept)
 
   H : List ℕ
   H = headerWords (m .next) (length (m .publics)) (length (m .provers)) (length (m .equalities)) (length (m .kept)) (definitionsNodes (m .kept))
@@ -170,7 +170,7 @@ module _ (m : ConstraintModule) where
 
   nodes-stand : Stands b (nodesAt b + 4 * 0) N
   unfolding K
-  nodes-stand = stands-right b K N (keptAt b) (nodesAt b + 4 * 0) (omega (arith, length-kept (m .kept) 0, kept-count)) kept-stand
+  nodes-stand = stands-right b K N (keptAt b) (nodesAt b + 4 * 0) (omega (arith, length-definitions (m .kept) 0, kept-count)) kept-stand
 
   -- and are read
   publics-read : rows (publics b) 0 (publicAt b) ≡ m .publics

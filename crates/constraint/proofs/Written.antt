@@ -30,17 +30,6 @@ module _ (b : List ℕ) (at : ℕ) where
   constant-written z n t e f u p q =
       two 1 n p q ∙ ap (λ (k : ℕ). setWords b at (1 ∷ k ∷ [])) (u ∙ ap (ofZ w32) (toZ-ofZ f)) ∙ sym (ap (λ (u : Term). setWords b at (termWords u)) e)
 
-  pub definition-written : {c d : List ℕ} (x y : ℕ) → c ≡ setWord b at x → d ≡ setWord c (at + 1) y → d ≡ setWords b at (definitionWords x y)
-  unfolding definitionWords
-  definition-written x y p q = two x y p q
-
-  pub node-written : {c d e f : List ℕ} (x y z w : ℕ) → c ≡ setWord b at x → d ≡ setWord c (at + 1) y → e ≡ setWord d (at + 2) z → f ≡ setWord e (at + 3) w → f ≡ setWords b at (nodeWords x y z w)
-  unfolding nodeWords setWords
-  node-written x y z w p q r s =
-      let i : at + 2 ≡ at + 1 + 1 = omega arith in
-      let j : at + 3 ≡ at + 1 + 1 + 1 = omega arith in
-      rw (s, r, q, p, i, j)
-
   -- a term, a word, and two terms
   pub equality-written : {c d e f : List ℕ} (q : Written) (n : ℕ) → n ≡ operationWord (q .operation) → c ≡ setWords b at (termWords (q .left)) → d ≡ setWord c (at + 2) n → e ≡ setWords d (at + 3) (termWords (q .first)) → f ≡ setWords e (at + 5) (termWords (q .second)) → f ≡ setWords b at (writtenWords q)
   unfolding writtenWords setWords
@@ -54,10 +43,6 @@ module _ (b : List ℕ) (at : ℕ) where
       let s : setWords b at (termWords (q .left) ++ (n ∷ r)) ≡ setWords d (at + 3) r = setWords-append (termWords (q .left)) (n ∷ r) b at ∙ ap₂ (λ (l : List ℕ) (k : ℕ). setWords l k (n ∷ r)) (sym p0) i ∙ ap₂ (λ (l : List ℕ) (k : ℕ). setWords l k r) (sym p1) j in
       let t : setWords d (at + 3) r ≡ f = setWords-append (termWords (q .first)) (termWords (q .second)) d (at + 3) ∙ ap₂ (λ (l : List ℕ) (k : ℕ). setWords l k (termWords (q .second))) (sym p2) k ∙ sym p3 in
       sym (ap (λ (w : ℕ). setWords b at (termWords (q .left) ++ (w ∷ r))) (sym o) ∙ s ∙ t)
-
-pub header-written : (b : List ℕ) {c d e f g h : List ℕ} (x y z w u v : ℕ) → c ≡ setWord b 0 x → d ≡ setWord c 1 y → e ≡ setWord d 2 z → f ≡ setWord e 3 w → g ≡ setWord f 4 u → h ≡ setWord g 5 v → h ≡ setWords b 0 (headerWords x y z w u v)
-unfolding headerWords setWords
-header-written b x y z w u v p q r s t o = rw (o, t, s, r, q, p)
 
 -- the words of a whole record are its bytes, and what stood behind them stays
 pub record-written : (b : List ℕ) (m : ConstraintModule) → length (constraintBytes m) ≤ length b → setWords b 0 (constraintWords m) ≡ constraintBytes m ++ drop (length (constraintBytes m)) b

@@ -4,7 +4,8 @@ use Prim.Native.Nat.{ℕ}
 use lib.ListN.{length}
 use Rattle.words.specs.Words.{bytesOf}
 use Rattle.flat.specs.Trees.{definitionsNodes}
-unfoldable pub use Rattle.flat.specs.Writer.{numberWord, operatorWord, nextFrom, rootFrom, nodeWords, nodesFrom, definitionWords, keptWords, keptNodes, headerWords}
+unfoldable pub use Rattle.flat.specs.Layout.{nodeWords, definitionWords, headerWords}
+unfoldable pub use Rattle.flat.specs.Writer.{numberWord, operatorWord, nextFrom, rootFrom, nodesFrom, definitionsWords, definitionsTrees}
 use Rattle.constraint.specs.declared.Operation.{Operation}
 use Rattle.constraint.specs.declared.Equality.{Equality as Written}
 use Rattle.constraint.specs.declared.Term.{Term}
@@ -50,7 +51,7 @@ equalitiesWords (q ∷ qs) = equalityWords q ++ equalitiesWords qs
 unfoldable pub constraintWords : ConstraintModule → List ℕ
 constraintWords m =
     headerWords (m .next) (length (m .publics)) (length (m .provers)) (length (m .equalities)) (length (m .kept)) (definitionsNodes (m .kept))
-    ++ (m .publics ++ (m .provers ++ (equalitiesWords (m .equalities) ++ (keptWords 0 (m .kept) ++ keptNodes 0 (m .kept)))))
+    ++ (m .publics ++ (m .provers ++ (equalitiesWords (m .equalities) ++ (definitionsWords 0 (m .kept) ++ definitionsTrees 0 (m .kept)))))
 
 -- "little-endian 32-bit words"
 unfoldable pub constraintBytes : ConstraintModule → List ℕ

@@ -10,7 +10,8 @@ use borrow.Author.Tests.{leb-true, eqb-true}
 use Rattle.words.specs.Words.{wordAt}
 use Rattle.records.specs.Kinds.{NODE-WORDS}
 use Rattle.words.proofs.Laws.{getD-cleared}
-use Rattle.flat.specs.Record.{every, layoutOf, measured, publics, provers, definitions, equations, nodes, next, size, DEFINITION-WORDS, EQUATION-WORDS, proversAt, definitionsAt, equationsAt, nodesAt, rules, flatOf, checked, pick, rows, allBelow, rising, definitionsFit, equationsFit, nodesFit, ordered, definitionAt, usedOnce, treesHold, byDefinitions, byEquations, byNodes}
+use Rattle.flat.specs.Layout.{layoutOf, publics, provers, definitions, equations, nodes, next, size, DEFINITION-WORDS, EQUATION-WORDS, proversAt, definitionsAt, equationsAt, nodesAt}
+use Rattle.flat.specs.Record.{every, measured, rules, flatOf, checked, pick, rows, allBelow, rising, definitionsFit, equationsFit, nodesFit, ordered, definitionAt, usedOnce, treesHold, byDefinitions, byEquations, byNodes}
 use Rattle.flat.specs.Marks.{capped, Marked, Adds, noMarks}
 use Rattle.flat.specs.declared.Layout.{Layout}
 use Rattle.flat.specs.declared.Checked.the-variants.{Accepted, Refused}

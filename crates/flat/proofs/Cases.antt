@@ -7,7 +7,8 @@ use lib.ListN.{take}
 use Rattle.words.specs.Words.{wordAt, setWord, bytesOf}
 use Rattle.field.specs.declared.InfixOp.the-variants.{Multiply, Add}
 use Rattle.flat.specs.Trees.{Flat, FlatModule, defines, everyId}
-use Rattle.flat.specs.Record.{every, total, rows, pick, measured, nodeAt, operatorOf, nodeFor, nodeOf, grown, tree, definitionAt, equationAt, moduleOf, allBelow, rising, definitionsFit, equationsFit, nodeFits, nodesFit, same, usedBy, byNodes, byDefinitions, byEquations, usedOnce, treesHold, ordered, rules, flatOf, Read}
+use Rattle.flat.specs.Layout.{nodeAt}
+use Rattle.flat.specs.Record.{every, total, rows, pick, measured, operatorOf, nodeFor, nodeOf, grown, tree, definitionAt, equationAt, moduleOf, allBelow, rising, definitionsFit, equationsFit, nodeFits, nodesFit, same, usedBy, byNodes, byDefinitions, byEquations, usedOnce, treesHold, ordered, rules, flatOf, Read}
 
 -- "next id 10, no publics, no prover ids, definition 2 = (v0 + 1) * v0, equation v2 = v1"
 unfoldable pub recordF : List ℕ

@@ -5,8 +5,8 @@ use Prim.Native.Nat.{ℕ, _+_, _*_, _<_}
 use native.Mathlib.Omega.{arith}
 use lib.ListN.{length, length-append}
 use Rattle.flat.specs.Trees.{Flat, Definition, Equation, treeNodes, definitionsNodes, equationsNodes}
-use Rattle.flat.specs.Record.{DEFINITION-WORDS, EQUATION-WORDS}
-use Rattle.flat.specs.Writer.{nextFrom, nodeWords, nodesFrom, definitionWords, keptWords, keptNodes, sideWords, sideNodes}
+use Rattle.flat.specs.Layout.{DEFINITION-WORDS, EQUATION-WORDS, nodeWords, definitionWords, equationWords}
+use Rattle.flat.specs.Writer.{nextFrom, rootFrom, nodesFrom, definitionsWords, definitionsTrees, equationsWords, equationsTrees}
 
 -- a tree has a root
 pub tree-positive : (e : Flat) → 0 < treeNodes e
@@ -23,15 +23,25 @@ length-nodes (Flat.negate a) base = simp length-append (omega (arith, length-nod
 length-nodes (Flat.constant c) base = refl
 length-nodes (Flat.variable v) base = refl
 
-pub length-kept : (ds : List Definition) (base : ℕ) → length (keptWords base ds) ≡ DEFINITION-WORDS * length ds
-unfolding keptWords definitionWords
-length-kept [] base = refl
-length-kept (d ∷ ds) base = omega (arith, length-kept ds (nextFrom base (d .right)))
+-- an entry is as wide as the layout says
+pub length-definition : (id node : ℕ) → length (definitionWords id node) ≡ DEFINITION-WORDS
+unfolding definitionWords
+length-definition id node = refl
 
-pub length-kept-nodes : (ds : List Definition) (base : ℕ) → length (keptNodes base ds) ≡ 4 * definitionsNodes ds
-unfolding keptNodes definitionsNodes
-length-kept-nodes [] base = refl
-length-kept-nodes (d ∷ ds) base = simp length-append (omega (arith, length-nodes (d .right) base, length-kept-nodes ds (nextFrom base (d .right))))
+pub length-equation : (left right : ℕ) → length (equationWords left right) ≡ EQUATION-WORDS
+unfolding equationWords
+length-equation left right = refl
+
+pub length-definitions : (ds : List Definition) (base : ℕ) → length (definitionsWords base ds) ≡ DEFINITION-WORDS * length ds
+unfolding definitionsWords
+length-definitions [] base = refl
+length-definitions (d ∷ ds) base =
+    simp length-append (omega (arith, length-definition (d .id) (rootFrom base (d .right)), length-definitions ds (nextFrom base (d .right))))
+
+pub length-definitions-trees : (ds : List Definition) (base : ℕ) → length (definitionsTrees base ds) ≡ 4 * definitionsNodes ds
+unfolding definitionsTrees definitionsNodes
+length-definitions-trees [] base = refl
+length-definitions-trees (d ∷ ds) base = simp length-append (omega (arith, length-nodes (d .right) base, length-definitions-trees ds (nextFrom base (d .right))))
 
 -- lists in two pieces, the second from the index that the first ends at
 next-plus : (base : ℕ) (d : Definition) (n : ℕ) → nextFrom base (d .right) + n ≡ base + (treeNodes (d .right) + n)
@@ -43,25 +53,33 @@ unfolding definitionsNodes
 count-append [] ys = omega arith
 count-append (d ∷ xs) ys = omega (arith, count-append xs ys)
 
-pub kept-append : (xs ys : List Definition) (base : ℕ) → keptWords base (xs ++ ys) ≡ keptWords base xs ++ keptWords (base + definitionsNodes xs) ys
-unfolding keptWords definitionsNodes definitionWords
-kept-append [] ys base = let e : base + 0 ≡ base = omega arith in rw e
-kept-append (d ∷ xs) ys base = rw (kept-append xs ys (nextFrom base (d .right)), next-plus base d (definitionsNodes xs))
+pub definitions-append : (xs ys : List Definition) (base : ℕ) →
+    definitionsWords base (xs ++ ys) ≡ definitionsWords base xs ++ definitionsWords (base + definitionsNodes xs) ys
+unfolding definitionsWords definitionsNodes
+definitions-append [] ys base = let e : base + 0 ≡ base = omega arith in rw e
+definitions-append (d ∷ xs) ys base =
+    rw (definitions-append xs ys (nextFrom base (d .right)), next-plus base d (definitionsNodes xs))
+    (sym (append-assoc (definitionWords (d .id) (rootFrom base (d .right))) (definitionsWords (nextFrom base (d .right)) xs) _))
 
-pub kept-nodes-append : (xs ys : List Definition) (base : ℕ) → keptNodes base (xs ++ ys) ≡ keptNodes base xs ++ keptNodes (base + definitionsNodes xs) ys
-unfolding keptNodes definitionsNodes
-kept-nodes-append [] ys base = let e : base + 0 ≡ base = omega arith in rw e
-kept-nodes-append (d ∷ xs) ys base =
-    rw (kept-nodes-append xs ys (nextFrom base (d .right)), next-plus base d (definitionsNodes xs))
-    (sym (append-assoc (nodesFrom base (d .right)) (keptNodes (nextFrom base (d .right)) xs) _))
+pub definitions-trees-append : (xs ys : List Definition) (base : ℕ) → definitionsTrees base (xs ++ ys) ≡ definitionsTrees base xs ++ definitionsTrees (base + definitionsNodes xs) ys
+unfolding definitionsTrees definitionsNodes
+definitions-trees-append [] ys base = let e : base + 0 ≡ base = omega arith in rw e
+definitions-trees-append (d ∷ xs) ys base =
+    rw (definitions-trees-append xs ys (nextFrom base (d .right)), next-plus base d (definitionsNodes xs))
+    (sym (append-assoc (nodesFrom base (d .right)) (definitionsTrees (nextFrom base (d .right)) xs) _))
 
 -- equations
-pub length-sides : (es : List Equation) (base : ℕ) → length (sideWords base es) ≡ EQUATION-WORDS * length es
-unfolding sideWords
-length-sides [] base = refl
-length-sides (e ∷ es) base = omega (arith, length-sides es (nextFrom (nextFrom base (e .left)) (e .right)))
+pub length-equations : (es : List Equation) (base : ℕ) → length (equationsWords base es) ≡ EQUATION-WORDS * length es
+unfolding equationsWords
+length-equations [] base = refl
+length-equations (e ∷ es) base =
+    let middle = nextFrom base (e .left) in
+    let one = length-equation (rootFrom base (e .left)) (rootFrom middle (e .right)) in
+    simp length-append (omega (arith, one, length-equations es (nextFrom middle (e .right))))
 
-pub length-side-nodes : (es : List Equation) (base : ℕ) → length (sideNodes base es) ≡ 4 * equationsNodes es
-unfolding sideNodes equationsNodes
-length-side-nodes [] base = refl
-length-side-nodes (e ∷ es) base = simp length-append (omega (arith, length-nodes (e .left) base, length-nodes (e .right) (nextFrom base (e .left)), length-side-nodes es (nextFrom (nextFrom base (e .left)) (e .right))))
+pub length-equations-trees : (es : List Equation) (base : ℕ) → length (equationsTrees base es) ≡ 4 * equationsNodes es
+unfolding equationsTrees equationsNodes
+length-equations-trees [] base = refl
+length-equations-trees (e ∷ es) base =
+    let middle = nextFrom base (e .left) in
+    simp length-append (omega (arith, length-nodes (e .left) base, length-nodes (e .right) middle, length-equations-trees es (nextFrom middle (e .right))))

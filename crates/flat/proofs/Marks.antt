@@ -11,7 +11,8 @@ use lib.Dec.{eqb, ltb}
 use borrow.Author.Tests.{eq-eqb, ne-eqb, ltb-true, lt-ltb}
 use Rattle.words.specs.Words.{wordAt}
 use Rattle.flat.specs.Marks.{capped, bump, Marked, Adds}
-use Rattle.flat.specs.Record.{pick, same, every, total, usedBy, nodeFits, nodeAt, nodesFit, byNodes, byDefinitions, byEquations, definitionsFit, equationsFit, definitionEntry, equationEntry}
+use Rattle.flat.specs.Layout.{nodeAt, definitionEntry, equationEntry}
+use Rattle.flat.specs.Record.{pick, same, every, total, usedBy, nodeFits, nodesFit, byNodes, byDefinitions, byEquations, definitionsFit, equationsFit}
 use Rattle.flat.proofs.Nodes.{fits-4, fits-5, node-is}
 use Rattle.flat.proofs.Laws.{alike, and-left, and-right, every-fails, every-more, every-same, total-more}
 

@@ -18,7 +18,8 @@ use Rattle.flat.specs.declared.Node.{Node}
 use Rattle.flat.specs.declared.Node.the-variants.{Infix, Negate, Constant, Variable}
 use Rattle.flat.specs.Trees.{Flat}
 use Rattle.flat.specs.Rules.{Every}
-use Rattle.flat.specs.Record.{pick, every, nodeFits, nodeAt, nodesFit, operatorOf, nodeFor, nodeOf, grown, tree}
+use Rattle.flat.specs.Layout.{nodeAt}
+use Rattle.flat.specs.Record.{pick, every, nodeFits, nodesFit, operatorOf, nodeFor, nodeOf, grown, tree}
 use Rattle.flat.proofs.Laws.{split, alike, and-left, and-right, every-at}
 
 last : (t a c : Bool) → pick t (a && c) false ≡ true → a ≡ true

@@ -14,7 +14,8 @@ use Rattle.words.specs.Words.{wordAt}
 use Rattle.flat.specs.Trees.{Flat, Definition, everyId, defines}
 use Rattle.flat.specs.Marks.{Later, noLater}
 use Rattle.flat.specs.declared.Node.the-variants.{Infix, Negate, Constant, Variable}
-use Rattle.flat.specs.Record.{rows, nodeOf, tree, ordered, definitionEntry, definitionAt, definitionsFit}
+use Rattle.flat.specs.Layout.{definitionEntry}
+use Rattle.flat.specs.Record.{rows, nodeOf, tree, ordered, definitionAt, definitionsFit}
 use Rattle.flat.proofs.Laws.{alike, and-left, and-right, every-at}
 use Rattle.flat.proofs.Nodes.{settled, tree-infix, tree-negate, tree-constant, tree-variable}
 use Rattle.field.specs.declared.InfixOp.{InfixOp}

@@ -10,7 +10,8 @@ use lib.Dec.{ltb, leb}
 use borrow.Author.Tests.{ltb-true, leb-true, lt-ltb, le-leb, eq-eqb, ne-eqb}
 use Rattle.words.specs.Words.{wordAt}
 use Rattle.flat.specs.Trees.{FlatModule}
-use Rattle.flat.specs.Record.{pick, next, publics, provers, definitions, equations, nodes, proversAt, definitionsAt, equationsAt, nodesAt, size, measured, nodeAt, moduleOf, allBelow, rising, definitionsFit, equationsFit, nodeFits, nodesFit, treesHold, ordered, publicAt, proverAt, definitionEntry, equationEntry, definitionAt, equationAt, tree, rows, rules, Read, flatOf, checked}
+use Rattle.flat.specs.Layout.{next, publics, provers, definitions, equations, nodes, proversAt, definitionsAt, equationsAt, nodesAt, size, nodeAt, publicAt, proverAt, definitionEntry, equationEntry}
+use Rattle.flat.specs.Record.{pick, measured, moduleOf, allBelow, rising, definitionsFit, equationsFit, nodeFits, nodesFit, treesHold, ordered, definitionAt, equationAt, tree, rows, rules, Read, flatOf, checked}
 use Rattle.flat.specs.Readable.{Readable}
 use Rattle.flat.specs.declared.Checked.the-variants.{Accepted, Refused}
 use Rattle.flat.proofs.Laws.{and-left, and-right, every-at, every-from}

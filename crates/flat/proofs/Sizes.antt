@@ -11,7 +11,8 @@ use lib.Dec.{eqb, leb}
 use borrow.Author.Tests.{eq-eqb, ne-eqb, eqb-true}
 use Rattle.words.specs.Words.{wordAt}
 use Rattle.flat.specs.Trees.{Flat, Definition, Equation, FlatModule, treeNodes, definitionsNodes, equationsNodes, moduleNodes}
-use Rattle.flat.specs.Record.{pick, every, total, rows, next, publics, provers, definitions, equations, nodes, proversAt, definitionsAt, equationsAt, nodesAt, allBelow, rising, definitionsFit, equationsFit, same, usedBy, nodeAt, nodeOf, nodesFit, tree, byNodes, byDefinitions, byEquations, usedOnce, treesHold, ordered, definitionEntry, equationEntry, definitionAt, equationAt, moduleOf, rules, Read, flatOf}
+use Rattle.flat.specs.Layout.{next, publics, provers, definitions, equations, nodes, proversAt, definitionsAt, equationsAt, nodesAt, nodeAt, definitionEntry, equationEntry}
+use Rattle.flat.specs.Record.{pick, every, total, rows, allBelow, rising, definitionsFit, equationsFit, same, usedBy, nodeOf, nodesFit, tree, byNodes, byDefinitions, byEquations, usedOnce, treesHold, ordered, definitionAt, equationAt, moduleOf, rules, Read, flatOf}
 use Rattle.flat.specs.Readable.{Readable}
 use Rattle.flat.proofs.Laws.{alike, every-at, and-left, and-right}
 use Rattle.flat.proofs.Nodes.{by-kind, for-4, for-5, for-7, for-8, at-infix, at-negate, at-constant, at-variable, settled}

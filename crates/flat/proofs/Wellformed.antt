@@ -7,7 +7,8 @@ use native.Mathlib.Omega.{arith}
 use lib.Dec.{leb}
 use borrow.Author.Tests.{not-true}
 use Rattle.flat.specs.Trees.{Flat, Definition, FlatModule, defines, everyId}
-use Rattle.flat.specs.Record.{Read, flatOf, measured, rows, allBelow, rising, treesHold, tree, definitionAt, equationAt, moduleOf, ordered, rules, next, publics, provers, definitions, equations, nodes, proversAt, definitionsAt, equationsAt, nodesAt}
+use Rattle.flat.specs.Layout.{next, publics, provers, definitions, equations, nodes, proversAt, definitionsAt, equationsAt, nodesAt}
+use Rattle.flat.specs.Record.{Read, flatOf, measured, rows, allBelow, rising, treesHold, tree, definitionAt, equationAt, moduleOf, ordered, rules}
 use Rattle.flat.specs.Rules.{All, Every, Ordered, Rising, WellFormed}
 use Rattle.flat.proofs.Laws.{and-left, and-right}
 use Rattle.flat.proofs.Nodes.{tree-below}

@@ -5,7 +5,8 @@ use mathlib.Core.List.{List}
 use mathlib.Core.Bool.{true}
 use Prim.Native.Nat.{ℕ, _*_, _≤_, _<_}
 use lib.ListN.{length}
-use Rattle.flat.specs.Record.{next, publics, provers, definitions, equations, nodes, proversAt, definitionsAt, equationsAt, nodesAt, size, allBelow, rising, definitionsFit, equationsFit, nodesFit}
+use Rattle.flat.specs.Layout.{next, publics, provers, definitions, equations, nodes, proversAt, definitionsAt, equationsAt, nodesAt, size}
+use Rattle.flat.specs.Record.{allBelow, rising, definitionsFit, equationsFit, nodesFit}
 use Rattle.records.specs.FlatRecord.{HEADER, IDS, LISTED, NODES, PUBLICS}
 
 pub record Readable (b : List ℕ) : Type 0 where

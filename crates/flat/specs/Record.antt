@@ -1,5 +1,5 @@
 -- What a lent flat record is: its module, or 20 or 21. For a reader with document 01, "Flat record" and "Numbers by place of the check", beside it.
--- `b` is the list of its bytes. Each rule is a test for all indices below a count; 21 is one number for all its rules, so their order says nothing.
+-- `b` is the list of its bytes, laid out as Layout.antt says. Each rule is a test for all indices below a count; 21 is one number for all its rules, so their order says nothing.
 use Prim.Native.Nat.{ℕ, zero, suc, _+_, _-_, _*_}
 use mathlib.Core.List.{List, [], _∷_}
 use mathlib.Core.Bool.{Bool, true, false, not, _&&_}
@@ -13,13 +13,12 @@ use Rattle.field.specs.declared.InfixOp.the-variants.{Divide, DivideZ, Multiply
 use Rattle.flat.specs.Trees.{Flat, Definition, Equation, FlatModule, defines, everyId}
 use Rattle.flat.specs.declared.Node.{Node}
 use Rattle.flat.specs.declared.Node.the-variants.{Infix, Negate, Constant, Variable}
-use Rattle.flat.specs.declared.Layout.{Layout}
-use Rattle.flat.specs.declared.entries.DefinitionEntry.{DefinitionEntry}
-use Rattle.flat.specs.declared.entries.EquationEntry.{EquationEntry}
+use Rattle.flat.specs.Layout.{next, publics, provers, definitions, equations, nodes, proversAt, definitionsAt, equationsAt, nodesAt, size}
+use Rattle.flat.specs.Layout.{publicAt, proverAt, definitionEntry, equationEntry, nodeAt}
 use Rattle.flat.specs.declared.Checked.{Checked}
 use Rattle.flat.specs.declared.Checked.the-variants.{Accepted, Refused}
 use Rattle.records.specs.FlatRecord.{HEADER, IDS, LISTED, NODES, PUBLICS}
-use Rattle.records.specs.Kinds.{CONSTANT, INFIX, NEGATE, NODE-WORDS, VARIABLE}
+use Rattle.records.specs.Kinds.{CONSTANT, INFIX, NEGATE, VARIABLE}
 use Rattle.records.specs.Operators.{ADD, DIVIDE, DIVIDE-Z, EQUAL, EXPONENTIATE, INT-DIVIDE, MODULO, MULTIPLY, SUBTRACT}
 
 -- ---- for all indices below a count: a test, a sum; and the values at n indices from one on
@@ -40,84 +39,12 @@ unfoldable pub pick : {A : Type 0} → Bool → A → A → A
 pick true a b = a
 pick false a b = b
 
--- ---- the layout
-
--- the words of a definition (id, node) and of an equation (node, node)
-abbrev pub DEFINITION-WORDS : ℕ
-DEFINITION-WORDS = 2
-
-abbrev pub EQUATION-WORDS : ℕ
-EQUATION-WORDS = 2
-
--- "Words: next id, counts of publics, prover ids, definitions, equations, nodes; public ids; prover ids; definitions (id, node); equations (node, node); nodes"
-module _ (b : List ℕ) where
-  abbrev pub next : ℕ
-  next = wordAt b 0
-
-  abbrev pub publics : ℕ
-  publics = wordAt b 1
-
-  abbrev pub provers : ℕ
-  provers = wordAt b 2
-
-  abbrev pub definitions : ℕ
-  definitions = wordAt b 3
-
-  abbrev pub equations : ℕ
-  equations = wordAt b 4
-
-  abbrev pub nodes : ℕ
-  nodes = wordAt b 5
-
-  -- where each list starts, in words, and where the record ends; the public ids start at word 6
-  abbrev pub proversAt : ℕ
-  proversAt = HEADER + publics
-
-  abbrev pub definitionsAt : ℕ
-  definitionsAt = proversAt + provers
-
-  abbrev pub equationsAt : ℕ
-  equationsAt = definitionsAt + DEFINITION-WORDS * definitions
-
-  abbrev pub nodesAt : ℕ
-  nodesAt = equationsAt + EQUATION-WORDS * equations
-
-  abbrev pub size : ℕ
-  size = nodesAt + NODE-WORDS * nodes
-
--- the header's numbers and the places of the lists, as the code has them
-unfoldable pub layoutOf : List ℕ → Layout
-layoutOf b = record {
-  next = next b;
-  publics = publics b;
-  provers = provers b;
-  definitions = definitions b;
-  equations = equations b;
-  nodes = nodes b;
-  «provers_at» = proversAt b;
-  «definitions_at» = definitionsAt b;
-  «equations_at» = equationsAt b;
-  «nodes_at» = nodesAt b;
-  size = size b;
-}
-
--- entry k of a list that starts at word `at`; the public ids start behind the header
-abbrev pub publicAt : List ℕ → ℕ → ℕ
-publicAt b k = wordAt b (HEADER + k)
-
-abbrev pub proverAt : List ℕ → ℕ → ℕ → ℕ
-proverAt b at k = wordAt b (at + k)
-
-abbrev pub definitionEntry : List ℕ → ℕ → ℕ → DefinitionEntry
-definitionEntry b at k = record { id = wordAt b (at + DEFINITION-WORDS * k); node = wordAt b (at + DEFINITION-WORDS * k + 1) }
-
-abbrev pub equationEntry : List ℕ → ℕ → ℕ → EquationEntry
-equationEntry b at k = record { left = wordAt b (at + EQUATION-WORDS * k); right = wordAt b (at + EQUATION-WORDS * k + 1) }
+-- ---- 20
 
 -- not 20: "64 publics, 4,096 of each other list, 16,384 nodes", and the length is exactly the lists'
 unfoldable pub measured : List ℕ → Bool
 measured b =
-    leb 24 (length b)
+    leb (4 * HEADER) (length b)
     && (leb (publics b) PUBLICS
     && (leb (provers b) LISTED
     && (leb (definitions b) LISTED
@@ -126,10 +53,6 @@ measured b =
     && eqb (length b) (4 * size b))))))
 
 -- ---- nodes
-
--- what a function makes of the four words of node k of the nodes that start at word `at`: kind, a, b, c
-unfoldable pub nodeAt : {A : Type 0} → List ℕ → ℕ → ℕ → (ℕ → ℕ → ℕ → ℕ → A) → A
-nodeAt b at k f = f (wordAt b (at + NODE-WORDS * k)) (wordAt b (at + NODE-WORDS * k + 1)) (wordAt b (at + NODE-WORDS * k + 2)) (wordAt b (at + NODE-WORDS * k + 3))
 
 -- "Operators 0 to 8 in the order of `InfixOp`"
 unfoldable pub operatorOf : ℕ → InfixOp

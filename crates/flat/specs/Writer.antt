@@ -1,5 +1,5 @@
--- The words and the bytes of a flat module's record. For a reader with document 01, "Flat record", beside it. That the record is read as the module: `flat-reads` in
--- proofs/WriteBack.antt. Nodes, definitions and the header stand in a constraint record as they stand here.
+-- The words and the bytes of a flat module's record. For a reader with document 01, "Flat record", beside it; the words of an entry are in Layout.antt.
+-- That the record is read as the module: `flat-reads` in proofs/WriteBack.antt.
 use mathlib.Core.List.{List, [], _∷_, _++_}
 use Prim.Native.Nat.{ℕ, _+_, _-_}
 use lib.IntN.{ℤ}
@@ -11,6 +11,7 @@ use Rattle.field.specs.declared.InfixOp.{InfixOp}
 use Rattle.records.specs.Kinds.{CONSTANT, INFIX, NEGATE, VARIABLE}
 use Rattle.records.specs.Operators.{ADD, DIVIDE, DIVIDE-Z, EQUAL, EXPONENTIATE, INT-DIVIDE, MODULO, MULTIPLY, SUBTRACT}
 use Rattle.flat.specs.Trees.{Flat, Definition, Equation, FlatModule, treeNodes, definitionsNodes, moduleNodes}
+use Rattle.flat.specs.Layout.{headerWords, definitionWords, equationWords, nodeWords}
 use Rattle.flat.specs.Rules.{All}
 
 -- a number's 32 bits
@@ -36,40 +37,35 @@ nextFrom base e = base + treeNodes e
 unfoldable pub rootFrom : ℕ → Flat → ℕ
 rootFrom base e = nextFrom base e - 1
 
--- "nodes of four words (kind, a, b, c)": 4 infix(a, b, operator c), 5 negate(a), 7 constant a, 8 variable a; "unused words are 0"
-unfoldable pub nodeWords : ℕ → ℕ → ℕ → ℕ → List ℕ
-nodeWords kind a b c = kind ∷ a ∷ b ∷ c ∷ []
-
 unfoldable pub nodesFrom : ℕ → Flat → List ℕ
-nodesFrom base (Flat.infixed o a b) = nodesFrom base a ++ (nodesFrom (nextFrom base a) b ++ nodeWords INFIX (rootFrom base a) (rootFrom (nextFrom base a) b) (operatorWord o))
+nodesFrom base (Flat.infixed o a b) =
+    let middle = nextFrom base a in
+    nodesFrom base a ++ (nodesFrom middle b ++ nodeWords INFIX (rootFrom base a) (rootFrom middle b) (operatorWord o))
 nodesFrom base (Flat.negate a) = nodesFrom base a ++ nodeWords NEGATE (rootFrom base a) 0 0
 nodesFrom base (Flat.constant c) = nodeWords CONSTANT (numberWord c) 0 0
 nodesFrom base (Flat.variable v) = nodeWords VARIABLE v 0 0
 
--- definitions (id, node), in their order, and their nodes: of a flat record, and the kept ones of a constraint record
-unfoldable pub definitionWords : ℕ → ℕ → List ℕ
-definitionWords id node = id ∷ node ∷ []
+-- definitions in their order, and their nodes, where the first has the index `base`: of a flat record, and the kept ones of a constraint record
+unfoldable pub definitionsWords : ℕ → List Definition → List ℕ
+definitionsWords base [] = []
+definitionsWords base (d ∷ ds) = definitionWords (d .id) (rootFrom base (d .right)) ++ definitionsWords (nextFrom base (d .right)) ds
 
-unfoldable pub keptWords : ℕ → List Definition → List ℕ
-keptWords base [] = []
-keptWords base (d ∷ ds) = definitionWords (d .id) (rootFrom base (d .right)) ++ keptWords (nextFrom base (d .right)) ds
+unfoldable pub definitionsTrees : ℕ → List Definition → List ℕ
+definitionsTrees base [] = []
+definitionsTrees base (d ∷ ds) = nodesFrom base (d .right) ++ definitionsTrees (nextFrom base (d .right)) ds
 
-unfoldable pub keptNodes : ℕ → List Definition → List ℕ
-keptNodes base [] = []
-keptNodes base (d ∷ ds) = nodesFrom base (d .right) ++ keptNodes (nextFrom base (d .right)) ds
+-- equations, and their nodes: left, then right
+unfoldable pub equationsWords : ℕ → List Equation → List ℕ
+equationsWords base [] = []
+equationsWords base (e ∷ es) =
+    let middle = nextFrom base (e .left) in
+    equationWords (rootFrom base (e .left)) (rootFrom middle (e .right)) ++ equationsWords (nextFrom middle (e .right)) es
 
--- the header of either record: next id, counts of publics, prover ids, two lists, nodes
-unfoldable pub headerWords : ℕ → ℕ → ℕ → ℕ → ℕ → ℕ → List ℕ
-headerWords next publics provers first second nodes = next ∷ publics ∷ provers ∷ first ∷ second ∷ nodes ∷ []
-
--- equations (node, node), and their nodes: left, then right, where the first node has the index `base`
-unfoldable pub sideWords : ℕ → List Equation → List ℕ
-sideWords base [] = []
-sideWords base (e ∷ es) = rootFrom base (e .left) ∷ rootFrom (nextFrom base (e .left)) (e .right) ∷ sideWords (nextFrom (nextFrom base (e .left)) (e .right)) es
-
-unfoldable pub sideNodes : ℕ → List Equation → List ℕ
-sideNodes base [] = []
-sideNodes base (e ∷ es) = nodesFrom base (e .left) ++ (nodesFrom (nextFrom base (e .left)) (e .right) ++ sideNodes (nextFrom (nextFrom base (e .left)) (e .right)) es)
+unfoldable pub equationsTrees : ℕ → List Equation → List ℕ
+equationsTrees base [] = []
+equationsTrees base (e ∷ es) =
+    let middle = nextFrom base (e .left) in
+    nodesFrom base (e .left) ++ (nodesFrom middle (e .right) ++ equationsTrees (nextFrom middle (e .right)) es)
 
 -- "Words: next id, counts of publics, prover ids, definitions, equations, nodes; public ids; prover ids; definitions (id, node); equations (node, node); nodes"
 unfoldable pub flatWords : FlatModule → List ℕ
@@ -77,10 +73,10 @@ flatWords m =
     headerWords (m .next) (length (m .publics)) (length (m .provers)) (length (m .definitions)) (length (m .equations)) (moduleNodes m)
     ++ (m .publics
     ++ (m .provers
-    ++ (keptWords 0 (m .definitions)
-    ++ (sideWords (definitionsNodes (m .definitions)) (m .equations)
-    ++ (keptNodes 0 (m .definitions)
-    ++ sideNodes (definitionsNodes (m .definitions)) (m .equations))))))
+    ++ (definitionsWords 0 (m .definitions)
+    ++ (equationsWords (definitionsNodes (m .definitions)) (m .equations)
+    ++ (definitionsTrees 0 (m .definitions)
+    ++ equationsTrees (definitionsNodes (m .definitions)) (m .equations))))))
 
 -- "little-endian 32-bit words"
 unfoldable pub flatBytes : FlatModule → List ℕ

@@ -32,8 +32,10 @@ use uses::trees_hold;
 ghost use mathlib.Core.Path.{_≡_};
 ghost use Prim.Native.Nat.{_+_, _*_, _≤_};
 ghost use lib.ListN.{length};
-ghost use Rattle.flat.specs.Record.{operatorOf, nodeOf, layoutOf, nodes, size, measured, rules, flatOf, checked};
+ghost use Rattle.flat.specs.Layout.{layoutOf, nodes, size};
+ghost use Rattle.flat.specs.Record.{operatorOf, nodeOf, measured, rules, flatOf, checked};
 ghost use Rattle.records.specs.FlatRecord.{HEADER, NODES};
+ghost use Rattle.records.specs.Kinds.{NODE-WORDS};
 
 const HEADER_BYTES: usize = 4 * HEADER;
 
@@ -85,7 +87,7 @@ pub fn operator(c: u32) -> InfixOp
 
 // Node k of the nodes that start at word `at`.
 pub fn node_at(s: &[u8], at: usize, k: usize) -> Node
-    requires { ⌜ 4 * (at + 4 * k + 4) ≤ length (now s) ⌝ }
+    requires { ⌜ 4 * (at + NODE-WORDS * k + NODE-WORDS) ≤ length (now s) ⌝ }
     ensures { λ r. ⌜ r ≡ nodeOf (now (s .entry)) at k ⌝ }
 {
     let base = at + NODE_WORDS * k;
@@ -107,7 +109,7 @@ pub fn node_at(s: &[u8], at: usize, k: usize) -> Node
 
 // The layout that the header says.
 pub fn layout_of(s: &[u8]) -> Layout
-    requires { ⌜ 24 ≤ length (now s) ⌝ }
+    requires { ⌜ 4 * HEADER ≤ length (now s) ⌝ }
     ensures { λ r. ⌜ r ≡ layoutOf (now (s .entry)) ⌝ }
 {
     let publics = count(s, 1);

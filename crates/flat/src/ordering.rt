@@ -9,7 +9,8 @@ ghost use mathlib.Core.Bool.{true};
 ghost use lib.ListN.{length, getD};
 ghost use lib.Dec.{eqb};
 ghost use Rattle.flat.specs.Trees.{everyId};
-ghost use Rattle.flat.specs.Record.{rows, tree, definitionAt, definitionsFit, nodesFit, ordered, DEFINITION-WORDS};
+ghost use Rattle.flat.specs.Layout.{DEFINITION-WORDS};
+ghost use Rattle.flat.specs.Record.{rows, tree, definitionAt, definitionsFit, nodesFit, ordered};
 ghost use Rattle.flat.specs.Marks.{noLater};
 ghost use Rattle.records.specs.FlatRecord.{IDS};
 

@@ -7,7 +7,8 @@ use lib.ListN.{length}
 use Rattle.flat.specs.declared.entries.DefinitionEntry.{DefinitionEntry}
 use Rattle.flat.specs.declared.entries.EquationEntry.{EquationEntry}
 use Rattle.flat.specs.Trees.{Flat, Definition, treeNodes, definitionsNodes, equationsNodes}
-use Rattle.flat.specs.Record.{definitions, equations, tree, definitionEntry, equationEntry, moduleOf}
+use Rattle.flat.specs.Layout.{definitions, equations, definitionEntry, equationEntry}
+use Rattle.flat.specs.Record.{tree, moduleOf}
 use Rattle.flat.specs.Readable.{Readable}
 use Rattle.pass_trees.specs.Passes.{Substitutions}
 use Rattle.pass_classify.proofs.Lists.{definitionsFrom, equationsFrom, definitions-none, equations-none, definitions-whole, equations-whole, OverDefinitions, OverEquations, definition-small, definitions-more, equations-more}

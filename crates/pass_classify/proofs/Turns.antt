@@ -12,7 +12,8 @@ use Rattle.flat.specs.declared.entries.DefinitionEntry.{DefinitionEntry}
 use Rattle.flat.specs.declared.entries.EquationEntry.{EquationEntry}
 use Rattle.flat.specs.Meaning.{update}
 use Rattle.flat.specs.Trees.{Flat, Definition, Equation}
-use Rattle.flat.specs.Record.{provers, definitions, equations, tree, proverAt, definitionEntry, equationEntry, moduleOf}
+use Rattle.flat.specs.Layout.{provers, definitions, equations, proverAt, definitionEntry, equationEntry}
+use Rattle.flat.specs.Record.{tree, moduleOf}
 use Rattle.flat.specs.Readable.{Readable}
 use Rattle.flat.proofs.Laws.{split, alike}
 use Rattle.pass_trees.specs.Passes.{member, keepIf, those, Usage, isNever, isWitness, markUsed, usedIn, override, classifyDef, classified, classifyDefs, cuttableExpr, cuttableDefs, cuttableEquations, counted}

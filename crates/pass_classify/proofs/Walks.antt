@@ -9,7 +9,8 @@ use Rattle.field.specs.declared.InfixOp.{InfixOp}
 use Rattle.flat.specs.declared.Node.the-variants.{Infix, Negate, Constant, Variable}
 use Rattle.flat.specs.Meaning.{update}
 use Rattle.flat.specs.Trees.{Flat}
-use Rattle.flat.specs.Record.{nodeOf, tree, nodes, next}
+use Rattle.flat.specs.Layout.{nodes, next}
+use Rattle.flat.specs.Record.{nodeOf, tree}
 use Rattle.flat.specs.Readable.{Inside}
 use Rattle.flat.proofs.Nodes.{infix-below, negate-below, variable-below, tree-infix, tree-negate, tree-constant, tree-variable}
 use Rattle.pass_trees.specs.Passes.{Usage, most, markUsed, cuttable, cuttableExpr}

@@ -11,7 +11,8 @@ use borrow.Author.Tests.{eq-eqb, ne-eqb, lt-ltb, le-ltb}
 use Rattle.flat.specs.Trees.{Flat, Definition, Equation}
 use Rattle.flat.specs.Meaning.{update}
 use Rattle.flat.specs.Rules.{All, Every}
-use Rattle.flat.specs.Record.{rows, pick, next, moduleOf}
+use Rattle.flat.specs.Layout.{next}
+use Rattle.flat.specs.Record.{rows, pick, moduleOf}
 use Rattle.flat.specs.Readable.{Readable}
 use Rattle.flat.proofs.Laws.{split, alike}
 use Rattle.flat.proofs.Rows.{length-rows, rows-at}

@@ -7,7 +7,8 @@ use native.Mathlib.Omega.{arith}
 use lib.ListN.{length}
 use Rattle.flat.specs.Trees.{Definition}
 use Rattle.flat.specs.Rules.{All}
-use Rattle.flat.specs.Record.{definitions, definitionAt, tree, moduleOf}
+use Rattle.flat.specs.Layout.{definitions}
+use Rattle.flat.specs.Record.{definitionAt, tree, moduleOf}
 use Rattle.flat.specs.Readable.{Readable}
 use Rattle.flat.proofs.Wellformed.{rows-all}
 use Rattle.flat.proofs.Reading.{definition-below}

@@ -11,7 +11,8 @@ use mir.Syntax.{w32}
 use borrow.Author.Tests.{lt-ltb, le-ltb}
 use Rattle.flat.specs.Trees.{Flat}
 use Rattle.flat.specs.declared.Node.{Node}
-use Rattle.flat.specs.Record.{pick, operatorOf, nodeAt, nodeFor, nodeOf, grown, tree}
+use Rattle.flat.specs.Layout.{nodeAt}
+use Rattle.flat.specs.Record.{pick, operatorOf, nodeFor, nodeOf, grown, tree}
 use Rattle.flat.proofs.Laws.{split}
 use Rattle.constraint.specs.declared.Term.{Term}
 use Rattle.constraint.specs.Reading.{SignedTerm}

@@ -6,7 +6,8 @@ use Prim.Native.Nat.{ℕ, zero, suc, _+_, _≤_, _<_}
 use native.Mathlib.Omega.{arith}
 use lib.ListN.{length, getD}
 use Rattle.flat.specs.declared.entries.DefinitionEntry.{DefinitionEntry}
-use Rattle.flat.specs.Record.{pick, definitions, definitionsAt, nodesAt, tree, definitionEntry, moduleOf}
+use Rattle.flat.specs.Layout.{definitions, definitionsAt, nodesAt, definitionEntry}
+use Rattle.flat.specs.Record.{pick, tree, moduleOf}
 use Rattle.flat.specs.Readable.{Readable}
 use Rattle.flat.specs.Trees.{Definition}
 use Rattle.pass_trees.specs.Passes.{Usage, isNever, classifyDefs, keepIf, those}

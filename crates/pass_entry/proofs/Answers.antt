@@ -9,7 +9,8 @@ use lib.ListN.{length, length-replicate}
 use lib.Dec.{leb}
 use borrow.Author.Tests.{le-leb, lt-leb}
 use Rattle.flat.specs.Trees.{FlatModule, moduleNodes}
-use Rattle.flat.specs.Record.{pick, next, publics, definitions, equations, definitionsAt, equationsAt, nodesAt, moduleOf, layoutOf, flatOf, checked}
+use Rattle.flat.specs.Layout.{next, publics, definitions, equations, definitionsAt, equationsAt, nodesAt, layoutOf}
+use Rattle.flat.specs.Record.{pick, moduleOf, flatOf, checked}
 use Rattle.flat.specs.declared.Layout.{Layout}
 use Rattle.flat.specs.declared.Checked.the-variants.{Accepted, Refused as No}
 use Rattle.flat.specs.Readable.{Readable}

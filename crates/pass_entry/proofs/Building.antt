@@ -10,12 +10,13 @@ use lib.ListN.{length, replicate, length-replicate, length-append}
 use Rattle.words.specs.Words.{setWords}
 use Rattle.words.proofs.Laws.{setWords-append, length-setWords}
 use Rattle.flat.specs.Trees.{Definition, treeNodes, definitionsNodes, equationsNodes, moduleNodes}
-use Rattle.flat.specs.Record.{publicAt, rows, next, publics, definitions, moduleOf}
+use Rattle.flat.specs.Layout.{publicAt, next, publics, definitions}
+use Rattle.flat.specs.Record.{rows, moduleOf}
 use Rattle.flat.specs.Readable.{Readable}
 use Rattle.records.specs.FlatRecord.{IDS, NODES, PUBLICS}
 use Rattle.flat.proofs.Rows.{length-rows}
 use Rattle.constraint.specs.Trees.{ConstraintModule}
-use Rattle.constraint.specs.Record.{EQUALITY-WORDS, KEPT-WORDS, equalitiesWords, keptWords, keptNodes}
+use Rattle.constraint.specs.Record.{EQUALITY-WORDS, KEPT-WORDS, equalitiesWords, definitionsWords, definitionsTrees}
 use Rattle.constraint.proofs.Lengths.{length-equalities, equalities-append}
 use Rattle.pass_trees.specs.Passes.{keepIf, idsFrom, member, those, isNever, usage, classifyDefs, counted, Substitutions, copyPropagateDef, afterDef, copyPropagateDefs, copyPropagate, eliminateDeadEqualities, Cuts, joined, flattenLists, flattenModuleTo3ac, passes}
 use Rattle.pass_classify.specs.Arrays.{marked, Classified, proversOf, usedOf, countedOf}
@@ -272,13 +273,13 @@ module _ {b us ps : List ℕ} (r : Readable b) (c : Classified b us ps) (few : m
         kept-are : keptOf b k (substOf m2) (moduleOf b .definitions) ≡ keptDefinitions b k
         kept-are = ap (λ (x : Substitutions). keptOf b k x (moduleOf b .definitions)) (ap substOf (cleared-all m1 second-words y) ∙ none-is)
 
-        fourth-written : body5 ≡ setWords body4 (q .at) (keptWords 0 (keptDefinitions b k))
+        fourth-written : body5 ≡ setWords body4 (q .at) (definitionsWords 0 (keptDefinitions b k))
         unfolding putKept
-        fourth-written = w .0 ∙ ap (λ (x : List Definition). setWords body4 (q .at) (keptWords 0 x)) kept-are
+        fourth-written = w .0 ∙ ap (λ (x : List Definition). setWords body4 (q .at) (definitionsWords 0 x)) kept-are
 
-        list-written : list1 ≡ setWords list 0 (keptNodes 0 (keptDefinitions b k))
+        list-written : list1 ≡ setWords list 0 (definitionsTrees 0 (keptDefinitions b k))
         unfolding putNodes
-        list-written = w .1 .0 ∙ ap (λ (x : List Definition). setWords list 0 (keptNodes 0 x)) kept-are
+        list-written = w .1 .0 ∙ ap (λ (x : List Definition). setWords list 0 (definitionsTrees 0 x)) kept-are
 
         fourth-place : o .at ≡ q .at + KEPT-WORDS * length (keptDefinitions b k)
         unfolding keptFrom
@@ -309,7 +310,7 @@ module _ {b us ps : List ℕ} (r : Readable b) (c : Classified b us ps) (few : m
             let Q : List ℕ = proversOf b in
             let E : List ℕ = equalitiesWords (cutDefinitions b k .equalities) in
             let F : List ℕ = equalitiesWords (cutEquations b k .equalities) in
-            let K : List ℕ = keptWords 0 (keptDefinitions b k) in
+            let K : List ℕ = definitionsWords 0 (keptDefinitions b k) in
             let s1 = behind (P ++ Q) E body 0 start lists-written (omega (arith, start-is, length-append P Q)) second-written in
             let s2 = behind ((P ++ Q) ++ E) F body 0 (p .at) s1 (omega (arith, second-place, start-is, length-append P Q, length-append (P ++ Q) E, length-equalities (cutDefinitions b k .equalities))) third-written in
             let s3 = behind (((P ++ Q) ++ E) ++ F) K body 0 (q .at) s2 (omega (arith, third-place, second-place, start-is, length-append P Q, length-append (P ++ Q) E, length-append ((P ++ Q) ++ E) F, length-equalities (cutDefinitions b k .equalities), length-equalities (cutEquations b k .equalities))) fourth-written in

@@ -11,7 +11,7 @@ use Rattle.words.specs.Words.{setWords, bytesOf}
 use Rattle.words.proofs.Laws.{setWords-bytes, bytesOf-append, length-bytesOf}
 use Rattle.flat.specs.Record.{pick}
 use Rattle.constraint.specs.Trees.{ConstraintModule}
-use Rattle.constraint.specs.Record.{EQUALITY-WORDS, KEPT-WORDS, headerWords, constraintWords, constraintBytes, equalitiesWords, keptWords, keptNodes}
+use Rattle.constraint.specs.Record.{EQUALITY-WORDS, KEPT-WORDS, headerWords, constraintWords, constraintBytes, equalitiesWords, definitionsWords, definitionsTrees}
 use Rattle.flat.specs.Trees.{definitionsNodes}
 use Rattle.constraint.proofs.Lengths.{length-bytes}
 use Rattle.pass_trees.specs.Passes.{cut}
@@ -47,15 +47,15 @@ header-long a b d e f g = refl
 -- ---- the record
 
 -- a constraint record is its header, its body and its nodes
-in-parts : (c : ConstraintModule) → constraintBytes c ≡ (bytesOf (headerWords (c .next) (length (c .publics)) (length (c .provers)) (length (c .equalities)) (length (c .kept)) (definitionsNodes (c .kept))) ++ bytesOf (bodyWords c)) ++ bytesOf (keptNodes 0 (c .kept))
+in-parts : (c : ConstraintModule) → constraintBytes c ≡ (bytesOf (headerWords (c .next) (length (c .publics)) (length (c .provers)) (length (c .equalities)) (length (c .kept)) (definitionsNodes (c .kept))) ++ bytesOf (bodyWords c)) ++ bytesOf (definitionsTrees 0 (c .kept))
 unfolding constraintBytes constraintWords bodyWords
 in-parts c =
     let h : List ℕ = headerWords (c .next) (length (c .publics)) (length (c .provers)) (length (c .equalities)) (length (c .kept)) (definitionsNodes (c .kept)) in
     let p : List ℕ = c .publics in
     let q : List ℕ = c .provers in
     let e : List ℕ = equalitiesWords (c .equalities) in
-    let k : List ℕ = keptWords 0 (c .kept) in
-    let n : List ℕ = keptNodes 0 (c .kept) in
+    let k : List ℕ = definitionsWords 0 (c .kept) in
+    let n : List ℕ = definitionsTrees 0 (c .kept) in
     let z : h ++ (p ++ (q ++ (e ++ (k ++ n)))) ≡ (h ++ (p ++ (q ++ (e ++ k)))) ++ n = simp append-assoc in
     ap bytesOf z
     ∙ bytesOf-append (h ++ (p ++ (q ++ (e ++ k)))) n

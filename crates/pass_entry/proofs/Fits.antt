@@ -8,12 +8,13 @@ use lib.Seq.{take-at}
 use Rattle.words.specs.Words.{setWords, bytesOf}
 use Rattle.words.proofs.Laws.{setWords-bytes, length-setWords, length-bytesOf}
 use Rattle.flat.specs.Trees.{definitionsNodes, equationsNodes, moduleNodes}
-use Rattle.flat.specs.Record.{next, publics, definitions, moduleOf}
+use Rattle.flat.specs.Layout.{next, publics, definitions}
+use Rattle.flat.specs.Record.{moduleOf}
 use Rattle.flat.specs.Readable.{Readable}
 use Rattle.flat.proofs.Rows.{length-rows}
 use Rattle.constraint.specs.Trees.{ConstraintModule}
-use Rattle.constraint.specs.Record.{keptNodes}
-use Rattle.constraint.proofs.Lengths.{length-equalities, length-kept, length-kept-nodes}
+use Rattle.constraint.specs.Record.{definitionsTrees}
+use Rattle.constraint.proofs.Lengths.{length-equalities, length-definitions, length-definitions-trees}
 use Rattle.pass_trees.specs.Passes.{classifyDefs, passes}
 use Rattle.pass_classify.specs.Arrays.{proversOf}
 use Rattle.pass_3ac.specs.Cutting.{defsAfter}
@@ -88,7 +89,7 @@ module _ {c : ConstraintModule} {publics : ℕ} (s : Small c publics) (body list
     (p : body′ ≡ putBody body c) (q : list′ ≡ putList list c) (body-long : length body ≡ BODY-BYTES) (list-long : length list ≡ LIST-BYTES) where
   words-long : length (bodyWords c) ≡ builtOf c .kept
   unfolding bodyWords builtOf
-  words-long = simp length-append (omega (arith, length-equalities (c .equalities), length-kept (c .kept) 0))
+  words-long = simp length-append (omega (arith, length-equalities (c .equalities), length-definitions (c .kept) 0))
 
   pub fitting-of : Fitting x publics body′ list′
   unfolding builtOf putBody putList
@@ -97,7 +98,7 @@ module _ {c : ConstraintModule} {publics : ℕ} (s : Small c publics) (body list
     start-first = omega arith;
     equalities-first = omega arith;
     body-long = omega (arith, length-setWords (bodyWords c) body 0, s .words);
-    list-long = omega (arith, length-setWords (keptNodes 0 (c .kept)) list 0, s .nodes);
+    list-long = omega (arith, length-setWords (definitionsTrees 0 (c .kept)) list 0, s .nodes);
     kept-small = s .words;
     nodes-small = s .nodes;
   })
@@ -111,5 +112,5 @@ module _ {c : ConstraintModule} {publics : ℕ} (s : Small c publics) (body list
     kept-is = refl;
     nodes-is = refl;
     body-is = taken (bodyWords c) body (4 * builtOf c .kept) p (omega (arith, words-long)) (omega (arith, s .words));
-    list-is = taken (keptNodes 0 (c .kept)) list (16 * builtOf c .nodes) q (omega (arith, length-kept-nodes (c .kept) 0)) (omega (arith, s .nodes));
+    list-is = taken (definitionsTrees 0 (c .kept)) list (16 * builtOf c .nodes) q (omega (arith, length-definitions-trees (c .kept) 0)) (omega (arith, s .nodes));
   })

@@ -9,7 +9,7 @@ use Rattle.constraint.specs.Trees.{ConstraintModule}
 use Rattle.flat.specs.Trees.{FlatModule, definitionsNodes}
 use Rattle.flat.specs.Record.{pick}
 use Rattle.pass_trees.specs.Passes.{Outcome, cut, refused, passes, counted, cuttableDefs, cuttableEquations}
-use Rattle.constraint.specs.Record.{EQUALITY-WORDS, KEPT-WORDS, equalitiesWords, keptWords, keptNodes}
+use Rattle.constraint.specs.Record.{EQUALITY-WORDS, KEPT-WORDS, equalitiesWords, definitionsWords, definitionsTrees}
 use Rattle.pass_entry.specs.declared.body.Built.{Built}
 use Rattle.pass_entry.specs.declared.body.Passed.{Passed}
 use Rattle.records.specs.FlatRecord.{IDS, LISTED, NODES, PUBLICS}
@@ -34,7 +34,7 @@ noList = replicate LIST-BYTES 0
 
 -- the words of a constraint record between its header and its nodes
 unfoldable pub bodyWords : ConstraintModule → List ℕ
-bodyWords c = c .publics ++ (c .provers ++ (equalitiesWords (c .equalities) ++ keptWords 0 (c .kept)))
+bodyWords c = c .publics ++ (c .provers ++ (equalitiesWords (c .equalities) ++ definitionsWords 0 (c .kept)))
 
 -- the numbers that say where its lists stand in the body: the next id, the words up to the equalities, up to the kept definitions and in all, the nodes
 unfoldable pub builtOf : ConstraintModule → Built
@@ -48,7 +48,7 @@ unfoldable pub putBody : List ℕ → ConstraintModule → List ℕ
 putBody body c = setWords body 0 (bodyWords c)
 
 unfoldable pub putList : List ℕ → ConstraintModule → List ℕ
-putList list c = setWords list 0 (keptNodes 0 (c .kept))
+putList list c = setWords list 0 (definitionsTrees 0 (c .kept))
 
 -- what the passes leave of a flat module: the numbers where it is cut, else the refusal; and the lists, which stay untouched at 22
 unfoldable pub passedOf : Outcome → Passed
@@ -69,7 +69,7 @@ pub record Made (c : ConstraintModule) (built : Built) (body list : List ℕ) : 
   pub kept-is : built .kept ≡ built .equalities + KEPT-WORDS * length (c .kept)
   pub nodes-is : built .nodes ≡ definitionsNodes (c .kept)
   pub body-is : take (4 * built .kept) body ≡ bytesOf (bodyWords c)
-  pub list-is : take (16 * built .nodes) list ≡ bytesOf (keptNodes 0 (c .kept))
+  pub list-is : take (16 * built .nodes) list ≡ bytesOf (definitionsTrees 0 (c .kept))
 
 -- numbers that lie in the lists
 pub record Fitting (built : Built) (publics : ℕ) (body list : List ℕ) : Type 0 where

@@ -9,7 +9,7 @@ use borrow.Author.Tests.{eq-eqb, ne-eqb}
 use Rattle.words.specs.Words.{setWords}
 use Rattle.flat.specs.Trees.{Flat, Definition, treeNodes, definitionsNodes}
 use Rattle.flat.specs.Record.{moduleOf}
-use Rattle.constraint.specs.Record.{KEPT-WORDS, rootFrom, nextFrom, definitionWords, keptWords, keptNodes, nodesFrom}
+use Rattle.constraint.specs.Record.{KEPT-WORDS, rootFrom, nextFrom, definitionWords, definitionsWords, definitionsTrees, nodesFrom}
 use Rattle.pass_trees.specs.Passes.{member, keepIf, those, isNever, usage, Substitutions, copyPropagateExpr, copyPropagateDef, copyPropagateDefs}
 use Rattle.pass_classify.specs.Arrays.{usageAt, usageOf, marked, Classified}
 use Rattle.pass_copies.specs.Substituted.{substOf, putDefinition, putDefinitions}
@@ -98,7 +98,7 @@ module _ (b : List ℕ) (steps : ℕ) (ds : List Definition) (at base : ℕ) (m 
   -- nothing is kept
   pub keeps-none : (m′ : List ℕ) → keptOf b steps (substOf m) ds ≡ [] → m′ ≡ putDefinitions steps m (countedOf b ds) →
       Keeps b steps ds at base m body list m′ body list (record { at = at; nodes = base })
-  unfolding putKept putNodes keptFrom keptWords keptNodes definitionsNodes setWords
+  unfolding putKept putNodes keptFrom definitionsWords definitionsTrees definitionsNodes setWords
   keeps-none m′ e f =
       let p : at ≡ at + KEPT-WORDS * 0 = omega arith in
       let q : base ≡ base + 0 = omega arith in
@@ -113,7 +113,7 @@ module _ (b : List ℕ) (steps : ℕ) (ds : List Definition) (at base : ℕ) (m 
   pub keeps-one : (m′ : List ℕ) {body′ list′ : List ℕ} {after : ℕ} (d : Definition) → keptOf b steps (substOf m) ds ≡ d ∷ [] →
       list′ ≡ putTree list base (d .right) → after ≡ nextFrom base (d .right) → body′ ≡ setWords body at (definitionWords (d .id) (after - 1)) →
       m′ ≡ putDefinitions steps m (countedOf b ds) → Keeps b steps ds at base m body list m′ body′ list′ (record { at = at + KEPT-WORDS; nodes = after })
-  unfolding putKept putNodes putTree keptFrom keptWords keptNodes definitionsNodes nextFrom rootFrom
+  unfolding putKept putNodes putTree keptFrom definitionsWords definitionsTrees definitionsNodes nextFrom rootFrom
   keeps-one m′ {after = after} d e p q r f =
       let x : after - 1 ≡ rootFrom base (d .right) = omega arith in
       let root : ℕ = rootFrom base (d .right) in

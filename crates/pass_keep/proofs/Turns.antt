@@ -8,11 +8,12 @@ use lib.ListN.{length, length-append}
 use Rattle.words.specs.Words.{setWords}
 use Rattle.words.proofs.Laws.{length-setWords, setWords-append}
 use Rattle.flat.specs.Trees.{Definition, treeNodes, definitionsNodes}
-use Rattle.flat.specs.Record.{definitions, tree, definitionEntry, moduleOf}
+use Rattle.flat.specs.Layout.{definitions, definitionEntry}
+use Rattle.flat.specs.Record.{tree, moduleOf}
 use Rattle.flat.specs.Readable.{Readable}
 use Rattle.flat.specs.declared.entries.DefinitionEntry.{DefinitionEntry}
-use Rattle.constraint.specs.Record.{KEPT-WORDS, keptWords, keptNodes}
-use Rattle.constraint.proofs.Lengths.{length-kept, length-kept-nodes, count-append, kept-append, kept-nodes-append}
+use Rattle.constraint.specs.Record.{KEPT-WORDS, definitionsWords, definitionsTrees}
+use Rattle.constraint.proofs.Lengths.{length-definitions, length-definitions-trees, count-append, definitions-append, definitions-trees-append}
 use Rattle.pass_trees.specs.Passes.{member, those, classifyDefs, copyPropagate, eliminateDeadEqualities, flattenModuleTo3ac, passes, Substitutions, copyPropagateDefs, afterDefs}
 use Rattle.pass_trees.proofs.Loops.{those-append, copies-append}
 use Rattle.pass_classify.proofs.Lists.{definitionsFrom, definitions-none, definitions-whole, OverDefinitions, definition-small, definitions-more}
@@ -52,14 +53,14 @@ module _ (xs ys : List Definition) where
   put-kept-append : (body : List ℕ) (at base : ℕ) → putKept body at base (xs ++ ys) ≡ putKept (putKept body at base xs) (at + KEPT-WORDS * length xs) (base + definitionsNodes xs) ys
   unfolding putKept
   put-kept-append body at base =
-      let e : at + length (keptWords base xs) ≡ at + KEPT-WORDS * length xs = omega (arith, length-kept xs base) in
-      ap (setWords body at) (kept-append xs ys base) ∙ setWords-append (keptWords base xs) (keptWords (base + definitionsNodes xs) ys) body at ∙ ap (λ (i : ℕ). setWords (setWords body at (keptWords base xs)) i (keptWords (base + definitionsNodes xs) ys)) e
+      let e : at + length (definitionsWords base xs) ≡ at + KEPT-WORDS * length xs = omega (arith, length-definitions xs base) in
+      ap (setWords body at) (definitions-append xs ys base) ∙ setWords-append (definitionsWords base xs) (definitionsWords (base + definitionsNodes xs) ys) body at ∙ ap (λ (i : ℕ). setWords (setWords body at (definitionsWords base xs)) i (definitionsWords (base + definitionsNodes xs) ys)) e
 
   put-nodes-append : (list : List ℕ) (base : ℕ) → putNodes list base (xs ++ ys) ≡ putNodes (putNodes list base xs) (base + definitionsNodes xs) ys
   unfolding putNodes
   put-nodes-append list base =
-      let e : 4 * base + length (keptNodes base xs) ≡ 4 * (base + definitionsNodes xs) = omega (arith, length-kept-nodes xs base) in
-      ap (setWords list (4 * base)) (kept-nodes-append xs ys base) ∙ setWords-append (keptNodes base xs) (keptNodes (base + definitionsNodes xs) ys) list (4 * base) ∙ ap (λ (i : ℕ). setWords (setWords list (4 * base) (keptNodes base xs)) i (keptNodes (base + definitionsNodes xs) ys)) e
+      let e : 4 * base + length (definitionsTrees base xs) ≡ 4 * (base + definitionsNodes xs) = omega (arith, length-definitions-trees xs base) in
+      ap (setWords list (4 * base)) (definitions-trees-append xs ys base) ∙ setWords-append (definitionsTrees base xs) (definitionsTrees (base + definitionsNodes xs) ys) list (4 * base) ∙ ap (λ (i : ℕ). setWords (setWords list (4 * base) (definitionsTrees base xs)) i (definitionsTrees (base + definitionsNodes xs) ys)) e
 
   kept-from-append : (at base : ℕ) → keptFrom at base (xs ++ ys) ≡ keptFrom (at + KEPT-WORDS * length xs) (base + definitionsNodes xs) ys
   unfolding keptFrom
@@ -70,11 +71,11 @@ module _ (xs ys : List Definition) where
 
 put-kept-length : (body : List ℕ) (at base : ℕ) (ds : List Definition) → length (putKept body at base ds) ≡ length body
 unfolding putKept
-put-kept-length body at base ds = length-setWords (keptWords base ds) body at
+put-kept-length body at base ds = length-setWords (definitionsWords base ds) body at
 
 put-nodes-length : (list : List ℕ) (base : ℕ) (ds : List Definition) → length (putNodes list base ds) ≡ length list
 unfolding putNodes
-put-nodes-length list base ds = length-setWords (keptNodes base ds) list (4 * base)
+put-nodes-length list base ds = length-setWords (definitionsTrees base ds) list (4 * base)
 
 kept-nil : (b : List ℕ) (steps : ℕ) (s : Substitutions) → keptOf b steps s [] ≡ []
 unfolding keptOf usedOf those copyPropagateDefs

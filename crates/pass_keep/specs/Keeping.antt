@@ -6,7 +6,7 @@ use lib.ListN.{length}
 use Rattle.words.specs.Words.{setWords}
 use Rattle.flat.specs.Trees.{Flat, Definition, definitionsNodes}
 use Rattle.flat.specs.Record.{moduleOf}
-use Rattle.constraint.specs.Record.{KEPT-WORDS, nodesFrom, keptWords, keptNodes}
+use Rattle.constraint.specs.Record.{KEPT-WORDS, nodesFrom, definitionsWords, definitionsTrees}
 use Rattle.pass_trees.specs.Passes.{member, those, Substitutions, copyPropagateDefs}
 use Rattle.pass_classify.specs.Arrays.{proversOf, usedOf, countedOf}
 use Rattle.pass_copies.specs.Substituted.{substOf, putDefinitions}
@@ -28,10 +28,10 @@ putTree list base e = setWords list (4 * base) (nodesFrom base e)
 
 -- the body with kept definitions (id, node) from word `at` on, the list with their nodes from index `base` on, and the places after both
 unfoldable pub putKept : List ℕ → ℕ → ℕ → List Definition → List ℕ
-putKept body at base ds = setWords body at (keptWords base ds)
+putKept body at base ds = setWords body at (definitionsWords base ds)
 
 unfoldable pub putNodes : List ℕ → ℕ → List Definition → List ℕ
-putNodes list base ds = setWords list (4 * base) (keptNodes base ds)
+putNodes list base ds = setWords list (4 * base) (definitionsTrees base ds)
 
 unfoldable pub keptFrom : ℕ → ℕ → List Definition → Kept
 keptFrom at base ds = record { at = at + KEPT-WORDS * length ds; nodes = base + definitionsNodes ds }

@@ -16,7 +16,8 @@ use Rattle.field.specs.declared.InfixOp.{InfixOp}
 use Rattle.flat.specs.Trees.{Flat, Definition, Equation, FlatModule}
 use Rattle.flat.specs.Rules.{All}
 use Rattle.flat.specs.declared.Node.{Node}
-use Rattle.flat.specs.Record.{rows, pick, nodeAt, nodeFor, nodeOf, grown, tree, definitionAt, equationAt, moduleOf}
+use Rattle.flat.specs.Layout.{nodeAt}
+use Rattle.flat.specs.Record.{rows, pick, nodeFor, nodeOf, grown, tree, definitionAt, equationAt, moduleOf}
 use Rattle.flat.proofs.Reading.{accepted-module}
 use Rattle.constraint.proofs.ReadBack.{read-back}
 use Rattle.constraint.specs.declared.Term.{Term}

@@ -5,7 +5,7 @@ use borrow.Author.Needs.{needs}
 use native.Mathlib.Omega.{arith}
 use Prim.Native.Nat.{_-_}
 use Rattle.pass_classify.specs.Arrays.{Codes}
-use Rattle.flat.specs.Record.{equations}
+use Rattle.flat.specs.Layout.{equations}
 use Rattle.pass_classify.proofs.Lists.{OverEquations, over-equations, left-side, right-side}
 use Rattle.pass_classify.proofs.Turns.{UsedFrom, used-start, used-turn, used-end}
 

@@ -9,7 +9,8 @@ use mathlib.Core.List.{List}
 use lib.ListN.{length}
 use Rattle.words.specs.Words.{setWords}
 use Rattle.words.proofs.Laws.{length-setWord}
-use Rattle.flat.specs.Record.{publicAt, rows}
+use Rattle.flat.specs.Layout.{publicAt}
+use Rattle.flat.specs.Record.{rows}
 use Rattle.pass_entry.proofs.Turns.{row-turn, row-end}
 
 abbrev Inv-loop : tie.InvT-loop

@@ -1,8 +1,8 @@
--- `constraint::put_node` meets its contract. Assumes nothing.
+-- `flat::entries::put_node` meets its contract. Assumes nothing.
 use borrow.Author.Needs.{needs}
-use Rattle.constraint.proofs.put_node.Statement.{statement}
-use Rattle.constraint.proofs.put_node.Tie as tie
-use Rattle.constraint.proofs.Written.{node-written}
+use Rattle.flat.proofs.entries.put_node.Statement.{statement}
+use Rattle.flat.proofs.entries.put_node.Tie as tie
+use Rattle.flat.proofs.Written.{node-written}
 
 put-word-requires : tie.Need-put-word-requires
 put-word-requires c κs = search needs
@@ -29,7 +29,14 @@ same-length : tie.Need-same-length
 same-length c = search needs
 
 returns : tie.Need-returns
-returns c = node-written (c .before .before .before .before .before .before .before .before .before .before .before .before .before .before .before .before .before .args .out .now) (c .before .before .before .before .before .before .before .before .before .before .before .before .before .before .before .before .before .args .at) _ _ _ _ (c .before .before .before .before .before .before .before .before .before .before .before .before .before .before .put-word .ensures) (c .before .before .before .before .before .before .before .before .before .before .put-word2 .ensures) (c .before .before .before .before .before .before .put-word3 .ensures) (c .before .before .put-word4 .ensures)
+returns c =
+    let fourth = c .before .before in
+    let third = fourth .before .before .before .before in
+    let second = third .before .before .before .before in
+    let first = second .before .before .before .before in
+    let entry = first .before .before .before .args in
+    node-written (entry .out .now) (entry .at) _ _ _ _ (first .put-word .ensures) (second .put-word2 .ensures)
+    (third .put-word3 .ensures) (fourth .put-word4 .ensures)
 
 pub put-node-spec : {M : Type 1} → statement M
 put-node-spec =
