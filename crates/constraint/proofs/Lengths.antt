@@ -10,32 +10,40 @@ pub use Rattle.flat.proofs.Lengths.{tree-positive, length-nodes, length-definit
 use Rattle.constraint.specs.declared.Term.{Term}
 use Rattle.constraint.specs.declared.Equality.{Equality as Written}
 use Rattle.constraint.specs.Trees.{Equality, ConstraintModule}
+use Rattle.records.specs.FlatRecord.{HEADER}
+use Rattle.records.specs.Kinds.{NODE-WORDS}
+use Rattle.constraint.specs.Record.{EQUALITY-WORDS, KEPT-WORDS, TERM-WORDS}
 use Rattle.constraint.specs.Record.{termWords, writtenWords, equalityWords, equalitiesWords, headerWords, constraintWords, constraintBytes}
 
-pub length-term : (t : Term) → length (termWords t) ≡ 2
+pub length-term : (t : Term) → length (termWords t) ≡ TERM-WORDS
 unfolding termWords
 length-term (Term.Variable v) = refl
 length-term (Term.Constant c) = refl
 
-pub length-written : (q : Written) → length (writtenWords q) ≡ 7
+pub length-written : (q : Written) → length (writtenWords q) ≡ EQUALITY-WORDS
 unfolding writtenWords
 length-written q = simp length-append (omega (arith, length-term (q .left), length-term (q .first), length-term (q .second)))
 
-pub length-equality : (q : Equality) → length (equalityWords q) ≡ 7
+pub length-equality : (q : Equality) → length (equalityWords q) ≡ EQUALITY-WORDS
 unfolding equalityWords
 length-equality q = length-written _
 
-pub length-equalities : (qs : List Equality) → length (equalitiesWords qs) ≡ 7 * length qs
+pub length-equalities : (qs : List Equality) → length (equalitiesWords qs) ≡ EQUALITY-WORDS * length qs
 unfolding equalitiesWords
 length-equalities [] = refl
 length-equalities (q ∷ qs) = simp length-append (omega (arith, length-equality q, length-equalities qs))
 
 -- the whole record, in words and in bytes
-pub length-words : (m : ConstraintModule) → length (constraintWords m) ≡ 6 + length (m .publics) + length (m .provers) + 7 * length (m .equalities) + 2 * length (m .kept) + 4 * definitionsNodes (m .kept)
+abbrev pub words : ConstraintModule → ℕ
+words m =
+    HEADER + length (m .publics) + length (m .provers) + EQUALITY-WORDS * length (m .equalities) + KEPT-WORDS * length (m .kept)
+    + NODE-WORDS * definitionsNodes (m .kept)
+
+pub length-words : (m : ConstraintModule) → length (constraintWords m) ≡ words m
 unfolding constraintWords headerWords
 length-words m = simp length-append (omega (arith, length-equalities (m .equalities), length-definitions (m .kept) 0, length-definitions-trees (m .kept) 0))
 
-pub length-bytes : (m : ConstraintModule) → length (constraintBytes m) ≡ 4 * (6 + length (m .publics) + length (m .provers) + 7 * length (m .equalities) + 2 * length (m .kept) + 4 * definitionsNodes (m .kept))
+pub length-bytes : (m : ConstraintModule) → length (constraintBytes m) ≡ 4 * words m
 unfolding constraintBytes
 length-bytes m = length-bytesOf (constraintWords m) ∙ ap (λ (n : ℕ). 4 * n) (length-words m)
 

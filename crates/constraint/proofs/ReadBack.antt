@@ -8,16 +8,18 @@ use mir.Facts.{toZ-ofZ}
 use borrow.Author.Tests.{eq-eqb, ne-eqb}
 use Rattle.words.specs.Words.{wordAt}
 use Rattle.words.proofs.Laws.{wordAt-bytesOf}
-use Rattle.flat.specs.Trees.{Definition, definitionsNodes}
+use Rattle.flat.specs.Trees.{definitionsNodes}
 use Rattle.flat.specs.Rules.{All}
 use Rattle.flat.specs.Record.{rows, pick, definitionAt}
-pub use Rattle.flat.proofs.WriteBack.{Stands, stands-left, stands-right, at-place, operator-reads, operator-below, root-below, next-below, next-words, ids-read, moved, tree-reads, kept-read}
+use Rattle.flat.specs.Layout.{publicAt, proverAt}
+pub use Rattle.flat.proofs.Standing.{Stands, stands-left, stands-right, at-place}
+pub use Rattle.flat.proofs.WriteBack.{operator-reads, operator-below, root-below, next-below, next-words, ids-read, moved, tree-reads, kept-read}
 use Rattle.constraint.specs.declared.Term.{Term}
 use Rattle.constraint.specs.Trees.{Side, Equality, ConstraintModule, operation, first, second, written}
 use Rattle.constraint.specs.Record.{numberWord, termWords, operatorWord, operationWord, writtenWords, equalityWords, equalitiesWords, definitionsWords, definitionsTrees, headerWords, constraintWords, constraintBytes}
 use Rattle.constraint.specs.Record.{EQUALITY-WORDS, KEPT-WORDS}
 use Rattle.constraint.specs.Reading.{HEADER, next, publics, provers, equalities, kept, nodes, proversAt, equalitiesAt, keptAt, nodesAt, size}
-use Rattle.constraint.specs.Reading.{publicAt, proverAt, termAt, sideFor, equalityFor, equalityAt, keptDefinition, constraintOf}
+use Rattle.constraint.specs.Reading.{termAt, sideFor, equalityFor, equalityAt, constraintOf}
 use Rattle.constraint.specs.Reading.{SignedTerm, SignedSide, SignedEquality, SignedTree, ReadBack}
 use Rattle.constraint.proofs.Lengths.{length-term, length-equality, length-equalities, length-definitions, length-bytes}
 
@@ -85,11 +87,6 @@ module _ (b : List ℕ) where
       let after = at + EQUALITY-WORDS * suc j in
       ap₂ _∷_ (equality-reads q at j (s .0 .0) (s .0 .1) (stands-left b (equalityWords q) (equalitiesWords qs) here h))
       (equalities-read qs at (suc j) (s .1) (stands-right b (equalityWords q) (equalitiesWords qs) here after (omega arith) h))
-
--- a kept definition has the words of a flat record's
-kept-is-definition : keptDefinition ≡ definitionAt
-unfolding keptDefinition definitionAt
-kept-is-definition = refl
 
 -- the whole record
 module _ (m : ConstraintModule) where
@@ -193,13 +190,12 @@ module _ (m : ConstraintModule) where
       let h = moved b E at (at + EQUALITY-WORDS * 0) (omega arith) (stands-left b E (K ++ N) at equalities-stand) in
       ap (λ (n : ℕ). rows n 0 (equalityAt b at)) equalities-count ∙ equalities-read b (m .equalities) at 0 signed h
 
-  kept-back : All (λ d. SignedTree (d .right)) (m .kept) → rows (kept b) 0 (keptDefinition b (keptAt b) (nodesAt b) (nodes b)) ≡ m .kept
+  kept-back : All (λ d. SignedTree (d .right)) (m .kept) → rows (kept b) 0 (definitionAt b (keptAt b) (nodesAt b) (nodes b)) ≡ m .kept
   unfolding K N
   kept-back signed =
       let at = keptAt b in
       let h = moved b K at (at + KEPT-WORDS * 0) (omega arith) (stands-left b K N at kept-stand) in
-      ap (λ (n : ℕ). rows n 0 (keptDefinition b at (nodesAt b) (nodes b))) kept-count
-      ∙ ap (λ (f : List ℕ → ℕ → ℕ → ℕ → ℕ → Definition). rows (length (m .kept)) 0 (f b at (nodesAt b) (nodes b))) kept-is-definition
+      ap (λ (n : ℕ). rows n 0 (definitionAt b at (nodesAt b) (nodes b))) kept-count
       ∙ kept-read b (m .kept) at 0 (nodesAt b) 0 (nodes b) signed h nodes-stand (omega (arith, nodes-count))
 
 pub read-back : ReadBack

@@ -13,7 +13,7 @@ use Rattle.words.proofs.Laws.{setWords-append, setWords-bytes, length-bytesOf}
 use Rattle.constraint.specs.declared.Term.{Term}
 use Rattle.constraint.specs.declared.Equality.{Equality as Written}
 use Rattle.constraint.specs.Trees.{ConstraintModule}
-use Rattle.constraint.specs.Record.{numberWord, termWords, operationWord, writtenWords, nodeWords, definitionWords, headerWords, constraintWords, constraintBytes}
+use Rattle.constraint.specs.Record.{numberWord, termWords, operationWord, writtenWords, constraintWords, constraintBytes}
 use Rattle.constraint.proofs.Lengths.{length-term}
 
 module _ (b : List ℕ) (at : ℕ) where

@@ -8,20 +8,18 @@ use mir.Syntax.{w32}
 use Rattle.words.specs.Words.{wordAt}
 use Rattle.flat.specs.Trees.{Definition}
 use Rattle.flat.specs.Rules.{All}
-use Rattle.flat.specs.Record.{rows, pick, operatorOf, tree}
+use Rattle.flat.specs.Layout.{publicAt, proverAt}
+use Rattle.flat.specs.Record.{rows, pick, operatorOf, definitionAt}
 pub use Rattle.flat.specs.Writer.{SignedTree}
+pub use Rattle.records.specs.FlatRecord.{HEADER}
 use Rattle.records.specs.Kinds.{NODE-WORDS}
 use Rattle.constraint.specs.declared.Term.{Term}
 use Rattle.constraint.specs.declared.Equality.{Equality as Written}
 use Rattle.constraint.specs.declared.reading.Layout.{Layout}
-use Rattle.constraint.specs.declared.reading.KeptEntry.{KeptEntry}
 use Rattle.constraint.specs.Trees.{Side, Equality, ConstraintModule, written}
 use Rattle.constraint.specs.Record.{constraintBytes, COPY, EQUALITY-WORDS, KEPT-WORDS, NEGATE}
 
 -- ---- the layout
-
-abbrev pub HEADER : ℕ
-HEADER = 6
 
 -- "words: next id, counts of publics, prover ids, equalities, kept definitions, nodes; then the lists"
 module _ (b : List ℕ) where
@@ -75,13 +73,7 @@ layoutOf b = record {
   size = size b;
 }
 
--- ---- entry k of a list that starts at word `at`
-
-abbrev pub publicAt : List ℕ → ℕ → ℕ
-publicAt b k = wordAt b (HEADER + k)
-
-abbrev pub proverAt : List ℕ → ℕ → ℕ → ℕ
-proverAt b at k = wordAt b (at + k)
+-- ---- entry k of the equalities that start at word `at`. Public and prover ids, kept definitions and nodes are read as those of a flat record
 
 -- the term at word i: "0 and an id, or 1 and a number"; what is not 0 reads as 1
 unfoldable pub termAt : List ℕ → ℕ → Term
@@ -103,12 +95,6 @@ equalityAt b at k =
 unfoldable pub writtenAt : List ℕ → ℕ → ℕ → Written
 writtenAt b at k = written (equalityAt b at k)
 
-abbrev pub keptEntry : List ℕ → ℕ → ℕ → KeptEntry
-keptEntry b at k = record { id = wordAt b (at + KEPT-WORDS * k); node = wordAt b (at + KEPT-WORDS * k + 1) }
-
-unfoldable pub keptDefinition : List ℕ → ℕ → ℕ → ℕ → ℕ → Definition
-keptDefinition b at treesAt count k = record { id = keptEntry b at k .id; right = tree b treesAt count (keptEntry b at k .node) }
-
 -- ---- the module
 
 unfoldable pub constraintOf : List ℕ → ConstraintModule
@@ -117,7 +103,7 @@ constraintOf b = record {
   publics = rows (publics b) 0 (publicAt b);
   provers = rows (provers b) 0 (proverAt b (proversAt b));
   equalities = rows (equalities b) 0 (equalityAt b (equalitiesAt b));
-  kept = rows (kept b) 0 (keptDefinition b (keptAt b) (nodesAt b) (nodes b));
+  kept = rows (kept b) 0 (definitionAt b (keptAt b) (nodesAt b) (nodes b));
 }
 
 -- the constants of a module are signed 32-bit

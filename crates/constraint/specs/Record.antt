@@ -4,6 +4,7 @@ use Prim.Native.Nat.{ℕ}
 use lib.ListN.{length}
 use Rattle.words.specs.Words.{bytesOf}
 use Rattle.flat.specs.Trees.{definitionsNodes}
+use Rattle.flat.specs.Layout.{DEFINITION-WORDS}
 unfoldable pub use Rattle.flat.specs.Layout.{nodeWords, definitionWords, headerWords}
 unfoldable pub use Rattle.flat.specs.Writer.{numberWord, operatorWord, nextFrom, rootFrom, nodesFrom, definitionsWords, definitionsTrees}
 use Rattle.constraint.specs.declared.Operation.{Operation}
@@ -18,12 +19,15 @@ NEGATE = 9
 abbrev pub COPY : ℕ
 COPY = 10
 
--- the words of an equality and of a kept definition
+-- the words of an equality, of a kept definition, which is a flat record's, and of a term
 abbrev pub EQUALITY-WORDS : ℕ
 EQUALITY-WORDS = 7
 
 abbrev pub KEPT-WORDS : ℕ
-KEPT-WORDS = 2
+KEPT-WORDS = DEFINITION-WORDS
+
+abbrev pub TERM-WORDS : ℕ
+TERM-WORDS = 2
 
 -- "a term is [...] 0 and an id, or 1 and a number"
 unfoldable pub termWords : Term → List ℕ

@@ -1,7 +1,10 @@
-// The constraint record: its parts, and how each is written. Places are counted in words.
+// The constraint record: its parts, and how an equality is written. Its header, its kept definitions and its nodes stand as a flat record's do, and are
+// written by `flat::entries`. Places are counted in words.
 pub mod reading;
 
 use field::InfixOp;
+use flat::entries::DEFINITION_WORDS;
+use records::flat_record;
 use records::operators::ADD;
 use records::operators::DIVIDE;
 use records::operators::DIVIDE_Z;
@@ -17,10 +20,10 @@ ghost use mathlib.Core.Path.{_≡_};
 ghost use Prim.Native.Nat.{_+_, _*_, _≤_};
 ghost use lib.ListN.{length};
 ghost use Rattle.words.specs.Words.{setWords};
-ghost use Rattle.constraint.specs.Record.{termWords, operatorWord, operationWord, writtenWords, nodeWords, definitionWords, headerWords};
+ghost use Rattle.constraint.specs.Record.{EQUALITY-WORDS, TERM-WORDS, termWords, operatorWord, operationWord, writtenWords};
 
 // Words of the record's header.
-pub const HEADER: usize = 6;
+pub const HEADER: usize = flat_record::HEADER;
 
 // The operations that are no operators.
 pub const NEGATE: u32 = 9;
@@ -30,7 +33,7 @@ pub const COPY: u32 = 10;
 // The words of an equality and of a kept definition.
 pub const EQUALITY_WORDS: usize = 7;
 
-pub const KEPT_WORDS: usize = 2;
+pub const KEPT_WORDS: usize = DEFINITION_WORDS;
 
 // "A term is either a variable or a constant."
 pub enum Term {
@@ -81,9 +84,9 @@ fn operation_number(operation: Operation) -> u32
     }
 }
 
-// The two words of a term.
+// A term: of which sort it is, and its id or number.
 fn put_term(out: &mut [u8], at: usize, term: Term)
-    requires { ⌜ 4 * at + 8 ≤ length (now out) ⌝ }
+    requires { ⌜ 4 * (at + TERM-WORDS) ≤ length (now out) ⌝ }
     ensures { λ _. ⌜ now (out .exit) ≡ setWords (now (out .entry)) at (termWords term) ⌝ }
 {
     match term {
@@ -98,9 +101,9 @@ fn put_term(out: &mut [u8], at: usize, term: Term)
     }
 }
 
-// The seven words of an equality.
+// An equality at word `at`.
 pub fn put_equality(out: &mut [u8], at: usize, equality: Equality)
-    requires { ⌜ 4 * at + 28 ≤ length (now out) ⌝ }
+    requires { ⌜ 4 * (at + EQUALITY-WORDS) ≤ length (now out) ⌝ }
     ensures { λ _. ⌜ now (out .exit) ≡ setWords (now (out .entry)) at (writtenWords equality) ⌝ }
 {
     let left = equality.left;
@@ -111,45 +114,4 @@ pub fn put_equality(out: &mut [u8], at: usize, equality: Equality)
     put_word(out, at + 2, operation_number(operation));
     put_term(out, at + 3, first);
     put_term(out, at + 5, second);
-}
-
-// The two words of a kept definition: its id and its root.
-pub fn put_definition(out: &mut [u8], at: usize, id: u32, node: u32)
-    requires { ⌜ 4 * at + 8 ≤ length (now out) ⌝ }
-    ensures { λ _. ⌜ now (out .exit) ≡ setWords (now (out .entry)) at (definitionWords id node) ⌝ }
-{
-    put_word(out, at, id);
-    put_word(out, at + 1, node);
-}
-
-// The four words of a node.
-pub fn put_node(out: &mut [u8], at: usize, kind: u32, a: u32, b: u32, c: u32)
-    requires { ⌜ 4 * at + 16 ≤ length (now out) ⌝ }
-    ensures { λ _. ⌜ now (out .exit) ≡ setWords (now (out .entry)) at (nodeWords kind a b c) ⌝ }
-{
-    put_word(out, at, kind);
-    put_word(out, at + 1, a);
-    put_word(out, at + 2, b);
-    put_word(out, at + 3, c);
-}
-
-// The six words of the header.
-pub fn put_header(
-    out: &mut [u8],
-    next: u32,
-    publics: u32,
-    provers: u32,
-    equalities: u32,
-    kept: u32,
-    nodes: u32,
-)
-    requires { ⌜ 24 ≤ length (now out) ⌝ }
-    ensures { λ _. ⌜ now (out .exit) ≡ setWords (now (out .entry)) 0 (headerWords next publics provers equalities kept nodes) ⌝ }
-{
-    put_word(out, 0, next);
-    put_word(out, 1, publics);
-    put_word(out, 2, provers);
-    put_word(out, 3, equalities);
-    put_word(out, 4, kept);
-    put_word(out, 5, nodes);
 }

@@ -1,4 +1,5 @@
-// A constraint record, read: its layout, and the entries of its lists, each by its place and its index. Its nodes: `flat::node_at`.
+// A constraint record, read: its layout, and the entries of its lists, each by its place and its index. Public and prover ids and nodes stand as a flat
+// record's do: `flat::entries::public_at`, `prover_at`, `flat::node_at`.
 use super::COPY;
 use super::EQUALITY_WORDS;
 use super::Equality;
@@ -7,6 +8,8 @@ use super::KEPT_WORDS;
 use super::NEGATE;
 use super::Operation;
 use super::Term;
+use flat::entries::DefinitionEntry;
+use flat::entries::definition_at;
 use flat::operator;
 use records::NODE_WORDS;
 use words::signed;
@@ -15,9 +18,10 @@ ghost use mathlib.Core.Path.{_≡_};
 ghost use Prim.Native.Nat.{_+_, _*_, _≤_, _<_};
 ghost use lib.ListN.{length};
 ghost use Rattle.words.specs.Words.{wordAt};
-ghost use Rattle.constraint.specs.Record.{EQUALITY-WORDS, KEPT-WORDS};
+ghost use Rattle.flat.specs.Layout.{definitionEntry};
+ghost use Rattle.constraint.specs.Record.{EQUALITY-WORDS, KEPT-WORDS, TERM-WORDS};
 ghost use Rattle.constraint.specs.Trees.{written};
-ghost use Rattle.constraint.specs.Reading.{HEADER, layoutOf, publicAt, proverAt, termAt, equalityFor, writtenAt, keptEntry};
+ghost use Rattle.constraint.specs.Reading.{HEADER, layoutOf, termAt, equalityFor, writtenAt};
 
 // The header's numbers, the word at which each list starts (the public ids start behind the header), and the record's words in all.
 pub struct Layout {
@@ -32,12 +36,6 @@ pub struct Layout {
     pub kept_at: usize,
     pub nodes_at: usize,
     pub size: usize,
-}
-
-// A kept definition: its id, and the root of its right side.
-pub struct KeptEntry {
-    pub id: u32,
-    pub node: usize,
 }
 
 // A word, as a count or an index.
@@ -77,25 +75,9 @@ pub fn layout_of(s: &[u8]) -> Layout
     }
 }
 
-// Public id k.
-pub fn public_at(s: &[u8], k: usize) -> u32
-    requires { ⌜ 4 * (HEADER + k + 1) ≤ length (now s) ⌝ }
-    ensures { λ r. ⌜ r ≡ publicAt (now (s .entry)) k ⌝ }
-{
-    word_at(s, HEADER + k)
-}
-
-// Prover id k of those that start at word `at`.
-pub fn prover_at(s: &[u8], at: usize, k: usize) -> u32
-    requires { ⌜ 4 * (at + k + 1) ≤ length (now s) ⌝ }
-    ensures { λ r. ⌜ r ≡ proverAt (now (s .entry)) at k ⌝ }
-{
-    word_at(s, at + k)
-}
-
 // The term at word i: 0 and an id, or a number; what is not 0 reads as 1.
 fn term_at(s: &[u8], i: usize) -> Term
-    requires { ⌜ 4 * i + 8 ≤ length (now s) ⌝ }
+    requires { ⌜ 4 * (i + TERM-WORDS) ≤ length (now s) ⌝ }
     ensures { λ r. ⌜ r ≡ termAt (now (s .entry)) i ⌝ }
 {
     let kind = word_at(s, i);
@@ -154,13 +136,9 @@ pub fn equality_at(s: &[u8], at: usize, k: usize) -> Equality
 }
 
 // Kept definition k of those that start at word `at`.
-pub fn kept_at(s: &[u8], at: usize, k: usize) -> KeptEntry
+pub fn kept_at(s: &[u8], at: usize, k: usize) -> DefinitionEntry
     requires { ⌜ 4 * (at + KEPT-WORDS * k + KEPT-WORDS) ≤ length (now s) ⌝ }
-    ensures { λ r. ⌜ r ≡ keptEntry (now (s .entry)) at k ⌝ }
+    ensures { λ r. ⌜ r ≡ definitionEntry (now (s .entry)) at k ⌝ }
 {
-    let base = at + KEPT_WORDS * k;
-    KeptEntry {
-        id: word_at(s, base),
-        node: count(s, base + 1),
-    }
+    definition_at(s, at, k)
 }

@@ -32,7 +32,15 @@ same-length : tie.Need-same-length
 same-length c = search needs
 
 returns : tie.Need-returns
-returns c = equality-written (c .before .before .before .before .before .before .before .before .before .before .before .before .before .before .before .before .before .before .args .out .now) (c .before .before .before .before .before .before .before .before .before .before .before .before .before .before .before .before .before .before .args .at) _ _ (c .before .before .before .before .before .before .before .before .before .before .before .operation-number .ensures) (c .before .before .before .before .before .before .before .before .before .before .before .before .before .before .before .put-term .ensures) (c .before .before .before .before .before .before .before .before .before .before .put-word .ensures) (c .before .before .before .before .before .before .put-term2 .ensures) (c .before .before .put-term3 .ensures)
+returns c =
+    let third = c .before .before in
+    let second = third .before .before .before .before in
+    let word = second .before .before .before .before in
+    let number = word .before in
+    let first = number .before .before .before .before in
+    let entry = first .before .before .before .args in
+    equality-written (entry .out .now) (entry .at) _ _ (number .operation-number .ensures) (first .put-term .ensures) (word .put-word .ensures)
+    (second .put-term2 .ensures) (third .put-term3 .ensures)
 
 pub put-equality-spec : {M : Type 1} → statement M
 put-equality-spec =

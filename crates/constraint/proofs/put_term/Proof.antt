@@ -35,13 +35,26 @@ same-length : tie.Need-same-length
 same-length c = search needs
 
 returns : tie.Need-returns
-returns c = variable-written (c .before .before .before .before .before .before .before .before .before .before .before .before .args .out .now) (c .before .before .before .before .before .before .before .before .before .before .before .before .args .at) _ _ (c .before .before .before .before .before .before .before .before .before .term .given .1) (c .before .before .before .before .before .before .put-word .ensures) (c .before .before .put-word2 .ensures)
+returns c =
+    let second = c .before .before in
+    let first = second .before .before .before .before in
+    let is-variable = first .before .before .before in
+    let entry = is-variable .before .before .before .args in
+    variable-written (entry .out .now) (entry .at) _ _ (is-variable .term .given .1) (first .put-word .ensures) (second .put-word2 .ensures)
 
 same-length-2 : tie.Need-same-length-2
 same-length-2 c = search needs
 
 returns-2 : tie.Need-returns-2
-returns-2 c = constant-written (c .before .before .before .before .before .before .before .before .before .before .before .before .before .args .out .now) (c .before .before .before .before .before .before .before .before .before .before .before .before .before .args .at) _ _ _ (c .before .before .before .before .before .before .before .before .before .before .term2 .given .1) (record { sfits = c .before .before .before .before .before .before .before .before .before .known-told2 .given .0 .1 }) (c .before .before .before .unsigned .ensures) (c .before .before .before .before .before .before .before .put-word3 .ensures) (c .before .before .put-word4 .ensures)
+returns-2 c =
+    let second = c .before .before in
+    let number = second .before in
+    let first = number .before .before .before .before in
+    let known = first .before .before in
+    let is-constant = known .before in
+    let entry = is-constant .before .before .before .args in
+    constant-written (entry .out .now) (entry .at) _ _ _ (is-constant .term2 .given .1) (record { sfits = known .known-told2 .given .0 .1 })
+    (number .unsigned .ensures) (first .put-word3 .ensures) (second .put-word4 .ensures)
 
 pub put-term-spec : {M : Type 1} → statement M
 put-term-spec =

@@ -3,24 +3,12 @@ use borrow.Author.Needs.{needs}
 use Rattle.constraint.proofs.reading.kept_at.Statement.{statement}
 use Rattle.constraint.proofs.reading.kept_at.Tie as tie
 
-mul-base : tie.Need-mul-base
-mul-base c = search needs
-
-add-base : tie.Need-add-base
-add-base c = search needs
-
-word-at-requires : tie.Need-word-at-requires
-word-at-requires c κs = search needs
-
-add-count : tie.Need-add-count
-add-count c = search needs
-
-count-requires : tie.Need-count-requires
-count-requires c κs = search needs
+definition-at-requires : tie.Need-definition-at-requires
+definition-at-requires c κs = search needs
 
 returns : tie.Need-returns
-returns c = λ i. record { id = c .before .word-at .ensures i; node = c .count .ensures .0 i }
+returns c = c .definition-at .ensures
 
 pub kept-at-spec : {M : Type 1} → statement M
 kept-at-spec =
-    tie.close (tie.spec mul-base add-base word-at-requires add-count count-requires returns)
+    tie.close (tie.spec definition-at-requires returns)
