@@ -1,7 +1,4 @@
 pub mod Trees
-pub mod Bytes
-pub mod Lists
-pub mod Sides
 pub mod Runs
 pub mod Ids
 pub mod Flat

@@ -4,41 +4,29 @@ use eval_memory::Fixed;
 use eval_memory::nodes::below;
 use eval_memory::nodes::kind;
 use eval_memory::nodes::node_word;
+use flat::entries::put_node;
 use records::NODE_WORDS;
 use records::flat_record::NODES;
 use records::kinds::INFIX;
 use records::kinds::NEGATE;
-use words::put_word;
 ghost use mathlib.Core.Path.{_≡_};
-ghost use Prim.Native.Nat.{_≤_, _<_};
-ghost use Rattle.words.specs.Words.{setWord};
+ghost use Prim.Native.Nat.{_≤_};
+ghost use Rattle.flat.specs.Layout.{LAST-NODES-AT};
 ghost use Rattle.eval_memory.specs.Fall.{upto};
 ghost use Rattle.eval_write.specs.Written.{written, addNode, writeBody, writeTree};
 ghost use Rattle.records.specs.FlatRecord.{NODES};
 
 const LAST_NODE: u32 = NODES as u32 - 1;
 
-// Word i becomes w.
-pub fn put(out: &mut FlatBytes, i: usize, w: u32)
-    requires { ⌜ i < 86086 ⌝ }
-    ensures { λ _. ⌜ now (out .exit) ≡ setWord (now (out .entry)) i w ⌝ }
-{
-    put_word(out, i, w);
-}
-
 // One more node, of at most 16,384: how many there are then.
 fn add_node(out: &mut FlatBytes, at: usize, k: u32, kind: u32, x: u32, y: u32, z: u32) -> u32
-    requires { ⌜ (at ≤ 20550) × (k ≤ NODES) ⌝ }
+    requires { ⌜ (at ≤ LAST-NODES-AT) × (k ≤ NODES) ⌝ }
     ensures { λ r. ⌜ (written r (now (out .exit)) ≡ addNode at kind x y z (written k (now (out .entry)))) × (r ≤ NODES) ⌝ }
 {
     if LAST_NODE < k {
         return k;
     }
-    let base = at + NODE_WORDS * (k as usize);
-    put(out, base, kind);
-    put(out, base + 1, x);
-    put(out, base + 2, y);
-    put(out, base + 3, z);
+    put_node(out, at + NODE_WORDS * (k as usize), kind, x, y, z);
     k + 1
 }
 
@@ -52,7 +40,7 @@ fn write_below(
     c: u32,
     k: u32,
 ) -> u32
-    requires { ⌜ (at ≤ 20550) × (k ≤ NODES) ⌝ }
+    requires { ⌜ (at ≤ LAST-NODES-AT) × (k ≤ NODES) ⌝ }
     ensures { λ r. ⌜ (written r (now (out .exit)) ≡ upto (λ w. w) (writeBody (now (fixed .entry)) (now (store .entry)) at) n c (written k (now (out .entry)))) × (r ≤ NODES) ⌝ }
 {
     if n <= c {
@@ -70,7 +58,7 @@ pub fn write_tree(
     n: u32,
     k: u32,
 ) -> u32
-    requires { ⌜ (at ≤ 20550) × (k ≤ NODES) ⌝ }
+    requires { ⌜ (at ≤ LAST-NODES-AT) × (k ≤ NODES) ⌝ }
     ensures { λ r. ⌜ (written r (now (out .exit)) ≡ writeTree (now (fixed .entry)) (now (store .entry)) at n (written k (now (out .entry)))) × (r ≤ NODES) ⌝ }
 {
     let sort = kind(fixed, store, n);

@@ -5,6 +5,7 @@ use mathlib.Core.Path.{_≡_, refl, sym, ap, subst, _∙_}
 use mathlib.Core.List.{List}
 use native.Mathlib.Omega.{arith}
 use lib.ListN.{length, take}
+use Rattle.flat.specs.Layout.{BYTES}
 use Rattle.source.specs.Trees.{Module}
 use Rattle.source.specs.Record.{Read, sourceOf}
 use Rattle.flat.specs.Trees.{FlatModule, moduleNodes}
@@ -64,11 +65,11 @@ evaluated-small b len f e = go (sourceOf b) refl e
 
 module _ (b : List ℕ) (len : ℕ) (r : FlatRecord) (is : r ≡ answered (evaluatedSource b len)) where
   -- a flat record: it is the front of the array, and says what was evaluated
-  answered-flat : (n : ℕ) → r .answer ≡ Answer.Flat n → (n ≤ 344344) × (Readable (take n (r .bytes)) × (evaluatedSource b len ≡ flat (moduleOf (take n (r .bytes)))))
+  answered-flat : (n : ℕ) → r .answer ≡ Answer.Flat n → (n ≤ BYTES) × (Readable (take n (r .bytes)) × (evaluatedSource b len ≡ flat (moduleOf (take n (r .bytes)))))
   unfolding answered
   answered-flat n a = go (evaluatedSource b len) refl is
     where
-      go : (x : Evaluated) → evaluatedSource b len ≡ x → r ≡ answered x → (n ≤ 344344) × (Readable (take n (r .bytes)) × (evaluatedSource b len ≡ flat (moduleOf (take n (r .bytes)))))
+      go : (x : Evaluated) → evaluatedSource b len ≡ x → r ≡ answered x → (n ≤ BYTES) × (Readable (take n (r .bytes)) × (evaluatedSource b len ≡ flat (moduleOf (take n (r .bytes)))))
       go (flat m) e q =
           let recorded = source-recorded b len m e in
           let long = flat-answers n (length (flatBytes m)) (sym a ∙ ap (λ (r : FlatRecord). r .answer) q) in
@@ -86,7 +87,7 @@ module _ (b : List ℕ) (len : ℕ) (r : FlatRecord) (is : r ≡ answered (evalu
 
 -- a record: its bytes are within the array, the passes can read it, and what they give is meant
 pub record Passable (b : List ℕ) (len n : ℕ) (bytes : List ℕ) : Type 0 where
-  pub within : n ≤ 344344
+  pub within : n ≤ BYTES
   pub readable : Readable (take n bytes)
   pub small : moduleNodes (moduleOf (take n bytes)) ≤ 16384
   pub gives : flattened b len ≡ cutOf (moduleOf (take n bytes))

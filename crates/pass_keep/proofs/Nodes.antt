@@ -11,6 +11,7 @@ use mir.Syntax.{w32}
 use Rattle.words.specs.Words.{setWords}
 use Rattle.words.proofs.Laws.{length-setWords, setWords-append}
 use Rattle.field.specs.declared.InfixOp.{InfixOp}
+use Rattle.records.specs.Kinds.{NODE-WORDS}
 use Rattle.flat.specs.Trees.{Flat, treeNodes}
 use Rattle.flat.specs.Record.{nodeOf, tree}
 use Rattle.flat.specs.Readable.{Inside}
@@ -127,7 +128,7 @@ module _ {b : List ℕ} {at k : ℕ} (i : Inside b at k) (base n : ℕ) (s : Sub
       pub room-right : NodeRoom (treeNodes (tree b at (y + 1) y)) a l₁
       room-right = record { long = omega (arith, size, room .long, first-is, first-length); few = omega (arith, size, room .few, first-is) }
 
-      pub room-root : {c : ℕ} {l₂ : List ℕ} → l₂ ≡ putTree l₁ a (copyPropagateExpr n s (tree b at (y + 1) y)) → c ≡ nextFrom a (copyPropagateExpr n s (tree b at (y + 1) y)) → (4 * (4 * c) + 16 ≤ length l₂) × (c < 65536) × (0 < a) × (0 < c) × (a < 65536)
+      pub room-root : {c : ℕ} {l₂ : List ℕ} → l₂ ≡ putTree l₁ a (copyPropagateExpr n s (tree b at (y + 1) y)) → c ≡ nextFrom a (copyPropagateExpr n s (tree b at (y + 1) y)) → (4 * (NODE-WORDS * c + NODE-WORDS) ≤ length l₂) × (c < 65536) × (0 < a) × (0 < c) × (a < 65536)
       room-root {c} {l₂} p₂ qc =
           let u : c ≡ a + treeNodes (tree b at (y + 1) y) = qc ∙ next-is a n s (tree b at (y + 1) y) in
           let v : length l₂ ≡ length l₁ = ap length p₂ ∙ tree-length l₁ a _ in
@@ -143,7 +144,7 @@ module _ {b : List ℕ} {at k : ℕ} (i : Inside b at k) (base n : ℕ) (s : Sub
     pub room-child : NodeRoom (treeNodes (tree b at (x + 1) x)) base l
     room-child = record { long = omega (arith, size-negate, room .long); few = omega (arith, size-negate, room .few) }
 
-    pub room-above : {a : ℕ} {l₁ : List ℕ} → l₁ ≡ putTree l base (copyPropagateExpr n s (tree b at (x + 1) x)) → a ≡ nextFrom base (copyPropagateExpr n s (tree b at (x + 1) x)) → (4 * (4 * a) + 16 ≤ length l₁) × (a < 65536) × (0 < a)
+    pub room-above : {a : ℕ} {l₁ : List ℕ} → l₁ ≡ putTree l base (copyPropagateExpr n s (tree b at (x + 1) x)) → a ≡ nextFrom base (copyPropagateExpr n s (tree b at (x + 1) x)) → (4 * (NODE-WORDS * a + NODE-WORDS) ≤ length l₁) × (a < 65536) × (0 < a)
     room-above {a} {l₁} p₁ qa =
         let u : a ≡ base + treeNodes (tree b at (x + 1) x) = qa ∙ next-is base n s (tree b at (x + 1) x) in
         let v : length l₁ ≡ length l = ap length p₁ ∙ tree-length l base _ in

@@ -2,10 +2,10 @@
 use constraint::KEPT_WORDS;
 use constraint::Term;
 use constraint::operator_number;
-use constraint::put_definition;
-use constraint::put_node;
 use flat::Node;
 use flat::entries::definition_at;
+use flat::entries::put_definition;
+use flat::entries::put_node;
 use pass_classify::NEVER;
 use pass_classify::Provers;
 use pass_classify::Usages;

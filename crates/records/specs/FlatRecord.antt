@@ -23,7 +23,3 @@ IDS = 65536
 
 abbrev pub LAST-ID : ℕ
 LAST-ID = 65535
-
--- the longest record
-abbrev pub BYTES : ℕ
-BYTES = 344344

@@ -1,6 +1,4 @@
 // The flat record: words of its header, and the most of each list.
-use super::NODE_WORDS;
-
 pub const HEADER: usize = 6;
 
 pub const PUBLICS: usize = 64;
@@ -18,7 +16,3 @@ pub const IDS: u32 = 65536;
 pub const LAST_ID: u32 = IDS - 1;
 
 pub const ID_COUNT: usize = IDS as usize;
-
-// The longest record.
-pub const BYTES: usize = 4
-    * (HEADER + PUBLICS + LISTED + 2 * LISTED + 2 * LISTED + NODE_WORDS * NODES);

@@ -35,17 +35,11 @@ add-to c = search needs
 listed-requires-2 : tie.Need-listed-requires-2 Inv-loop μ-loop
 listed-requires-2 c κs = search needs
 
-put-requires : tie.Need-put-requires Inv-loop μ-loop
-put-requires c κs = omega (arith, c .before .before .before .before .before .before .before .before .pre .1 .0, c .before .before .before .before .before .before .before .before .pre .1 .1, c .before .before .before .before .before .loop-test .taken)
-
-add-put : tie.Need-add-put Inv-loop μ-loop
-add-put c = search needs
-
 below-requires : tie.Need-below-requires Inv-loop μ-loop
 below-requires c κs = search needs
 
-put-requires-2 : tie.Need-put-requires-2 Inv-loop μ-loop
-put-requires-2 c κs = omega (arith, c .before .before .before .before .before .before .before .before .before .before .before .pre .1 .0, c .before .before .before .before .before .before .before .before .before .before .before .pre .1 .1, c .before .before .before .before .before .before .before .before .loop-test .taken)
+put-definition-requires : tie.Need-put-definition-requires Inv-loop μ-loop
+put-definition-requires c κs = search needs
 
 add-d : tie.Need-add-d Inv-loop μ-loop
 add-d c = search needs
@@ -54,7 +48,14 @@ loop-less : tie.Need-loop-less Inv-loop μ-loop
 loop-less c = search needs
 
 loop-again : tie.Need-loop-again Inv-loop μ-loop
-loop-again c = ((definitions-more _ _ _ _ _ _ _ (c .before .before .before .before .before .before .before .before .before .before .loop .inv .0 .0) (c .before .before .before .before .before .before .before .listed .ensures) (c .before .before .before .before .before .before .write-tree .ensures .0) (c .before .before .before .before .listed2 .ensures) (c .before .before .before .put .ensures) (c .before .below .ensures) (c .put2 .ensures), c .before .before .before .before .before .before .write-tree .ensures .1), omega (arith, c .before .before .before .before .before .before .before .before .before .loop-test .taken))
+loop-again c =
+    let ids = c .before .before in
+    let tree = ids .before .before in
+    let turn = tree .before .before .before in
+    let was = turn .before .loop .inv in
+    let put = c .put-definition .ensures in
+    ((definitions-more _ _ _ _ _ _ _ (was .0 .0) (tree .before .listed .ensures) (tree .write-tree .ensures .0) (ids .listed2 .ensures) (c .before .below .ensures) put,
+    tree .write-tree .ensures .1), omega (arith, turn .loop-test .taken))
 
 returns : tie.Need-returns Inv-loop μ-loop
 returns c = (definitions-all _ _ _ _ _ _ (c .before .loop .inv .0 .0) (c .before .loop .inv .1) (c .loop-test .left), c .before .loop .inv .0 .1)
@@ -72,10 +73,8 @@ write-definitions-spec =
     mul-to
     add-to
     listed-requires-2
-    put-requires
-    add-put
     below-requires
-    put-requires-2
+    put-definition-requires
     add-d
     loop-less
     loop-again

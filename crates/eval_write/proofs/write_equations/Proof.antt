@@ -17,6 +17,23 @@ abbrev μ-loop : tie.MeasureT-loop
 loop-holds : tie.Need-loop-holds Inv-loop μ-loop
 loop-holds c = ((equations-none _ _ _ _ _ _, c .before .pre .0 .1), omega arith)
 
+listed-requires : tie.Need-listed-requires Inv-loop μ-loop
+listed-requires c κs = search needs
+
+write-tree-requires : tie.Need-write-tree-requires Inv-loop μ-loop
+write-tree-requires c κs =
+    let start = c .before .before .before .before .before in
+    (start .pre .0 .0, c .before .before .before .loop .inv .0 .1)
+
+listed-requires-2 : tie.Need-listed-requires-2 Inv-loop μ-loop
+listed-requires-2 c κs = search needs
+
+write-tree-requires-2 : tie.Need-write-tree-requires-2 Inv-loop μ-loop
+write-tree-requires-2 c κs =
+    let left = c .before .before in
+    let start = left .before .before .before .before .before .before in
+    (start .pre .0 .0, left .write-tree .ensures .1)
+
 cast-to : tie.Need-cast-to Inv-loop μ-loop
 cast-to c = search needs
 
@@ -26,20 +43,14 @@ mul-to c = search needs
 add-to : tie.Need-add-to Inv-loop μ-loop
 add-to c = search needs
 
-listed-requires : tie.Need-listed-requires Inv-loop μ-loop
-listed-requires c κs = search needs
+below-requires : tie.Need-below-requires Inv-loop μ-loop
+below-requires c κs = search needs
 
-write-side-requires : tie.Need-write-side-requires Inv-loop μ-loop
-write-side-requires c κs = ((c .before .before .before .before .before .pre .0 .0, c .before .before .before .loop .inv .0 .1), omega (arith, c .before .before .before .before .before .pre .1 .0, c .before .before .before .before .before .pre .1 .1, c .before .before .loop-test .taken))
+below-requires-2 : tie.Need-below-requires-2 Inv-loop μ-loop
+below-requires-2 c κs = search needs
 
-add-write-side : tie.Need-add-write-side Inv-loop μ-loop
-add-write-side c = search needs
-
-listed-requires-2 : tie.Need-listed-requires-2 Inv-loop μ-loop
-listed-requires-2 c κs = search needs
-
-write-side-requires-2 : tie.Need-write-side-requires-2 Inv-loop μ-loop
-write-side-requires-2 c κs = ((c .before .before .before .before .before .before .before .before .pre .0 .0, c .before .before .write-side .ensures .1), omega (arith, c .before .before .before .before .before .before .before .before .pre .1 .0, c .before .before .before .before .before .before .before .before .pre .1 .1, c .before .before .before .before .before .loop-test .taken))
+put-equation-requires : tie.Need-put-equation-requires Inv-loop μ-loop
+put-equation-requires c κs = search needs
 
 add-e : tie.Need-add-e Inv-loop μ-loop
 add-e c = search needs
@@ -48,7 +59,15 @@ loop-less : tie.Need-loop-less Inv-loop μ-loop
 loop-less c = search needs
 
 loop-again : tie.Need-loop-again Inv-loop μ-loop
-loop-again c = ((equations-more _ _ _ _ _ _ _ (c .before .before .before .before .before .before .before .loop .inv .0 .0) (c .before .before .before .before .listed .ensures) (c .before .before .before .write-side .ensures .0) (c .before .listed2 .ensures) (c .write-side2 .ensures .0), c .write-side2 .ensures .1), omega (arith, c .before .before .before .before .before .before .loop-test .taken))
+loop-again c =
+    let roots = c .before in
+    let right = roots .before .before .before in
+    let left = right .before .before .before in
+    let turn = left .before .before .before in
+    let was = turn .before .loop .inv in
+    ((equations-more _ _ _ _ _ _ _ (was .0 .0) (left .before .listed .ensures) (left .write-tree .ensures .0) (right .before .listed2 .ensures)
+    (right .write-tree2 .ensures .0) (roots .before .below .ensures) (roots .below2 .ensures) (c .put-equation .ensures),
+    right .write-tree2 .ensures .1), omega (arith, turn .loop-test .taken))
 
 returns : tie.Need-returns Inv-loop μ-loop
 returns c = (equations-all _ _ _ _ _ _ (c .before .loop .inv .0 .0) (c .before .loop .inv .1) (c .loop-test .left), c .before .loop .inv .0 .1)
@@ -60,14 +79,16 @@ write-equations-spec =
     Inv-loop
     μ-loop
     loop-holds
+    listed-requires
+    write-tree-requires
+    listed-requires-2
+    write-tree-requires-2
     cast-to
     mul-to
     add-to
-    listed-requires
-    write-side-requires
-    add-write-side
-    listed-requires-2
-    write-side-requires-2
+    below-requires
+    below-requires-2
+    put-equation-requires
     add-e
     loop-less
     loop-again

@@ -6,8 +6,8 @@ use native.Mathlib.Omega.{arith}
 use Prim.Native.Nat.{_-_}
 use Rattle.eval_write.proofs.Ways.{flat-way}
 
-write-header-requires : tie.Need-write-header-requires
-write-header-requires c κs = search needs
+put-header-requires : tie.Need-put-header-requires
+put-header-requires c κs = search needs
 
 write-publics-requires : tie.Need-write-publics-requires
 write-publics-requires c κs = search needs
@@ -46,7 +46,12 @@ write-definitions-requires : tie.Need-write-definitions-requires
 write-definitions-requires c κs = search needs
 
 write-equations-requires : tie.Need-write-equations-requires
-write-equations-requires c κs = search needs
+write-equations-requires c κs =
+    let done = c .before in
+    let start = done .before .before .before .before .before .before .before .before .before .before .before .before in
+    let few = start .pre in
+    ((omega (arith, few .0 .0, few .0 .1, few .1 .0, few .1 .1), done .write-definitions .ensures .1),
+    (omega (arith, few .0 .0, few .0 .1, few .1 .0), few .1 .1))
 
 cast-result : tie.Need-cast-result
 cast-result c = search needs
@@ -55,19 +60,33 @@ mul-result : tie.Need-mul-result
 mul-result c = search needs
 
 add-result : tie.Need-add-result
-add-result c = record { fits = omega (arith, c .write-equations .ensures .1, c .before .before .before .before .before .before .before .before .before .before .before .before .before .before .pre .0 .0, c .before .before .before .before .before .before .before .before .before .before .before .before .before .before .pre .0 .1, c .before .before .before .before .before .before .before .before .before .before .before .before .before .before .pre .1 .0, c .before .before .before .before .before .before .before .before .before .before .before .before .before .before .pre .1 .1) }
+add-result c =
+    let done = c .before .before in
+    let start = done .before .before .before .before .before .before .before .before .before .before .before .before in
+    let few = start .pre in
+    record { fits = omega (arith, c .write-equations .ensures .1, few .0 .0, few .0 .1, few .1 .0, few .1 .1) }
 
 mul-result-2 : tie.Need-mul-result-2
-mul-result-2 c = record { fits = omega (arith, c .write-equations .ensures .1, c .before .before .before .before .before .before .before .before .before .before .before .before .before .before .pre .0 .0, c .before .before .before .before .before .before .before .before .before .before .before .before .before .before .pre .0 .1, c .before .before .before .before .before .before .before .before .before .before .before .before .before .before .pre .1 .0, c .before .before .before .before .before .before .before .before .before .before .before .before .before .before .pre .1 .1) }
+mul-result-2 c =
+    let done = c .before .before in
+    let start = done .before .before .before .before .before .before .before .before .before .before .before .before in
+    let few = start .pre in
+    record { fits = omega (arith, c .write-equations .ensures .1, few .0 .0, few .0 .1, few .1 .0, few .1 .1) }
 
 returns : tie.Need-returns
-returns c = flat-way _ _ _ _ _ _ _ _ (c .before .before .before .before .before .before .before .before .before .before .before .write-header .ensures) (c .before .before .before .before .before .before .before .before .before .write-publics .ensures) (c .before .before .before .before .before .before .before .write-provers .ensures) (c .before .before .write-definitions .ensures .0) (c .write-equations .ensures .0)
+returns c =
+    let definitions = c .before .before in
+    let provers = definitions .before .before .before .before .before in
+    let publics = provers .before .before in
+    let header = publics .before .before in
+    flat-way _ _ _ _ _ _ _ _ (header .put-header .ensures) (publics .write-publics .ensures) (provers .write-provers .ensures)
+    (definitions .write-definitions .ensures .0) (c .write-equations .ensures .0)
 
 pub write-flat-spec : {M : Type 1} → statement M
 write-flat-spec =
     tie.close
     (tie.spec
-    write-header-requires
+    put-header-requires
     write-publics-requires
     add-provers
     write-provers-requires

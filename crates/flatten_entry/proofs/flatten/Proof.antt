@@ -3,6 +3,7 @@ use borrow.Author.Needs.{needs}
 use native.Mathlib.Omega.{arith}
 use mathlib.Core.Path.{_≡_}
 use lib.ListN.{length}
+use Rattle.flat.specs.Layout.{BYTES}
 use Rattle.pass_entry.proofs.Answers.{gives-as, gives-refused}
 use Rattle.flatten_entry.proofs.Answers.{passable, refused-gives}
 use Rattle.flatten_entry.proofs.flatten.Statement.{statement}
@@ -17,7 +18,7 @@ enum-known-answer c = search needs
 pass-on-requires : tie.Need-pass-on-requires
 pass-on-requires c κs =
     let p = passable _ _ _ _ (c .before .before .before .before .before .before .before .before .before .evaluate-source .ensures .0) (c .before .before .before .before .before .answer .given .1) in
-    let long : length (c .before .before .before .before .before .before .before .before .before .evaluate-source .result .bytes) ≡ 344344 = search needs in
+    let long : length (c .before .before .before .before .before .before .before .before .before .evaluate-source .result .bytes) ≡ BYTES = search needs in
     (omega (arith, p .within, long), (p .readable, p .small))
 
 enum-known-answer-2 : tie.Need-enum-known-answer-2

@@ -6,7 +6,7 @@ use Rattle.pass_keep.proofs.put_tree.Reads as put-tree
 use Rattle.pass_keep.proofs.put_tree.Kinds as put-tree-kinds
 use Rattle.pass_keep.proofs.+put_tree.Lts-put_tree as put-tree-lts
 use Rattle.constraint.proofs.operator_number.Reads as operator-number-reads
-use Rattle.constraint.proofs.put_node.Reads as put-node-reads
+use Rattle.flat.proofs.entries.put_node.Reads as put-node-reads
 use Rattle.pass_copies.proofs.resolve.Reads as resolve-reads
 use Rattle.flat.proofs.node_at.Reads as node-at-reads
 use Rattle.pass_keep.proofs.put_leaf.Reads as put-leaf-reads
