@@ -5,20 +5,15 @@ use answer_record::Lent;
 use answer_record::at_most;
 use answer_record::lent_bytes;
 use answer_record::print_answer;
-use constraint::HEADER;
+use flat::entries::BYTES;
 use libc::STDERR_FILENO;
 use libc::STDIN_FILENO;
-use pass_entry::BODY_BYTES;
-use pass_entry::LIST_BYTES;
-use records::flat_record::BYTES;
+use pass_entry::OUTPUT_BYTES;
 use streams::Input;
 use streams::read_input;
 
 // One byte more than the longest record has: a longer input is refused 20 as its first bytes are.
 const RECORD_BYTES: usize = BYTES + 1;
-
-// No constraint record of a flat record is longer.
-const OUTPUT_BYTES: usize = 4 * HEADER + BODY_BYTES + LIST_BYTES;
 
 // The program's own name counts as an argument.
 const MOST_ARGUMENTS: usize = 2;

@@ -6,13 +6,13 @@ use answer_record::Lent;
 use answer_record::at_most;
 use answer_record::lent_bytes;
 use answer_record::print_answer;
-use flatten_entry::buffers::OUTPUT_BYTES;
 use flatten_entry::buffers::STORE_BYTES;
 use flatten_entry::buffers::output_buffer;
 use flatten_entry::buffers::record_buffer;
 use flatten_entry::buffers::store_buffer;
 use libc::STDERR_FILENO;
 use libc::STDIN_FILENO;
+use pass_entry::OUTPUT_BYTES;
 use streams::Input;
 use streams::read_input;
 

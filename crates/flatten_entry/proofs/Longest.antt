@@ -7,6 +7,7 @@ use mathlib.Core.List.{List, [], _∷_}
 use mathlib.Core.Option.{none}
 use native.Mathlib.Omega.{arith}
 use lib.ListN.{length, length-append}
+use Rattle.pass_entry.specs.Body.{OUTPUT-BYTES}
 use Rattle.source.specs.Trees.{Module}
 use Rattle.source.specs.Record.{Read, sourceOf}
 use Rattle.flat.specs.Trees.{Definition, FlatModule, treeNodes, definitionsNodes, moduleNodes}
@@ -138,7 +139,7 @@ module _ (b : List ℕ) (m : Module) (r : sourceOf b ≡ Read.module-of m) (capa
       go (State.refused n) q = absurd (let z : _≡_ {A = ℕ} 0 1 = cc in omega arith)
       go (State.gives x s) q = sym (ap (λ (g : FlatModule). g .publics) (flat-path _ f q))
 
-  pub short : length (constraintBytes (passes f)) ≤ 1016088
+  pub short : length (constraintBytes (passes f)) ≤ OUTPUT-BYTES
   unfolding moduleNodes
   short =
       let w = made in
@@ -161,10 +162,10 @@ pub longest-record : LongestRecord
 unfolding flattened flattenedRead flattenedOf passed
 longest-record b len c e = go (sourceOf b) refl e
   where
-    at : (m : Module) (v : Evaluated) → sourceOf b ≡ Read.module-of m → evaluated (capacityOf len) (numbered m) ≡ v → passed v ≡ cut c → length (constraintBytes c) ≤ 1016088
-    at m (flat f) r q k = subst (λ (x : ConstraintModule). length (constraintBytes x) ≤ 1016088) (accepted f c k .1) (short b m r (capacityOf len) f q)
+    at : (m : Module) (v : Evaluated) → sourceOf b ≡ Read.module-of m → evaluated (capacityOf len) (numbered m) ≡ v → passed v ≡ cut c → length (constraintBytes c) ≤ OUTPUT-BYTES
+    at m (flat f) r q k = subst (λ (x : ConstraintModule). length (constraintBytes x) ≤ OUTPUT-BYTES) (accepted f c k .1) (short b m r (capacityOf len) f q)
     at m (refusal n) r q k = absurd (refused-cut n c k)
 
-    go : (r : Read) → sourceOf b ≡ r → flattenedRead (capacityOf len) r ≡ cut c → length (constraintBytes c) ≤ 1016088
+    go : (r : Read) → sourceOf b ≡ r → flattenedRead (capacityOf len) r ≡ cut c → length (constraintBytes c) ≤ OUTPUT-BYTES
     go (Read.module-of m) r q = at m (evaluated (capacityOf len) (numbered m)) r refl q
     go (Read.refused n) r q = absurd (refused-cut n c q)

@@ -2,8 +2,9 @@
 use Prim.Native.Nat.{ℕ}
 use mathlib.Core.List.{List}
 use lib.ListN.{replicate}
+use Rattle.pass_entry.specs.Body.{OUTPUT-BYTES}
 
--- the longest source record, and one byte more; 16 bytes for each node that a store may hold; no constraint record is longer
+-- the longest source record, and one byte more; 16 bytes for each node that a store may hold
 abbrev pub LONGEST-SOURCE : ℕ
 LONGEST-SOURCE = 76052
 
@@ -12,9 +13,6 @@ RECORD-BYTES = 76053
 
 abbrev pub STORE-BYTES : ℕ
 STORE-BYTES = 1048560
-
-abbrev pub OUTPUT-BYTES : ℕ
-OUTPUT-BYTES = 1016088
 
 unfoldable pub recordBuffer : List ℕ
 recordBuffer = replicate RECORD-BYTES 0

@@ -20,7 +20,8 @@ use Rattle.plain.specs.Plain.{isPlainBody}
 use Rattle.plain.specs.Meaning.{NoDivisorZero}
 use Rattle.agreement.specs.Statement.{OneAtMost, Agrees}
 use Rattle.flatten_entry.specs.Flatten.{flattened}
-use Rattle.flatten_entry.specs.Buffers.{LONGEST-SOURCE, OUTPUT-BYTES, STORE-BYTES}
+use Rattle.pass_entry.specs.Body.{OUTPUT-BYTES}
+use Rattle.flatten_entry.specs.Buffers.{LONGEST-SOURCE, STORE-BYTES}
 
 -- For every source record b that is accepted (with a store of `len` bytes and the output `out`, n bytes are written) and whose module m has a plain body, as
 -- every plain one has, and whatever elements ρ its inputs have that make no divisor in it zero: the equalities read back from the bytes that were written

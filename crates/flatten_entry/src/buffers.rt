@@ -1,10 +1,8 @@
 // Zeros to read a record into, and the most that can matter to lend as store and output (`long-as-front`, `large-as-most`
 // and `longest-record` in proofs/).
-use constraint::HEADER;
 use eval_memory::MOST_UNITS;
 use eval_memory::UNIT_BYTES;
-use pass_entry::BODY_BYTES;
-use pass_entry::LIST_BYTES;
+use pass_entry::OUTPUT_BYTES;
 use records::source_record::BYTES;
 ghost use mathlib.Core.Path.{_≡_};
 ghost use Rattle.flatten_entry.specs.Buffers.{recordBuffer, storeBuffer, outputBuffer};
@@ -13,8 +11,6 @@ ghost use Rattle.flatten_entry.specs.Buffers.{recordBuffer, storeBuffer,
 pub const RECORD_BYTES: usize = BYTES + 1;
 
 pub const STORE_BYTES: usize = MOST_UNITS as usize * UNIT_BYTES;
-
-pub const OUTPUT_BYTES: usize = 4 * HEADER + BODY_BYTES + LIST_BYTES;
 
 // A longer input has the answer of its first bytes, so many.
 pub fn record_buffer() -> [u8; RECORD_BYTES]

@@ -12,7 +12,7 @@ use Rattle.pass_trees.specs.Passes.{Outcome, cut, refused, passes, counted, cut
 use Rattle.constraint.specs.Record.{EQUALITY-WORDS, KEPT-WORDS, equalitiesWords, definitionsWords, definitionsTrees}
 use Rattle.pass_entry.specs.declared.body.Built.{Built}
 use Rattle.pass_entry.specs.declared.body.Passed.{Passed}
-use Rattle.records.specs.FlatRecord.{IDS, LISTED, NODES, PUBLICS}
+use Rattle.records.specs.FlatRecord.{HEADER, IDS, LISTED, NODES, PUBLICS}
 use Rattle.records.specs.Kinds.{NODE-WORDS}
 
 -- the most that a flat record can give: publics, prover ids, an equality for each node, kept definitions; and the nodes of these
@@ -24,6 +24,10 @@ BODY-BYTES = 4 * BODY-WORDS
 
 abbrev pub LIST-BYTES : ℕ
 LIST-BYTES = 4 * (NODE-WORDS * NODES)
+
+-- no constraint record of a flat record is longer
+abbrev pub OUTPUT-BYTES : ℕ
+OUTPUT-BYTES = 4 * HEADER + BODY-BYTES + LIST-BYTES
 
 -- the lists before anything is written to them
 unfoldable pub noBody : List ℕ

@@ -1,5 +1,6 @@
 // The lists that the body takes over as they are, and copies of bytes.
 use constraint::EQUALITY_WORDS;
+use constraint::HEADER;
 use constraint::KEPT_WORDS;
 use flat::entries::public_at;
 use pass_classify::Provers;
@@ -25,6 +26,9 @@ pub const BODY_BYTES: usize = 4
     * (PUBLICS + ID_COUNT + EQUALITY_WORDS * NODES + KEPT_WORDS * LISTED);
 
 pub const LIST_BYTES: usize = 4 * NODE_WORDS * NODES;
+
+// So no constraint record of a flat record is longer.
+pub const OUTPUT_BYTES: usize = 4 * HEADER + BODY_BYTES + LIST_BYTES;
 
 use words::put_word;
 

@@ -5,7 +5,7 @@ use native.Mathlib.Omega.{arith}
 use Prim.Native.Nat.{_+_}
 use lib.ListN.{length}
 use lib.Seq.{length-take-le}
-use Rattle.pass_entry.specs.Body.{BODY-BYTES, LIST-BYTES}
+use Rattle.pass_entry.specs.Body.{OUTPUT-BYTES}
 use Rattle.cut_flat.proofs.run.Statement.{statement}
 use Rattle.cut_flat.proofs.run.Tie as tie
 
@@ -20,7 +20,7 @@ array-borrow-prefix-out c = search needs
 
 slice-aggregate-cut-input : tie.Need-slice-aggregate-cut-input
 slice-aggregate-cut-input c =
-    let long : length (c .before .before .output-buffer .result) ≡ 24 + BODY-BYTES + LIST-BYTES = search needs in
+    let long : length (c .before .before .output-buffer .result) ≡ OUTPUT-BYTES = search needs in
     sym (length-take-le _ _ (omega (arith, long, c .before .at-most .ensures .1)))
 
 cut-input-requires : tie.Need-cut-input-requires

@@ -53,9 +53,13 @@ loop-again c =
     let tree = ids .before .before in
     let turn = tree .before .before .before in
     let was = turn .before .loop .inv in
-    let put = c .put-definition .ensures in
-    ((definitions-more _ _ _ _ _ _ _ (was .0 .0) (tree .before .listed .ensures) (tree .write-tree .ensures .0) (ids .listed2 .ensures) (c .before .below .ensures) put,
-    tree .write-tree .ensures .1), omega (arith, turn .loop-test .taken))
+    let put = c .put-definition .ensures in (
+      (
+        definitions-more _ _ _ _ _ _ _ (was .0 .0) (tree .before .listed .ensures) (tree .write-tree .ensures .0) (ids .listed2 .ensures) (c .before .below .ensures) put,
+        tree .write-tree .ensures .1,
+      ),
+      omega (arith, turn .loop-test .taken),
+    )
 
 returns : tie.Need-returns Inv-loop μ-loop
 returns c = (definitions-all _ _ _ _ _ _ (c .before .loop .inv .0 .0) (c .before .loop .inv .1) (c .loop-test .left), c .before .loop .inv .0 .1)

@@ -64,10 +64,14 @@ loop-again c =
     let right = roots .before .before .before in
     let left = right .before .before .before in
     let turn = left .before .before .before in
-    let was = turn .before .loop .inv in
-    ((equations-more _ _ _ _ _ _ _ (was .0 .0) (left .before .listed .ensures) (left .write-tree .ensures .0) (right .before .listed2 .ensures)
-    (right .write-tree2 .ensures .0) (roots .before .below .ensures) (roots .below2 .ensures) (c .put-equation .ensures),
-    right .write-tree2 .ensures .1), omega (arith, turn .loop-test .taken))
+    let was = turn .before .loop .inv in (
+      (
+        equations-more _ _ _ _ _ _ _ (was .0 .0) (left .before .listed .ensures) (left .write-tree .ensures .0) (right .before .listed2 .ensures)
+            (right .write-tree2 .ensures .0) (roots .before .below .ensures) (roots .below2 .ensures) (c .put-equation .ensures),
+        right .write-tree2 .ensures .1,
+      ),
+      omega (arith, turn .loop-test .taken),
+    )
 
 returns : tie.Need-returns Inv-loop μ-loop
 returns c = (equations-all _ _ _ _ _ _ (c .before .loop .inv .0 .0) (c .before .loop .inv .1) (c .loop-test .left), c .before .loop .inv .0 .1)

@@ -49,9 +49,10 @@ write-equations-requires : tie.Need-write-equations-requires
 write-equations-requires c κs =
     let done = c .before in
     let start = done .before .before .before .before .before .before .before .before .before .before .before .before in
-    let few = start .pre in
-    ((omega (arith, few .0 .0, few .0 .1, few .1 .0, few .1 .1), done .write-definitions .ensures .1),
-    (omega (arith, few .0 .0, few .0 .1, few .1 .0), few .1 .1))
+    let few = start .pre in (
+      (omega (arith, few .0 .0, few .0 .1, few .1 .0, few .1 .1), done .write-definitions .ensures .1),
+      (omega (arith, few .0 .0, few .0 .1, few .1 .0), few .1 .1),
+    )
 
 cast-result : tie.Need-cast-result
 cast-result c = search needs

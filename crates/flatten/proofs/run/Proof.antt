@@ -4,6 +4,7 @@ use mathlib.Core.Path.{_≡_, sym}
 use native.Mathlib.Omega.{arith}
 use lib.ListN.{length}
 use lib.Seq.{length-take-le}
+use Rattle.pass_entry.specs.Body.{OUTPUT-BYTES}
 use Rattle.flatten.proofs.run.Statement.{statement}
 use Rattle.flatten.proofs.run.Tie as tie
 
@@ -32,7 +33,7 @@ array-borrow-prefix-out c = search needs
 
 slice-aggregate-flatten-input-2 : tie.Need-slice-aggregate-flatten-input-2
 slice-aggregate-flatten-input-2 c =
-    let long : length (c .before .before .before .before .output-buffer .result) ≡ 1016088 = search needs in
+    let long : length (c .before .before .before .before .output-buffer .result) ≡ OUTPUT-BYTES = search needs in
     sym (length-take-le _ _ (omega (arith, long, c .before .before .at-most2 .ensures .1)))
 
 flatten-input-requires : tie.Need-flatten-input-requires
