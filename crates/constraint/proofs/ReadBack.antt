@@ -13,7 +13,7 @@ use Rattle.flat.specs.Rules.{All}
 use Rattle.flat.specs.Record.{rows, pick, definitionAt}
 use Rattle.flat.specs.Layout.{publicAt, proverAt}
 pub use Rattle.flat.proofs.Standing.{Stands, stands-left, stands-right, at-place}
-pub use Rattle.flat.proofs.WriteBack.{operator-reads, operator-below, root-below, next-below, next-words, ids-read, moved, tree-reads, kept-read}
+pub use Rattle.flat.proofs.WriteBack.{operator-reads, operator-below, root-below, next-below, next-words, ids-read, moved, tree-reads, definitions-back}
 use Rattle.constraint.specs.declared.Term.{Term}
 use Rattle.constraint.specs.Trees.{Side, Equality, ConstraintModule, operation, first, second, written}
 use Rattle.constraint.specs.Record.{numberWord, termWords, operatorWord, operationWord, writtenWords, equalityWords, equalitiesWords, definitionsWords, definitionsTrees, headerWords, constraintWords, constraintBytes}
@@ -196,7 +196,7 @@ module _ (m : ConstraintModule) where
       let at = keptAt b in
       let h = moved b K at (at + KEPT-WORDS * 0) (omega arith) (stands-left b K N at kept-stand) in
       ap (λ (n : ℕ). rows n 0 (definitionAt b at (nodesAt b) (nodes b))) kept-count
-      ∙ kept-read b (m .kept) at 0 (nodesAt b) 0 (nodes b) signed h nodes-stand (omega (arith, nodes-count))
+      ∙ definitions-back b (m .kept) at 0 (nodesAt b) 0 (nodes b) signed h nodes-stand (omega (arith, nodes-count))
 
 pub read-back : ReadBack
 unfolding constraintOf

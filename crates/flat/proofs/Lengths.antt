@@ -1,12 +1,13 @@
 -- How many words each part of a record has, and lists of parts in two pieces. Assumes nothing.
 use mathlib.Core.Path.{_≡_, refl, sym, ap, _∙_}
 use mathlib.Core.List.{List, [], _∷_, _++_, append-assoc}
-use Prim.Native.Nat.{ℕ, _+_, _*_, _<_}
+use Prim.Native.Nat.{ℕ, _+_, _-_, _*_, _<_}
 use native.Mathlib.Omega.{arith}
 use lib.ListN.{length, length-append}
 use Rattle.flat.specs.Trees.{Flat, Definition, Equation, treeNodes, definitionsNodes, equationsNodes}
 use Rattle.flat.specs.Layout.{DEFINITION-WORDS, EQUATION-WORDS, nodeWords, definitionWords, equationWords}
 use Rattle.flat.specs.Writer.{nextFrom, rootFrom, nodesFrom, definitionsWords, definitionsTrees, equationsWords, equationsTrees}
+use Rattle.flat.proofs.EntryLaws.{length-definition, length-equation}
 
 -- a tree has a root
 pub tree-positive : (e : Flat) → 0 < treeNodes e
@@ -16,21 +17,21 @@ tree-positive (Flat.negate a) = omega arith
 tree-positive (Flat.constant c) = omega arith
 tree-positive (Flat.variable v) = omega arith
 
+-- where a tree ends
+pub next-is : (base : ℕ) (e : Flat) → nextFrom base e ≡ base + treeNodes e
+unfolding nextFrom
+next-is base e = refl
+
+pub root-is : (base : ℕ) (e : Flat) → rootFrom base e ≡ base + treeNodes e - 1
+unfolding rootFrom nextFrom
+root-is base e = refl
+
 pub length-nodes : (e : Flat) (base : ℕ) → length (nodesFrom base e) ≡ 4 * treeNodes e
 unfolding nodesFrom nodeWords treeNodes
 length-nodes (Flat.infixed o a b) base = simp length-append (omega (arith, length-nodes a base, length-nodes b (nextFrom base a)))
 length-nodes (Flat.negate a) base = simp length-append (omega (arith, length-nodes a base))
 length-nodes (Flat.constant c) base = refl
 length-nodes (Flat.variable v) base = refl
-
--- an entry is as wide as the layout says
-pub length-definition : (id node : ℕ) → length (definitionWords id node) ≡ DEFINITION-WORDS
-unfolding definitionWords
-length-definition id node = refl
-
-pub length-equation : (left right : ℕ) → length (equationWords left right) ≡ EQUATION-WORDS
-unfolding equationWords
-length-equation left right = refl
 
 pub length-definitions : (ds : List Definition) (base : ℕ) → length (definitionsWords base ds) ≡ DEFINITION-WORDS * length ds
 unfolding definitionsWords

@@ -2,7 +2,7 @@
 use borrow.Author.Needs.{needs}
 use Rattle.flat.proofs.entries.put_definition.Statement.{statement}
 use Rattle.flat.proofs.entries.put_definition.Tie as tie
-use Rattle.flat.proofs.Written.{definition-written}
+use Rattle.flat.proofs.EntryLaws.{definition-written}
 
 put-word-requires : tie.Need-put-word-requires
 put-word-requires c κs = search needs

@@ -2,7 +2,7 @@
 use borrow.Author.Needs.{needs}
 use Rattle.flat.proofs.entries.put_equation.Statement.{statement}
 use Rattle.flat.proofs.entries.put_equation.Tie as tie
-use Rattle.flat.proofs.Written.{equation-written}
+use Rattle.flat.proofs.EntryLaws.{equation-written}
 
 put-word-requires : tie.Need-put-word-requires
 put-word-requires c κs = search needs

@@ -2,7 +2,7 @@
 use borrow.Author.Needs.{needs}
 use Rattle.flat.proofs.entries.put_header.Statement.{statement}
 use Rattle.flat.proofs.entries.put_header.Tie as tie
-use Rattle.flat.proofs.Written.{header-written}
+use Rattle.flat.proofs.EntryLaws.{header-written}
 
 put-word-requires : tie.Need-put-word-requires
 put-word-requires c κs = search needs

@@ -2,7 +2,7 @@
 use borrow.Author.Needs.{needs}
 use Rattle.flat.proofs.entries.put_node.Statement.{statement}
 use Rattle.flat.proofs.entries.put_node.Tie as tie
-use Rattle.flat.proofs.Written.{node-written}
+use Rattle.flat.proofs.EntryLaws.{node-written}
 
 put-word-requires : tie.Need-put-word-requires
 put-word-requires c κs = search needs
