@@ -2,10 +2,11 @@
 use Prim.Native.Nat.{ℕ}
 use mathlib.Core.List.{List}
 use lib.ListN.{replicate}
+use Rattle.source.specs.Layout.{BYTES}
 
 -- the longest source record, and one byte more; 16 bytes for each node that a store may hold; no constraint record is longer
 abbrev pub LONGEST-SOURCE : ℕ
-LONGEST-SOURCE = 76052
+LONGEST-SOURCE = BYTES
 
 abbrev pub RECORD-BYTES : ℕ
 RECORD-BYTES = 76053

@@ -5,7 +5,7 @@ use eval_memory::MOST_UNITS;
 use eval_memory::UNIT_BYTES;
 use pass_entry::BODY_BYTES;
 use pass_entry::LIST_BYTES;
-use records::source_record::BYTES;
+use source::BYTES;
 ghost use mathlib.Core.Path.{_≡_};
 ghost use Rattle.flatten_entry.specs.Buffers.{recordBuffer, storeBuffer, outputBuffer};
 
