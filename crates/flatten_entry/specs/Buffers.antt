@@ -2,11 +2,15 @@
 use Prim.Native.Nat.{ℕ}
 use mathlib.Core.List.{List}
 use lib.ListN.{replicate}
+<<<<<<< HEAD
 use Rattle.pass_entry.specs.Body.{OUTPUT-BYTES}
+=======
+use Rattle.source.specs.Layout.{BYTES}
+>>>>>>> b5713ed493e2e41ab5c26b5ad8d1a36a18ed181f
 
 -- the longest source record, and one byte more; 16 bytes for each node that a store may hold
 abbrev pub LONGEST-SOURCE : ℕ
-LONGEST-SOURCE = 76052
+LONGEST-SOURCE = BYTES
 
 abbrev pub RECORD-BYTES : ℕ
 RECORD-BYTES = 76053

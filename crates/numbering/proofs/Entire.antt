@@ -8,11 +8,11 @@ use native.Mathlib.Omega.{arith}
 use lib.ListN.{length, getD, replicate, length-replicate}
 use borrow.Author.Tests.{eqb-true}
 use lib.Dec.{eqb}
-use Rattle.words.specs.Words.{wordAt}
 use Rattle.source.specs.declared.Layout.{Layout}
 use Rattle.source.specs.Trees.{Pat, Expr}
 use Rattle.source.specs.Indices.{every, total, rows}
 use Rattle.source.specs.Layout.{names, publics, definitions, expressions, nodes, publicsAt, definitionsAt, expressionsAt, nodesAt, textAt, layoutOf}
+use Rattle.source.specs.Layout.{definitionEntry, expressionRoot, NAME-WORDS, DEFINITION-WORDS}
 use Rattle.source.specs.Names.{namesFit, nameOf}
 use Rattle.source.specs.Nodes.{entryOf, patternFits, publicsFit, definitionsFit, expressionsFit}
 use Rattle.source.specs.Uses.{same, byNodes, byDefinitions, byExpressions}
@@ -28,6 +28,7 @@ use Rattle.numbering.proofs.Sums.{total-same, total-sum, total-zero, to
 use Rattle.numbering.proofs.Weights.{roots-weigh}
 use Rattle.numbering.proofs.Children.{pattern-item, expression-item}
 use Rattle.numbering.proofs.Scopes.{Weight, Parts, room-first, room-second, earlier, later}
+use Rattle.records.specs.SourceRecord.{HEADER}
 
 -- ---- rows at the start
 
@@ -97,17 +98,24 @@ module _ (b : List ℕ) (Q : Readable b) where
   pub walk : Walkable b (nodesAt b) (nodes b)
   walk = record { count = names b; fit = Q .nodes-fit; long = Q .long; few-names = Q .names-few; few-nodes = Q .nodes-few }
 
-  pattern-root : (j : ℕ) → j < definitions b → wordAt b (definitionsAt b + 2 * j) < nodes b
+  pattern-root : (j : ℕ) → j < definitions b → definitionEntry b (definitionsAt b) j .pattern < nodes b
   unfolding definitionsFit
-  pattern-root j l = pattern-item b (nodesAt b) (nodes b) walk (nodes b) (wordAt b (definitionsAt b + 2 * j)) (and-left _ _ (every-at (definitions b) j _ (Q .definitions-fit) l)) .0
+  pattern-root j l =
+      let fits = and-left _ _ (every-at (definitions b) j _ (Q .definitions-fit) l) in
+      pattern-item b (nodesAt b) (nodes b) walk (nodes b) (definitionEntry b (definitionsAt b) j .pattern) fits .0
 
-  value-root : (j : ℕ) → j < definitions b → wordAt b (definitionsAt b + 2 * j + 1) < nodes b
+  value-root : (j : ℕ) → j < definitions b → definitionEntry b (definitionsAt b) j .value < nodes b
   unfolding definitionsFit
-  value-root j l = expression-item b (nodesAt b) (nodes b) walk (nodes b) (wordAt b (definitionsAt b + 2 * j + 1)) (and-right (patternFits b (nodesAt b) (nodes b) (wordAt b (definitionsAt b + 2 * j))) _ (every-at (definitions b) j _ (Q .definitions-fit) l)) .0
+  value-root j l =
+      let d = definitionEntry b (definitionsAt b) j in
+      let fits = and-right (patternFits b (nodesAt b) (nodes b) (d .pattern)) _ (every-at (definitions b) j _ (Q .definitions-fit) l) in
+      expression-item b (nodesAt b) (nodes b) walk (nodes b) (d .value) fits .0
 
-  expression-root : (j : ℕ) → j < expressions b → wordAt b (expressionsAt b + j) < nodes b
+  expression-root : (j : ℕ) → j < expressions b → expressionRoot b (expressionsAt b) j < nodes b
   unfolding expressionsFit
-  expression-root j l = expression-item b (nodesAt b) (nodes b) walk (nodes b) (wordAt b (expressionsAt b + j)) (every-at (expressions b) j _ (Q .expressions-fit) l) .0
+  expression-root j l =
+      let fits = every-at (expressions b) j _ (Q .expressions-fit) l in
+      expression-item b (nodesAt b) (nodes b) walk (nodes b) (expressionRoot b (expressionsAt b) j) fits .0
 
   used : (c : ℕ) → c < nodes b → byNodes b (nodesAt b) (nodes b) c + (byDefinitions b (definitionsAt b) (definitions b) c + byExpressions b (expressionsAt b) (expressions b) c) ≡ 1
   unfolding usedOnce
@@ -119,8 +127,8 @@ module _ (b : List ℕ) (Q : Readable b) where
       let w : ℕ → ℕ = weight b (nodesAt b) own in
       let n = nodes b in
       let d = definitions b in
-      let p : ℕ → ℕ = λ j. wordAt b (definitionsAt b + 2 * j) in
-      let v : ℕ → ℕ = λ j. wordAt b (definitionsAt b + 2 * j + 1) in
+      let p : ℕ → ℕ = λ j. definitionEntry b (definitionsAt b) j .pattern in
+      let v : ℕ → ℕ = λ j. definitionEntry b (definitionsAt b) j .value in
       total-same n _ _ (λ c l. ap (λ (x : ℕ). x * w c) (total-sum d (λ j. same (p j) c) (λ j. same (v j) c)))
       ∙ total-add n (λ c. total d (λ j. same (p j) c)) (λ c. total d (λ j. same (v j) c)) w
       ∙ ap₂ (λ (x y : ℕ). x + y) (used-by n d p w pattern-root) (used-by n d v w value-root)
@@ -131,7 +139,7 @@ module _ (b : List ℕ) (Q : Readable b) where
   unfolding byExpressions
   expressions-weigh own =
       let w : ℕ → ℕ = weight b (nodesAt b) own in
-      let r : ℕ → ℕ = λ j. wordAt b (expressionsAt b + j) in
+      let r : ℕ → ℕ = λ j. expressionRoot b (expressionsAt b) j in
       used-by (nodes b) (expressions b) r w expression-root ∙ sym (sum-all (expressions b) (λ j. w (r j)))
 
   -- THE LISTS WEIGH as much as all nodes
@@ -185,7 +193,10 @@ module _ (b : List ℕ) (Q : Readable b) (l : Layout) (e : l ≡ layoutOf b) whe
   unfolding layoutOf
   publics-asked = rw e ((omega (arith, Q .long), Q .publics-fit), (Q .names-few, Q .publics-few))
 
-  pub definitions-asked : (next : ℕ) → next ≤ 9 + l .publics → ((4 * (l .«definitions_at» + 2 * l .definitions) ≤ length b) × (definitionsFit b (l .«nodes_at») (l .nodes) (l .«definitions_at») (l .definitions) ≡ true)) × ReadyDefinitions b (l .«nodes_at») (l .nodes) (l .«definitions_at») (l .definitions) 0 next
+  pub definitions-asked : (next : ℕ) → next ≤ 9 + l .publics →
+      let list = l .«definitions_at» in
+      ((4 * (list + DEFINITION-WORDS * l .definitions) ≤ length b) × (definitionsFit b (l .«nodes_at») (l .nodes) list (l .definitions) ≡ true))
+      × ReadyDefinitions b (l .«nodes_at») (l .nodes) list (l .definitions) 0 next
   unfolding layoutOf
   definitions-asked = rw e (λ next q. ((omega (arith, Q .long), Q .definitions-fit), definitions-ready b Q next (omega (arith, Q .publics-few))))
 
@@ -193,7 +204,7 @@ module _ (b : List ℕ) (Q : Readable b) (l : Layout) (e : l ≡ layoutOf b) whe
   unfolding layoutOf
   expressions-asked = rw e (λ next next′ q r. ((omega (arith, Q .long), Q .expressions-fit), expressions-ready b Q next next′ (omega (arith, Q .publics-few)) r))
 
-  pub names-asked : ((namesFit b (l .«text_at») (l .names) ≡ true) × (4 * (5 + 2 * l .names) ≤ length b)) × (l .names ≤ 512)
+  pub names-asked : ((namesFit b (l .«text_at») (l .names) ≡ true) × (4 * (HEADER + NAME-WORDS * l .names) ≤ length b)) × (l .names ≤ 512)
   unfolding layoutOf
   names-asked = rw e ((Q .names-fit, omega (arith, Q .long)), Q .names-few)
 

@@ -1,5 +1,5 @@
 -- The ways of what is bound first: texts, and publics. Assumes nothing.
-use Prim.Native.Nat.{ℕ, zero, suc, _+_, _-_, _*_, _≤_, _<_}
+use Prim.Native.Nat.{ℕ, zero, suc, _+_, _-_, _≤_, _<_}
 use mathlib.Core.Path.{_≡_, refl, sym, ap, ap₂, _∙_}
 use mathlib.Core.List.{List, [], _∷_, _++_}
 use mathlib.Core.Bool.{Bool, true, false, _&&_, cond}
@@ -10,11 +10,11 @@ use lib.ListN.{length, getD, set, take, drop, length-take, length-drop, length-s
 use lib.Seq.{drop-cons, getD-set-same, getD-set-other}
 use lib.Dec.{eqb, leb, ltb}
 use borrow.Author.Tests.{eq-eqb, ne-eqb, eqb-true, ltb-true}
-use Rattle.words.specs.Words.{wordAt}
 use Rattle.source.specs.Trees.{Text}
 use Rattle.source.specs.Indices.{every, rows}
 use Rattle.source.specs.Names.{offsetOf, lengthOf, endOf, nameFits, namesFit, nameOf, printed}
 use Rattle.source.specs.Nodes.{publicsFit}
+use Rattle.source.specs.Layout.{nameEntry, publicAt}
 use Rattle.numbering.specs.Numbering.{Ids, Names, _>>=_, return, sameText, named, numberPublics}
 use Rattle.numbering.specs.Walks.{Holds, names, Chosen, Published, Registered}
 use Rattle.numbering.proofs.Laws.{alike, and-left, and-right, every-at, split}
@@ -120,21 +120,26 @@ module _ (b t : List ℕ) (text count id : ℕ) where
       record { row = z; holds = λ gs h. rw w h }
 
 -- the name at its two words
-pub text-at : (b t : List ℕ) (text k : ℕ) {offset n : ℕ} {r : Bool} → offset ≡ wordAt b (5 + 2 * k) → n ≡ wordAt b (5 + 2 * k + 1) → r ≡ sameText t (take n (drop (text + offset) b)) → r ≡ sameText t (nameOf b text k)
+pub text-at : (b t : List ℕ) (text k : ℕ) {offset n : ℕ} {r : Bool} → offset ≡ nameEntry b k .offset → n ≡ nameEntry b k .size →
+    r ≡ sameText t (take n (drop (text + offset) b)) → r ≡ sameText t (nameOf b text k)
 unfolding nameOf offsetOf lengthOf
 text-at b t text k p q e = e ∙ ap₂ (λ (x y : ℕ). sameText t (take y (drop (text + x) b))) p q
 
-pub text-fits : (b : List ℕ) (text n k : ℕ) {offset m : ℕ} → namesFit b text n ≡ true → k < n → offset ≡ wordAt b (5 + 2 * k) → m ≡ wordAt b (5 + 2 * k + 1) → text + offset + m ≤ length b
+pub text-fits : (b : List ℕ) (text n k : ℕ) {offset m : ℕ} → namesFit b text n ≡ true → k < n → offset ≡ nameEntry b k .offset →
+    m ≡ nameEntry b k .size → text + offset + m ≤ length b
 unfolding offsetOf lengthOf
 text-fits b text n k f l p q = omega (arith, name-within b text n k f l)
 
 -- ---- publics
 module _ (b : List ℕ) (list count : ℕ) where
-  pub public-name : (names i : ℕ) {x : ℕ} → publicsFit b names list count ≡ true → names ≤ 512 → i < count → x ≡ wordAt b (list + i) → x < 512
+  pub public-name : (names i : ℕ) {x : ℕ} → publicsFit b names list count ≡ true → names ≤ 512 → i < count → x ≡ publicAt b list i → x < 512
   unfolding publicsFit
-  public-name names i f q l e = omega (arith, ltb-true (wordAt b (list + i)) names (every-at count i _ f l))
+  public-name names i f q l e = omega (arith, ltb-true (publicAt b list i) names (every-at count i _ f l))
 
-  pub publics-step : (i : ℕ) {x next : ℕ} {locals globals public : List ℕ} {id next₁ : ℕ} {globals₁ : List ℕ} {next₂ : ℕ} {globals₂ public₂ : List ℕ} → x ≡ wordAt b (list + i) → i < count → i < length public → Chosen x next locals globals id next₁ globals₁ → Published b list (count - (i + 1)) (i + 1) next₁ locals globals₁ (set public i id) next₂ globals₂ public₂ → Published b list (count - i) i next locals globals public next₂ globals₂ public₂
+  pub publics-step : (i : ℕ) {x next : ℕ} {locals globals public : List ℕ} {id next₁ : ℕ} {globals₁ : List ℕ} {next₂ : ℕ} {globals₂ public₂ : List ℕ} →
+      x ≡ publicAt b list i → i < count → i < length public → Chosen x next locals globals id next₁ globals₁ →
+      Published b list (count - (i + 1)) (i + 1) next₁ locals globals₁ (set public i id) next₂ globals₂ public₂ →
+      Published b list (count - i) i next locals globals public next₂ globals₂ public₂
   unfolding numberPublics _>>=_ return
   publics-step i {public = public} {id = id} {next₁ = next₁} {public₂ = public₂} ex l m u w =
       let here : getD public₂ i 0 ≡ id = w .before i (omega arith) ∙ getD-set-same public i id 0 m in
@@ -148,7 +153,7 @@ module _ (b : List ℕ) (list count : ℕ) where
         numbers = λ g h k e.
             let q = u .numbers [] g h k e in
             let z = w .numbers (names (q .0) next₁) h (q .1 .1) refl in
-            (z .0, (rw (rows-step count i (λ k. wordAt b (list + k)) l, ← ex, q .1 .0, z .1 .0, rows-step count i (λ k. getD public₂ k 0) l, here), z .1 .1));
+            (z .0, (rw (rows-step count i (publicAt b list) l, ← ex, q .1 .0, z .1 .0, rows-step count i (λ k. getD public₂ k 0) l, here), z .1 .1));
       }
 
   pub publics-end : (i : ℕ) {next : ℕ} {locals globals public : List ℕ} → count ≤ i → length globals ≡ 512 → length public ≡ 64 → Published b list (count - i) i next locals globals public next globals public
@@ -160,7 +165,7 @@ module _ (b : List ℕ) (list count : ℕ) where
     long = z;
     before = λ j q. refl;
     behind = λ j q. refl;
-    numbers = λ g h k e. (g .globals, (rw (rows-none count i (λ k. wordAt b (list + k)) l, rows-none count i (λ k. getD public k 0) l, ← e), k));
+    numbers = λ g h k e. (g .globals, (rw (rows-none count i (publicAt b list) l, rows-none count i (λ k. getD public k 0) l, ← e), k));
   }
 
   pub publics-start : {next : ℕ} {locals globals public : List ℕ} {next₂ : ℕ} {globals₂ public₂ : List ℕ} → Published b list (count - 0) 0 next locals globals public next₂ globals₂ public₂ → Published b list count 0 next locals globals public next₂ globals₂ public₂

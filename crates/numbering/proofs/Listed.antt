@@ -1,17 +1,17 @@
 -- The ways of the walks over a module's definitions and expressions. Assumes nothing.
-use Prim.Native.Nat.{ℕ, zero, suc, _+_, _-_, _*_, _≤_, _<_}
+use Prim.Native.Nat.{ℕ, zero, suc, _+_, _-_, _≤_, _<_}
 use mathlib.Core.Path.{_≡_, refl, sym, ap, ap₂, _∙_}
 use mathlib.Core.List.{List, [], _∷_}
 use mathlib.Core.Bool.{Bool, true, false}
 use native.Mathlib.Numerals.{add-one}
 use native.Mathlib.Omega.{arith}
 use lib.ListN.{length, getD}
-use Rattle.words.specs.Words.{wordAt}
 use Rattle.source.specs.Trees.{Pat, Expr}
 use Rattle.source.specs.Indices.{rows}
 use Rattle.source.specs.Nodes.{entryOf, isExpression, isPattern, patternFits, expressionFits, definitionsFit, expressionsFit}
 use Rattle.source.specs.Uses.{same}
 use Rattle.source.specs.Record.{tree, definitionAt, expressionAt}
+use Rattle.source.specs.Layout.{definitionEntry, expressionRoot}
 use Rattle.numbering.specs.Numbering.{Ids, Names, Naming, _>>=_, return, numberDefVariables, numberDefinitions, numberExpressions}
 use Rattle.numbering.specs.Numbers.{numberedTree, numberedDefinition, numberedExpression}
 use Rattle.numbering.specs.Walks.{names, weight, each, Sizes, Room, Walkable, Ready, ReadyTwo, ReadyDefinitions, ReadyExpressions, Walked, Bound, Defined, sumFrom, definitionsWeight, expressionsWeight, PatternWalk, ExpressionWalk, DefinitionWalk, DefinitionsWalk, ExpressionsWalk}
@@ -87,24 +87,38 @@ defined-none is z r = record {
 
 -- ---- all definitions
 module _ (b : List ℕ) (at n list count : ℕ) where
-  step-parts : (i : ℕ) → i < count → Parts (definitionsWeight b at list (count - i) i) (λ own. weight b at own (wordAt b (list + 2 * i)) + weight b at own (wordAt b (list + 2 * i + 1))) (definitionsWeight b at list (count - (i + 1)) (i + 1))
-  step-parts i l = record { hold = λ own. omega (arith, sum-step count i (λ k. weight b at own (wordAt b (list + 2 * k)) + weight b at own (wordAt b (list + 2 * k + 1))) l) }
+  -- the weight of definition k
+  abbrev entryWeight : (ℕ → ℕ) → ℕ → ℕ
+  entryWeight own k = weight b at own (definitionEntry b list k .pattern) + weight b at own (definitionEntry b list k .value)
 
-  pub definitions-first : (i : ℕ) {p v next : ℕ} → p ≡ wordAt b (list + 2 * i) → v ≡ wordAt b (list + 2 * i + 1) → definitionsFit b at n list count ≡ true → i < count → ReadyDefinitions b at n list (count - i) i next → ReadyTwo b at n isPattern n p v next 0
+  step-parts : (i : ℕ) → i < count →
+      Parts (definitionsWeight b at list (count - i) i) (λ own. entryWeight own i) (definitionsWeight b at list (count - (i + 1)) (i + 1))
+  step-parts i l = record { hold = λ own. omega (arith, sum-step count i (entryWeight own) l) }
+
+  pub definitions-first : (i : ℕ) {p v next : ℕ} → p ≡ definitionEntry b list i .pattern → v ≡ definitionEntry b list i .value →
+      definitionsFit b at n list count ≡ true → i < count → ReadyDefinitions b at n list (count - i) i next → ReadyTwo b at n isPattern n p v next 0
   unfolding definitionsFit
   definitions-first i ep ev f l R =
       let w = every-at count i _ f l in
-      let x = pattern-item b at n (R .walk) n (wordAt b (list + 2 * i)) (and-left _ _ w) in
-      let y = expression-item b at n (R .walk) n (wordAt b (list + 2 * i + 1)) (and-right (patternFits b at n (wordAt b (list + 2 * i))) _ w) in
+      let x = pattern-item b at n (R .walk) n (definitionEntry b list i .pattern) (and-left _ _ w) in
+      let y = expression-item b at n (R .walk) n (definitionEntry b list i .value) (and-right (patternFits b at n (definitionEntry b list i .pattern)) _ w) in
       rw (ep, ev) (record { walk = R .walk; within = omega arith; first-below = x .0; second-below = y .0; first-sorted = x .1; second-sorted = y .1; room = room-first (step-parts i l) (R .room) })
 
-  pub definitions-rest : (i next′ : ℕ) {p v next : ℕ} → p ≡ wordAt b (list + 2 * i) → v ≡ wordAt b (list + 2 * i + 1) → i < count → ReadyDefinitions b at n list (count - i) i next → next′ ≤ next + (weight b at each p + weight b at each v) → ReadyDefinitions b at n list (count - (i + 1)) (i + 1) next′
+  pub definitions-rest : (i next′ : ℕ) {p v next : ℕ} → p ≡ definitionEntry b list i .pattern → v ≡ definitionEntry b list i .value → i < count →
+      ReadyDefinitions b at n list (count - i) i next → next′ ≤ next + (weight b at each p + weight b at each v) →
+      ReadyDefinitions b at n list (count - (i + 1)) (i + 1) next′
   definitions-rest i next′ ep ev l R q = record { walk = R .walk; room = room-second next′ (step-parts i l) (R .room) (rw (ep, ev) at q) }
 
-  pub definitions-step : (i : ℕ) {p v next : ℕ} {locals globals ids : List ℕ} {next₁ : ℕ} {locals₁ globals₁ undo₁ old₁ ids₁ : List ℕ} {next₂ : ℕ} {locals₂ globals₂ undo₂ old₂ ids₂ : List ℕ} → p ≡ wordAt b (list + 2 * i) → v ≡ wordAt b (list + 2 * i + 1) → i < count → ReadyDefinitions b at n list (count - i) i next → DefinitionWalk b at n p v next locals globals ids next₁ locals₁ globals₁ undo₁ old₁ ids₁ → DefinitionsWalk b at n list (count - (i + 1)) (i + 1) next₁ locals₁ globals₁ ids₁ next₂ locals₂ globals₂ undo₂ old₂ ids₂ → DefinitionsWalk b at n list (count - i) i next locals globals ids next₂ locals₂ globals₂ undo₂ old₂ ids₂
+  pub definitions-step : (i : ℕ) {p v next : ℕ} {locals globals ids : List ℕ} {next₁ : ℕ} {locals₁ globals₁ undo₁ old₁ ids₁ : List ℕ}
+      {next₂ : ℕ} {locals₂ globals₂ undo₂ old₂ ids₂ : List ℕ} → p ≡ definitionEntry b list i .pattern → v ≡ definitionEntry b list i .value →
+      i < count → ReadyDefinitions b at n list (count - i) i next →
+      DefinitionWalk b at n p v next locals globals ids next₁ locals₁ globals₁ undo₁ old₁ ids₁ →
+      DefinitionsWalk b at n list (count - (i + 1)) (i + 1) next₁ locals₁ globals₁ ids₁ next₂ locals₂ globals₂ undo₂ old₂ ids₂ →
+      DefinitionsWalk b at n list (count - i) i next locals globals ids next₂ locals₂ globals₂ undo₂ old₂ ids₂
   unfolding numberDefinitions _>>=_ return definitionAt numberedDefinition
   definitions-step i {next = next} {locals = locals} {globals = globals} {ids = ids} {next₁ = next₁} {locals₁ = locals₁} {globals₁ = globals₁} {undo₁ = undo₁} {old₁ = old₁} {ids₁ = ids₁} ep ev l R u w =
-      let r : DefinitionWalk b at n (wordAt b (list + 2 * i)) (wordAt b (list + 2 * i + 1)) next locals globals ids next₁ locals₁ globals₁ undo₁ old₁ ids₁ = rw (ep, ev) at u in
+      let d = definitionEntry b list i in
+      let r : DefinitionWalk b at n (d .pattern) (d .value) next locals globals ids next₁ locals₁ globals₁ undo₁ old₁ ids₁ = rw (ep, ev) at u in
       defined-two _ _ (λ d ds. d ∷ ds) (step-parts i l) (R .room .met-once)
       (λ s g a s₁ g₁ c s₂ g₂ q t. rw (rows-step count i (definitionAt b at n list) l, q, t))
       (λ s. rows-step count i (numberedDefinition s b at n list) l)
@@ -122,22 +136,31 @@ module _ (b : List ℕ) (at n list count : ℕ) where
   definitions-all w = let e : count - 0 ≡ count = omega arith in rw e w
 
   -- ---- all expressions
-  turn-parts : (i : ℕ) → i < count → Parts (expressionsWeight b at list (count - i) i) (λ own. weight b at own (wordAt b (list + i))) (expressionsWeight b at list (count - (i + 1)) (i + 1))
-  turn-parts i l = record { hold = λ own. omega (arith, sum-step count i (λ k. weight b at own (wordAt b (list + k))) l) }
+  turn-parts : (i : ℕ) → i < count →
+      Parts (expressionsWeight b at list (count - i) i) (λ own. weight b at own (expressionRoot b list i))
+      (expressionsWeight b at list (count - (i + 1)) (i + 1))
+  turn-parts i l = record { hold = λ own. omega (arith, sum-step count i (λ k. weight b at own (expressionRoot b list k)) l) }
 
-  pub expressions-first : (i : ℕ) {e next : ℕ} → e ≡ wordAt b (list + i) → expressionsFit b at n list count ≡ true → i < count → ReadyExpressions b at n list (count - i) i next → Ready b at n isExpression e next 0
+  pub expressions-first : (i : ℕ) {e next : ℕ} → e ≡ expressionRoot b list i → expressionsFit b at n list count ≡ true → i < count →
+      ReadyExpressions b at n list (count - i) i next → Ready b at n isExpression e next 0
   unfolding expressionsFit
   expressions-first i ee f l R =
-      let x = expression-item b at n (R .walk) n (wordAt b (list + i)) (every-at count i _ f l) in
+      let x = expression-item b at n (R .walk) n (expressionRoot b list i) (every-at count i _ f l) in
       rw ee (record { walk = R .walk; below = x .0; sorted = x .1; room = room-first (turn-parts i l) (R .room) })
 
-  pub expressions-rest : (i next′ : ℕ) {e next : ℕ} → e ≡ wordAt b (list + i) → i < count → ReadyExpressions b at n list (count - i) i next → next′ ≤ next + weight b at each e → ReadyExpressions b at n list (count - (i + 1)) (i + 1) next′
+  pub expressions-rest : (i next′ : ℕ) {e next : ℕ} → e ≡ expressionRoot b list i → i < count → ReadyExpressions b at n list (count - i) i next →
+      next′ ≤ next + weight b at each e → ReadyExpressions b at n list (count - (i + 1)) (i + 1) next′
   expressions-rest i next′ ee l R q = record { walk = R .walk; room = room-second next′ (turn-parts i l) (R .room) (rw ee at q) }
 
-  pub expressions-step : (i : ℕ) {e next : ℕ} {locals globals undo old ids : List ℕ} {next₁ : ℕ} {locals₁ globals₁ undo₁ old₁ ids₁ : List ℕ} {next₂ : ℕ} {locals₂ globals₂ undo₂ old₂ ids₂ : List ℕ} → e ≡ wordAt b (list + i) → i < count → ReadyExpressions b at n list (count - i) i next → ExpressionWalk b at n e next 0 locals globals undo old ids next₁ locals₁ globals₁ undo₁ old₁ ids₁ → ExpressionsWalk b at n list (count - (i + 1)) (i + 1) next₁ 0 locals₁ globals₁ undo₁ old₁ ids₁ next₂ locals₂ globals₂ undo₂ old₂ ids₂ → ExpressionsWalk b at n list (count - i) i next 0 locals globals undo old ids next₂ locals₂ globals₂ undo₂ old₂ ids₂
+  pub expressions-step : (i : ℕ) {e next : ℕ} {locals globals undo old ids : List ℕ} {next₁ : ℕ} {locals₁ globals₁ undo₁ old₁ ids₁ : List ℕ}
+      {next₂ : ℕ} {locals₂ globals₂ undo₂ old₂ ids₂ : List ℕ} → e ≡ expressionRoot b list i →
+      i < count → ReadyExpressions b at n list (count - i) i next →
+      ExpressionWalk b at n e next 0 locals globals undo old ids next₁ locals₁ globals₁ undo₁ old₁ ids₁ →
+      ExpressionsWalk b at n list (count - (i + 1)) (i + 1) next₁ 0 locals₁ globals₁ undo₁ old₁ ids₁ next₂ locals₂ globals₂ undo₂ old₂ ids₂ →
+      ExpressionsWalk b at n list (count - i) i next 0 locals globals undo old ids next₂ locals₂ globals₂ undo₂ old₂ ids₂
   unfolding numberExpressions _>>=_ return expressionAt numberedExpression
   expressions-step i {next = next} {locals = locals} {globals = globals} {undo = undo} {old = old} {ids = ids} {next₁ = next₁} {locals₁ = locals₁} {globals₁ = globals₁} {undo₁ = undo₁} {old₁ = old₁} {ids₁ = ids₁} ee l R u w =
-      let r : ExpressionWalk b at n (wordAt b (list + i)) next 0 locals globals undo old ids next₁ locals₁ globals₁ undo₁ old₁ ids₁ = rw ee at u in
+      let r : ExpressionWalk b at n (expressionRoot b list i) next 0 locals globals undo old ids next₁ locals₁ globals₁ undo₁ old₁ ids₁ = rw ee at u in
       walked-two _ _ (λ d ds. d ∷ ds) (turn-parts i l) (R .room)
       (λ s g a g₁ c g₂ q t. rw (rows-step count i (expressionAt b at n list) l, q, t))
       (λ s. rows-step count i (numberedExpression s b at n list) l)

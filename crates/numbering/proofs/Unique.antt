@@ -1,5 +1,5 @@
 -- THE OUTCOME of numbering is one for every byte string: what `numberingOf` says, and nothing else. Assumes nothing.
-use Prim.Native.Nat.{ℕ, zero, suc, _+_, _*_, _≤_, _<_}
+use Prim.Native.Nat.{ℕ, zero, suc, _+_, _≤_, _<_}
 use mathlib.Core.Path.{_≡_, refl, sym, ap, ap₂, _∙_}
 use mathlib.Core.List.{List, [], _∷_, _++_, map}
 use mathlib.Core.Bool.{Bool, true, false}
@@ -9,10 +9,10 @@ use native.Mathlib.Omega.{arith}
 use lib.ListN.{length, getD, replicate, length-replicate, List·getD-eq-default}
 use lib.Seq.{ext-getD}
 use borrow.Author.Tests.{eq-eqb, ne-eqb}
-use Rattle.words.specs.Words.{wordAt}
 use Rattle.source.specs.Trees.{Pat, Expr, Module}
 use Rattle.source.specs.Indices.{total, rows, pick}
 use Rattle.source.specs.Layout.{names, publics, definitions, expressions, nodes, publicsAt, definitionsAt, expressionsAt, nodesAt}
+use Rattle.source.specs.Layout.{publicAt, definitionEntry, expressionRoot}
 use Rattle.source.specs.Nodes.{entryOf, patternFits, definitionsFit, expressionsFit}
 use Rattle.source.specs.Uses.{same}
 use Rattle.source.specs.Record.{Read, sourceOf, moduleOf, tree, definitionAt, expressionAt}
@@ -235,8 +235,8 @@ module _ (b : List ℕ) (Q : Readable b) where
     unfolding rows definitionNames numberedDefinition sumFrom count definitionsFit
     definitions-count zero i h = refl
     definitions-count (suc n) i h =
-        let x : ℕ = wordAt b (definitionsAt b + 2 * i) in
-        let y : ℕ = wordAt b (definitionsAt b + 2 * i + 1) in
+        let x : ℕ = definitionEntry b (definitionsAt b) i .pattern in
+        let y : ℕ = definitionEntry b (definitionsAt b) i .value in
         let f = every-at (definitions b) i _ (Q .definitions-fit) (omega arith) in
         let p = pattern-item b (nodesAt b) (nodes b) (walk b Q) (nodes b) x (and-left _ _ f) in
         let q = expression-item b (nodesAt b) (nodes b) (walk b Q) (nodes b) y (and-right (patternFits b (nodesAt b) (nodes b) x) _ f) in
@@ -255,7 +255,7 @@ module _ (b : List ℕ) (Q : Readable b) where
     unfolding rows expressionNames numberedExpression sumFrom count expressionsFit
     expressions-count zero i h = refl
     expressions-count (suc n) i h =
-        let x : ℕ = wordAt b (expressionsAt b + i) in
+        let x : ℕ = expressionRoot b (expressionsAt b) i in
         let p = expression-item b (nodesAt b) (nodes b) (walk b Q) (nodes b) x (every-at (expressions b) i _ (Q .expressions-fit) (omega arith)) in
         let T = numberedTree indices b (nodesAt b) (nodes b) in
         omega (
@@ -324,7 +324,7 @@ module _ (b : List ℕ) (Q : Readable b) where
 
   publics-long : length (M .publics) ≡ publics b
   unfolding numbered numberModuleVariables moduleOf _>>=_ return
-  publics-long = numbered-long (rows (publics b) 0 (λ k. wordAt b (publicsAt b + k))) _ ∙ length-rows _ (publics b) 0
+  publics-long = numbered-long (rows (publics b) 0 (publicAt b (publicsAt b))) _ ∙ length-rows _ (publics b) 0
 
   public-at : (k : ℕ) → k < 64 → getD (publicIdsOf b) k 0 ≡ getD (M .publics) k 0
   unfolding publicIdsOf

@@ -1,18 +1,17 @@
 -- The numbered module of a source record with the bytes b, by an array that has an id for each node that names a variable, and an array with an id for each public.
-use Prim.Native.Nat.{ℕ, zero, suc, _+_, _*_, _≤_}
+use Prim.Native.Nat.{ℕ, zero, suc, _≤_}
 use mathlib.Core.Path.{_≡_}
 use mathlib.Core.List.{List}
 use mathlib.Core.Bool.{Bool, true, false, _||_}
 use lib.ListN.{length, getD}
 use lib.Dec.{eqb}
-use Rattle.words.specs.Words.{wordAt}
 use Rattle.source.specs.declared.Entry.{Entry}
 use Rattle.source.specs.declared.Form.{Form}
 use Rattle.source.specs.declared.Shape.{Shape}
 use Rattle.source.specs.declared.Child.{Child}
 use Rattle.source.specs.Trees.{Pat, Expr}
 use Rattle.source.specs.Indices.{rows}
-use Rattle.source.specs.Layout.{publics, definitions, expressions, nodes, definitionsAt, expressionsAt, nodesAt}
+use Rattle.source.specs.Layout.{publics, definitions, expressions, nodes, definitionsAt, expressionsAt, nodesAt, definitionEntry, expressionRoot}
 use Rattle.source.specs.Nodes.{entryOf, childrenOf}
 use Rattle.source.specs.Record.{Tree, asExpression, grown, moduleOf}
 use Rattle.numbering.specs.Numbering.{Numbered, numbered}
@@ -66,10 +65,13 @@ numberedTree ids b at zero k = asExpression Expr.unit
 numberedTree ids b at (suc n) k = elim (eqb k n) [ true ↦ grown (numberedTree ids b at n) (entryWith (getD ids n 0) (entryOf b at n)) | false ↦ numberedTree ids b at n k ]
 
 unfoldable pub numberedDefinition : List ℕ → List ℕ → ℕ → ℕ → ℕ → ℕ → Pat × Expr
-numberedDefinition ids b at count list k = (numberedTree ids b at count (wordAt b (list + 2 * k)) .pattern, numberedTree ids b at count (wordAt b (list + 2 * k + 1)) .expression)
+numberedDefinition ids b at count list k = (
+  numberedTree ids b at count (definitionEntry b list k .pattern) .pattern,
+  numberedTree ids b at count (definitionEntry b list k .value) .expression,
+)
 
 unfoldable pub numberedExpression : List ℕ → List ℕ → ℕ → ℕ → ℕ → ℕ → Expr
-numberedExpression ids b at count list k = numberedTree ids b at count (wordAt b (list + k)) .expression
+numberedExpression ids b at count list k = numberedTree ids b at count (expressionRoot b list k) .expression
 
 -- the module
 unfoldable pub numberedModule : List ℕ → List ℕ → List ℕ → ℕ → Numbered

@@ -6,7 +6,6 @@ use mathlib.Core.Bool.{Bool, true, false}
 use mathlib.Core.Option.{Option, none, some}
 use lib.ListN.{length, getD, set, replicate}
 use lib.Dec.{eqb}
-use Rattle.words.specs.Words.{wordAt}
 use Rattle.source.specs.declared.Chain.{Chain}
 use Rattle.source.specs.declared.Entry.{Entry}
 use Rattle.source.specs.Names.{nameOf}
@@ -15,6 +14,7 @@ use Rattle.source.specs.Indices.{total, rows}
 use Rattle.source.specs.Nodes.{entryOf, childrenOf, isExpression, isPattern, chainFits, nodesFit}
 use Rattle.source.specs.Uses.{same, chainUses, childrenUse}
 use Rattle.source.specs.Record.{tree, definitionAt, expressionAt}
+use Rattle.source.specs.Layout.{publicAt, definitionEntry, expressionRoot}
 use Rattle.numbering.specs.Numbering.{Ids, Names, Naming, _>>=_, return, found, numberVariable, numberPatternVariables, numberParameters, numberExprVariables, numberItems, numberArms, numberDefVariables, numberDefinitions, numberExpressions, numberPublics, named}
 use Rattle.numbering.specs.Numbers.{bears, numberedTree, numberedDefinition, numberedExpression}
 use Rattle.records.specs.FlatRecord.{IDS}
@@ -211,10 +211,11 @@ sumFrom zero i f = 0
 sumFrom (suc n) i f = f i + sumFrom n (suc i) f
 
 abbrev pub definitionsWeight : List ℕ → ℕ → ℕ → ℕ → ℕ → (ℕ → ℕ) → ℕ
-definitionsWeight b at list m i own = sumFrom m i (λ k. weight b at own (wordAt b (list + 2 * k)) + weight b at own (wordAt b (list + 2 * k + 1)))
+definitionsWeight b at list m i own =
+    sumFrom m i (λ k. weight b at own (definitionEntry b list k .pattern) + weight b at own (definitionEntry b list k .value))
 
 abbrev pub expressionsWeight : List ℕ → ℕ → ℕ → ℕ → ℕ → (ℕ → ℕ) → ℕ
-expressionsWeight b at list m i own = sumFrom m i (λ k. weight b at own (wordAt b (list + k)))
+expressionsWeight b at list m i own = sumFrom m i (λ k. weight b at own (expressionRoot b list k))
 
 -- what a walk over definitions leaves: their names are locals from then on
 pub record Defined {A : Type 0} (named : ℕ → Bool) (w : (ℕ → ℕ) → ℕ) (numbering : Ids → Naming (A × Ids)) (value : List ℕ → A) (next : ℕ) (locals globals ids : List ℕ) (next′ : ℕ) (locals′ globals′ undo′ old′ ids′ : List ℕ) : Type 0 where
@@ -253,7 +254,8 @@ pub record Published (b : List ℕ) (list m i next : ℕ) (locals globals public
   pub long : length public′ ≡ PUBLICS
   pub before : (j : ℕ) → j < i → getD public′ j 0 ≡ getD public j 0
   pub behind : (j : ℕ) → i + m ≤ j → getD public′ j 0 ≡ getD public j 0
-  pub numbers : (g : Names) → Holds locals [] → Holds globals (g .globals) → g .next ≡ next → (gs : Ids) × ((numberPublics (rows m i (λ k. wordAt b (list + k))) g ≡ (rows m i (λ k. getD public′ k 0), names gs next′)) × Holds globals′ gs)
+  pub numbers : (g : Names) → Holds locals [] → Holds globals (g .globals) → g .next ≡ next →
+      (gs : Ids) × ((numberPublics (rows m i (publicAt b list)) g ≡ (rows m i (λ k. getD public′ k 0), names gs next′)) × Holds globals′ gs)
 
 -- a text registered: its name has the id, before what the row held
 pub record Registered (b t : List ℕ) (text count id : ℕ) (globals globals′ : List ℕ) : Type 0 where

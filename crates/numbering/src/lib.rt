@@ -26,7 +26,7 @@ ghost use mathlib.Core.List.{[]};
 ghost use Prim.Native.Nat.{_+_, _*_, _≤_, _<_};
 ghost use lib.ListN.{length};
 ghost use Rattle.source.specs.Indices.{rows};
-ghost use Rattle.source.specs.Layout.{layoutOf};
+ghost use Rattle.source.specs.Layout.{layoutOf, NAME-WORDS};
 ghost use Rattle.source.specs.Names.{namesFit, nameOf};
 ghost use Rattle.source.specs.Readable.{Readable};
 ghost use Rattle.numbering.specs.Numbering.{registered};
@@ -68,7 +68,8 @@ fn no_publics() -> [u32; PUBLICS]
 
 // fresh, iter and fold, as transform.rs registers them.
 fn register_intrinsics(s: &[u8], text: usize, count: usize, globals: &mut [u32; NAMES])
-    requires { ⌜ ((namesFit (now s) text count ≡ true) × (4 * (HEADER + 2 * count) ≤ length (now s))) × ((count ≤ NAMES) × (length (now globals) ≡ NAMES)) ⌝ }
+    requires { ⌜ (namesFit (now s) text count ≡ true) × (4 * (HEADER + NAME-WORDS * count) ≤ length (now s)) ⌝ }
+    requires { ⌜ (count ≤ NAMES) × (length (now globals) ≡ NAMES) ⌝ }
     ensures { λ r. ⌜ (length (now (globals .exit)) ≡ NAMES) × (Holds (now (globals .entry)) [] → Holds (now (globals .exit)) (registered (rows count 0 (nameOf (now (s .entry)) text)) .globals)) ⌝ }
 {
     register(s, text, count, b"fresh", FRESH_ID, globals);

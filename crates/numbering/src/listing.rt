@@ -3,10 +3,13 @@ use super::expressions::number_expr_variables;
 use super::patterns::number_pattern_variables;
 use records::source_record::NAMES;
 use records::source_record::NODES;
+use source::lists::definition_at;
+use source::lists::expression_at;
 ghost use mathlib.Core.Path.{_≡_};
 ghost use mathlib.Core.Bool.{true};
 ghost use Prim.Native.Nat.{_+_, _*_, _-_, _≤_, _<_};
 ghost use lib.ListN.{length};
+ghost use Rattle.source.specs.Layout.{DEFINITION-WORDS};
 ghost use Rattle.source.specs.Nodes.{isPattern, definitionsFit, expressionsFit};
 ghost use Rattle.numbering.specs.Walks.{Sizes, ReadyTwo, ReadyDefinitions, ReadyExpressions, DefinitionWalk, DefinitionsWalk, ExpressionsWalk};
 ghost use Rattle.records.specs.SourceRecord.{NAMES};
@@ -46,14 +49,16 @@ pub fn number_definitions(
     ids: &mut [u32; NODES],
     next: u32,
 ) -> u32
-    requires { ⌜ ((4 * (list + 2 * count) ≤ length (now s)) × (definitionsFit (now s) at n list count ≡ true)) × (ReadyDefinitions (now s) at n list count 0 next × (Sizes (now locals) (now undo) (now old) (now ids) × (length (now globals) ≡ NAMES))) ⌝ }
+    requires { ⌜ (4 * (list + DEFINITION-WORDS * count) ≤ length (now s)) × (definitionsFit (now s) at n list count ≡ true) ⌝ }
+    requires { ⌜ ReadyDefinitions (now s) at n list count 0 next × (Sizes (now locals) (now undo) (now old) (now ids) × (length (now globals) ≡ NAMES)) ⌝ }
     ensures { λ r. ⌜ DefinitionsWalk (now (s .entry)) at n list count 0 next (now (locals .entry)) (now (globals .entry)) (now (ids .entry)) r (now (locals .exit)) (now (globals .exit)) (now (undo .exit)) (now (old .exit)) (now (ids .exit)) ⌝ }
 {
     let mut i = 0usize;
     let mut one = next;
     while i < count {
-        let p = words::word_at(s, list + 2 * i) as usize;
-        let v = words::word_at(s, list + 2 * i + 1) as usize;
+        let d = definition_at(s, list, i);
+        let p = d.pattern as usize;
+        let v = d.value as usize;
         one = number_def_variables(s, at, n, p, v, locals, globals, undo, old, ids, one);
         i += 1;
     }
@@ -80,7 +85,7 @@ pub fn number_expressions(
     let mut i = 0usize;
     let mut one = next;
     while i < count {
-        let e = words::word_at(s, list + i) as usize;
+        let e = expression_at(s, list, i) as usize;
         one = number_expr_variables(s, at, n, e, locals, globals, undo, old, ids, one, 0);
         i += 1;
     }

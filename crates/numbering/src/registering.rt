@@ -1,13 +1,15 @@
 // What stands among the globals before definitions: fresh, iter and fold, found by their texts, and the publics.
 use super::rows::Drawn;
 use super::rows::number_variable;
-use records::source_record::HEADER;
 use records::source_record::NAMES;
 use records::source_record::PUBLICS;
+use source::lists::name_at;
+use source::lists::public_at;
 ghost use mathlib.Core.Path.{_≡_};
 ghost use mathlib.Core.Bool.{true};
 ghost use Prim.Native.Nat.{_+_, _*_, _≤_, _<_};
 ghost use lib.ListN.{length, take, drop};
+ghost use Rattle.source.specs.Layout.{NAME-WORDS};
 ghost use Rattle.source.specs.Names.{namesFit};
 ghost use Rattle.source.specs.Nodes.{publicsFit};
 ghost use Rattle.numbering.specs.Numbering.{sameText};
@@ -36,14 +38,14 @@ fn same_text(s: &[u8], from: usize, n: usize, t: &[u8]) -> bool
 
 // The name that is the text t, if there is one, has this id.
 pub fn register(s: &[u8], text: usize, count: usize, t: &[u8], id: u32, globals: &mut [u32; NAMES])
-    requires { ⌜ ((namesFit (now s) text count ≡ true) × (4 * (HEADER + 2 * count) ≤ length (now s))) × (((count ≤ NAMES) × (length (now globals) ≡ NAMES)) × (id < IDS)) ⌝ }
+    requires { ⌜ (namesFit (now s) text count ≡ true) × (4 * (HEADER + NAME-WORDS * count) ≤ length (now s)) ⌝ }
+    requires { ⌜ ((count ≤ NAMES) × (length (now globals) ≡ NAMES)) × (id < IDS) ⌝ }
     ensures { λ r. ⌜ Registered (now (s .entry)) (now (t .entry)) text count id (now (globals .entry)) (now (globals .exit)) ⌝ }
 {
     let mut k = 0usize;
     while k < count {
-        let offset = words::word_at(s, HEADER + 2 * k) as usize;
-        let n = words::word_at(s, HEADER + 2 * k + 1) as usize;
-        if same_text(s, text + offset, n, t) {
+        let name = name_at(s, k);
+        if same_text(s, text + name.offset as usize, name.size as usize, t) {
             globals[k] = id + 1;
             return;
         }
@@ -68,7 +70,7 @@ pub fn number_publics(
     let mut i = 0usize;
     let mut one = next;
     while i < count {
-        let x = words::word_at(s, list + i) as usize;
+        let x = public_at(s, list, i) as usize;
         let drawn = number_variable(x, locals, globals, one);
         publics[i] = drawn.id;
         one = drawn.next;

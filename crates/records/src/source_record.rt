@@ -1,6 +1,4 @@
 // The source record: words of its header, the most of each list, and of a name's bytes.
-use super::NODE_WORDS;
-
 pub const HEADER: usize = 5;
 
 pub const NAMES: usize = 512;
@@ -14,11 +12,6 @@ pub const EXPRESSIONS: usize = 512;
 pub const NODES: usize = 2048;
 
 pub const NAME_BYTES: usize = 64;
-
-// The longest record.
-pub const BYTES: usize = 4
-    * (HEADER + 2 * NAMES + PUBLICS + 2 * DEFINITIONS + EXPRESSIONS + NODE_WORDS * NODES)
-    + NAMES * NAME_BYTES;
 
 // The next link of the last one.
 pub const NO_LINK: usize = 4294967295;

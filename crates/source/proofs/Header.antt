@@ -4,7 +4,9 @@ use mathlib.Core.Path.{_≡_}
 use mathlib.Core.List.{List}
 use Rattle.words.specs.Words.{wordAt}
 use Rattle.source.specs.declared.Layout.{Layout}
-use Rattle.source.specs.Layout.{layoutOf}
+use Rattle.source.specs.Layout.{layoutOf, NAME-WORDS, DEFINITION-WORDS}
+use Rattle.records.specs.Kinds.{NODE-WORDS}
+use Rattle.records.specs.SourceRecord.{HEADER}
 
 abbrev laid : ℕ → ℕ → ℕ → ℕ → ℕ → Layout
 laid a b c d e = record {
@@ -13,11 +15,11 @@ laid a b c d e = record {
   definitions = c;
   expressions = d;
   nodes = e;
-  «publics_at» = 5 + 2 * a;
-  «definitions_at» = 5 + 2 * a + b;
-  «expressions_at» = 5 + 2 * a + b + 2 * c;
-  «nodes_at» = 5 + 2 * a + b + 2 * c + d;
-  «text_at» = 4 * (5 + 2 * a + b + 2 * c + d + 4 * e);
+  «publics_at» = HEADER + NAME-WORDS * a;
+  «definitions_at» = HEADER + NAME-WORDS * a + b;
+  «expressions_at» = HEADER + NAME-WORDS * a + b + DEFINITION-WORDS * c;
+  «nodes_at» = HEADER + NAME-WORDS * a + b + DEFINITION-WORDS * c + d;
+  «text_at» = 4 * (HEADER + NAME-WORDS * a + b + DEFINITION-WORDS * c + d + NODE-WORDS * e);
 }
 
 pub laid-out : (s : List ℕ) {a b c d e : ℕ} → a ≡ wordAt s 0 → b ≡ wordAt s 1 → c ≡ wordAt s 2 → d ≡ wordAt s 3 → e ≡ wordAt s 4 → laid a b c d e ≡ layoutOf s

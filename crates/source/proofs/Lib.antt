@@ -1,4 +1,5 @@
 pub mod Laws
+pub mod Parts
 pub mod Names
 mod Header
 pub mod Uses

@@ -1,5 +1,5 @@
 -- Names, as the reader's loops meet them. Assumes nothing.
-use Prim.Native.Nat.{ℕ, zero, suc, _+_, _-_, _*_, _≤_, _<_}
+use Prim.Native.Nat.{ℕ, zero, suc, _+_, _-_, _≤_, _<_}
 use mathlib.Core.Path.{_≡_, refl, sym, ap, _∙_}
 use mathlib.Core.List.{List}
 use mathlib.Core.Bool.{Bool, true, false, not, _&&_}
@@ -10,9 +10,9 @@ use lib.ListN.{length, getD, drop, length-drop, List·getD-eq-default}
 use lib.Seq.{length-take-le, getD-take, getD-drop, ext-getD}
 use lib.Dec.{leb, eqb}
 use borrow.Author.Tests.{eq-eqb, ne-eqb, le-leb, lt-leb, leb-true, eqb-true, eqb-false, not-true}
-use Rattle.words.specs.Words.{wordAt}
 use Rattle.source.specs.Indices.{every}
 use Rattle.source.specs.Names.{offsetOf, lengthOf, endOf, printed, nameFits, namesFit, sameBytes, sameName, nameNew, namesDiffer, nameOf}
+use Rattle.source.specs.Layout.{nameEntry}
 use Rattle.source.proofs.Laws.{and-no, and-left, and-right, not-both, split, every-fails, every-more, every-all, every-at, every-none}
 
 eqb-sym-at : (t : Bool) (a b : ℕ) → eqb a b ≡ t → t ≡ eqb b a
@@ -51,12 +51,12 @@ module _ (b : List ℕ) (from : ℕ) where
 
 -- ---- a name
 
-module _ (b : List ℕ) (text k : ℕ) {offset end : ℕ} (e1 : offset ≡ wordAt b (5 + 2 * k)) (e2 : end ≡ endOf b k) where
+module _ (b : List ℕ) (text k : ℕ) {offset end : ℕ} (e1 : offset ≡ nameEntry b k .offset) (e2 : end ≡ endOf b k) where
   pub name-starts-off : (offset ≡ end → ⊥) → false ≡ nameFits b text k
   unfolding nameFits offsetOf
   name-starts-off f = rw (← e1, ← e2, ne-eqb offset end f)
 
-  module _ {n : ℕ} (s : offset ≡ end) (e3 : n ≡ wordAt b (5 + 2 * k + 1)) where
+  module _ {n : ℕ} (s : offset ≡ end) (e3 : n ≡ nameEntry b k .size) where
     pub name-empty : n < 1 → false ≡ nameFits b text k
     unfolding nameFits offsetOf lengthOf
     name-empty l = rw (← e1, ← e2, ← e3, eq-eqb offset end s, lt-leb 1 n l)
@@ -105,7 +105,7 @@ pub end-none : (b : List ℕ) → 0 ≡ endOf b 0
 unfolding endOf
 end-none b = refl
 
-pub end-more : (b : List ℕ) (k : ℕ) {offset n : ℕ} → offset ≡ wordAt b (5 + 2 * k) → n ≡ wordAt b (5 + 2 * k + 1) → offset + n ≡ endOf b (k + 1)
+pub end-more : (b : List ℕ) (k : ℕ) {offset n : ℕ} → offset ≡ nameEntry b k .offset → n ≡ nameEntry b k .size → offset + n ≡ endOf b (k + 1)
 unfolding endOf offsetOf lengthOf
 end-more b k p q = rw (add-one, p, q)
 
@@ -132,12 +132,13 @@ module _ (b : List ℕ) (from to : ℕ) where
   unfolding sameBytes
   same-fails n i l e = every-fails n i (λ j. eqb (getD b (from + j) 0) (getD b (to + j) 0)) l (ne-eqb (getD b (from + i) 0) (getD b (to + i) 0) e)
 
-module _ (b : List ℕ) (text j k : ℕ) {x y : ℕ} (e1 : x ≡ wordAt b (5 + 2 * j + 1)) (e2 : y ≡ wordAt b (5 + 2 * k + 1)) where
+module _ (b : List ℕ) (text j k : ℕ) {x y : ℕ} (e1 : x ≡ nameEntry b j .size) (e2 : y ≡ nameEntry b k .size) where
   pub same-length-no : (x ≡ y → ⊥) → false ≡ sameName b text j k
   unfolding sameName lengthOf
   same-length-no f = rw (← e1, ← e2, ne-eqb x y f)
 
-  pub same-length-on : {r : Bool} {from to : ℕ} → x ≡ y → from ≡ wordAt b (5 + 2 * j) → to ≡ wordAt b (5 + 2 * k) → r ≡ sameBytes b (text + from) (text + to) x → r ≡ sameName b text j k
+  pub same-length-on : {r : Bool} {from to : ℕ} → x ≡ y → from ≡ nameEntry b j .offset → to ≡ nameEntry b k .offset →
+      r ≡ sameBytes b (text + from) (text + to) x → r ≡ sameName b text j k
   unfolding sameName lengthOf offsetOf
   same-length-on q p1 p2 e = rw (← e1, ← e2, ← p1, ← p2, eq-eqb x y q) e
 
@@ -164,7 +165,8 @@ unfolding namesDiffer
 differ-all b text n k h e = every-all n k _ h e
 
 -- where the code reads a name that fits
-pub inside : (b : List ℕ) (text k : ℕ) {n offset : ℕ} → n ≡ wordAt b (5 + 2 * k + 1) → offset ≡ wordAt b (5 + 2 * k) → Named b text k → text + offset + n ≤ length b
+pub inside : (b : List ℕ) (text k : ℕ) {n offset : ℕ} → n ≡ nameEntry b k .size → offset ≡ nameEntry b k .offset → Named b text k →
+    text + offset + n ≤ length b
 unfolding offsetOf lengthOf
 inside b text k p q h = rw (p, q) (h .within)
 

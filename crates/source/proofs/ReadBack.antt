@@ -14,6 +14,7 @@ use Rattle.words.proofs.Laws.{wordAt-bytesOf, length-bytesOf}
 use Rattle.source.specs.Trees.{Pat, Expr, Text, Module}
 use Rattle.source.specs.Indices.{every, total, rows}
 use Rattle.source.specs.Layout.{names, publics, definitions, expressions, nodes, publicsAt, definitionsAt, expressionsAt, nodesAt, textAt, counted, listed}
+use Rattle.source.specs.Layout.{nameEntry, publicAt, definitionEntry, expressionRoot, NAME-WORDS, DEFINITION-WORDS}
 use Rattle.source.specs.Names.{offsetOf, lengthOf, endOf, printed, nameFits, namesFit, sameName, nameNew, namesDiffer, nameOf}
 use Rattle.source.specs.Nodes.{nodesFit, publicsFit, definitionsFit, expressionsFit, patternFits, expressionFits}
 use Rattle.source.specs.Uses.{same, byNodes, byDefinitions, byExpressions}
@@ -25,6 +26,7 @@ use Rattle.source.proofs.Names.{named-at, same-text}
 use Rattle.source.proofs.Accepted.{Passed, accepts-passed}
 use Rattle.source.proofs.Spans.{Holds, holds-left, holds-right, nodes-after, within-yes, Span, span-none, span-join}
 use Rattle.source.proofs.Written.{PatAt, ExprAt, pat-at, expr-at, pat-length, expr-length, pat-fits, pat-below, expr-fits, expr-below}
+use Rattle.records.specs.SourceRecord.{HEADER}
 
 -- ---- a test that holds of each index holds of all
 
@@ -53,19 +55,28 @@ module _ (b : List ℕ) (at names nodes list : ℕ) where
       let f : k + 0 ≡ k = omega arith in
       record { span = rw e (span-none b at names s); fits = λ h. rw f h; uses = λ j. rw f (omega arith); read = refl }
 
-  definition-fits : (k x y : ℕ) → wordAt b (list + 2 * k) ≡ x → wordAt b (list + 2 * k + 1) ≡ y → patternFits b at nodes x ≡ true → expressionFits b at nodes y ≡ true → definitionsFit b at nodes list k ≡ true → definitionsFit b at nodes list (k + 1) ≡ true
+  definition-fits : (k x y : ℕ) → definitionEntry b list k .pattern ≡ x → definitionEntry b list k .value ≡ y → patternFits b at nodes x ≡ true →
+      expressionFits b at nodes y ≡ true → definitionsFit b at nodes list k ≡ true → definitionsFit b at nodes list (k + 1) ≡ true
   unfolding definitionsFit
-  definition-fits k x y e f p q h = every-more k (λ i. patternFits b at nodes (wordAt b (list + 2 * i)) && expressionFits b at nodes (wordAt b (list + 2 * i + 1))) h (rw (e, f, p, q))
+  definition-fits k x y e f p q h =
+      let fits : ℕ → Bool = λ i. patternFits b at nodes (definitionEntry b list i .pattern) && expressionFits b at nodes (definitionEntry b list i .value) in
+      every-more k fits h (rw (e, f, p, q))
 
-  definition-uses : (k x y j : ℕ) → wordAt b (list + 2 * k) ≡ x → wordAt b (list + 2 * k + 1) ≡ y → byDefinitions b list (k + 1) j ≡ byDefinitions b list k j + (same x j + same y j)
+  definition-uses : (k x y j : ℕ) → definitionEntry b list k .pattern ≡ x → definitionEntry b list k .value ≡ y →
+      byDefinitions b list (k + 1) j ≡ byDefinitions b list k j + (same x j + same y j)
   unfolding byDefinitions
-  definition-uses k x y j e f = total-more k (λ i. same (wordAt b (list + 2 * i)) j + same (wordAt b (list + 2 * i + 1)) j) ∙ rw (e, f)
+  definition-uses k x y j e f = total-more k (λ i. same (definitionEntry b list i .pattern) j + same (definitionEntry b list i .value) j) ∙ rw (e, f)
 
-  definition-read : (k x y : ℕ) {p : Pat} {z : Expr} → wordAt b (list + 2 * k) ≡ x → wordAt b (list + 2 * k + 1) ≡ y → tree b at nodes x .pattern ≡ p → tree b at nodes y .expression ≡ z → definitionAt b at nodes list k ≡ (p, z)
+  definition-read : (k x y : ℕ) {p : Pat} {z : Expr} → definitionEntry b list k .pattern ≡ x → definitionEntry b list k .value ≡ y →
+      tree b at nodes x .pattern ≡ p → tree b at nodes y .expression ≡ z → definitionAt b at nodes list k ≡ (p, z)
   unfolding definitionAt
   definition-read k x y e f p q = rw (e, f, p, q)
 
-  definitions-more : (s k : ℕ) (d : Pat × Expr) (ds : List (Pat × Expr)) → s + patCount (d .0) + exprCount (d .1) ≤ nodes → PatAt b at names s (patCount (d .0)) (d .0) → ExprAt b at names (s + patCount (d .0)) (exprCount (d .1)) (d .1) → wordAt b (list + 2 * k) ≡ rootOf s (patCount (d .0)) → wordAt b (list + 2 * k + 1) ≡ rootOf (s + patCount (d .0)) (exprCount (d .1)) → DefinitionsAt b at names nodes list (s + patCount (d .0) + exprCount (d .1)) (k + 1) ds → DefinitionsAt b at names nodes list s k (d ∷ ds)
+  definitions-more : (s k : ℕ) (d : Pat × Expr) (ds : List (Pat × Expr)) → s + patCount (d .0) + exprCount (d .1) ≤ nodes →
+      PatAt b at names s (patCount (d .0)) (d .0) → ExprAt b at names (s + patCount (d .0)) (exprCount (d .1)) (d .1) →
+      definitionEntry b list k .pattern ≡ rootOf s (patCount (d .0)) →
+      definitionEntry b list k .value ≡ rootOf (s + patCount (d .0)) (exprCount (d .1)) →
+      DefinitionsAt b at names nodes list (s + patCount (d .0) + exprCount (d .1)) (k + 1) ds → DefinitionsAt b at names nodes list s k (d ∷ ds)
   unfolding definitionsCount definitionsUse rows
   definitions-more s k d ds few p x e f r =
       let m = patCount (d .0) in
@@ -82,7 +93,9 @@ module _ (b : List ℕ) (at names nodes list : ℕ) where
       definitions-cons : {c e : Pat × Expr} {cs es : List (Pat × Expr)} → c ≡ e → cs ≡ es → c ∷ cs ≡ e ∷ es
       definitions-cons p q = cc
 
-  definitions-at : (ds : List (Pat × Expr)) (s k : ℕ) → All (λ d. PatFits names (d .0) × ExprFits names (d .1)) ds → s + definitionsCount ds ≤ nodes → nodes ≤ 2048 → Holds b (at + 4 * s) (definitionsNodes s ds) → Holds b (list + 2 * k) (definitionsWords s ds) → DefinitionsAt b at names nodes list s k ds
+  definitions-at : (ds : List (Pat × Expr)) (s k : ℕ) → All (λ d. PatFits names (d .0) × ExprFits names (d .1)) ds → s + definitionsCount ds ≤ nodes →
+      nodes ≤ 2048 → Holds b (at + 4 * s) (definitionsNodes s ds) → Holds b (list + DEFINITION-WORDS * k) (definitionsWords s ds) →
+      DefinitionsAt b at names nodes list s k ds
   unfolding definitionsCount definitionsNodes definitionsWords
   definitions-at [] s k f few big h w = definitions-none s k
   definitions-at (d ∷ ds) s k f few big h w =
@@ -90,13 +103,16 @@ module _ (b : List ℕ) (at names nodes list : ℕ) where
       let n = exprCount (d .1) in
       let h1 = nodes-after b at s m (patNodes s (d .0)) _ (pat-length s (d .0)) h in
       let h2 = nodes-after b at (s + m) n (exprNodes (s + m) (d .1)) _ (expr-length (s + m) (d .1)) h1 in
-      let z : list + 2 * k + 0 ≡ list + 2 * k = omega arith in
+      let z : list + DEFINITION-WORDS * k + 0 ≡ list + DEFINITION-WORDS * k = omega arith in
       definitions-more s k d ds (omega arith)
       (pat-at b at names (d .0) s (f .0 .0) (holds-left b (at + 4 * s) (patNodes s (d .0)) _ h))
       (expr-at b at names (d .1) (s + m) (f .0 .1) (omega arith) (holds-left b (at + 4 * (s + m)) (exprNodes (s + m) (d .1)) _ h1))
       (rw z at (w 0 (omega arith)))
       (w 1 (omega arith))
-      (definitions-at ds (s + m + n) (k + 1) (f .1) (omega arith) big h2 (λ j l. let q : list + 2 * (k + 1) + j ≡ list + 2 * k + suc (suc j) = omega arith in rw q (w (suc (suc j)) (omega arith))))
+      (definitions-at ds (s + m + n) (k + 1) (f .1) (omega arith) big h2
+      (λ j l.
+      let q : list + DEFINITION-WORDS * (k + 1) + j ≡ list + DEFINITION-WORDS * k + suc (suc j) = omega arith in
+      rw q (w (suc (suc j)) (omega arith))))
 
 -- ---- expressions, as definitions
 
@@ -121,19 +137,22 @@ module _ (b : List ℕ) (at names nodes list : ℕ) where
       let f : k + 0 ≡ k = omega arith in
       record { span = rw e (span-none b at names s); fits = λ h. rw f h; uses = λ j. rw f (omega arith); read = refl }
 
-  expression-fits : (k x : ℕ) → wordAt b (list + k) ≡ x → expressionFits b at nodes x ≡ true → expressionsFit b at nodes list k ≡ true → expressionsFit b at nodes list (k + 1) ≡ true
+  expression-fits : (k x : ℕ) → expressionRoot b list k ≡ x → expressionFits b at nodes x ≡ true → expressionsFit b at nodes list k ≡ true →
+      expressionsFit b at nodes list (k + 1) ≡ true
   unfolding expressionsFit
-  expression-fits k x e p h = every-more k (λ i. expressionFits b at nodes (wordAt b (list + i))) h (rw e p)
+  expression-fits k x e p h = every-more k (λ i. expressionFits b at nodes (expressionRoot b list i)) h (rw e p)
 
-  expression-uses : (k x j : ℕ) → wordAt b (list + k) ≡ x → byExpressions b list (k + 1) j ≡ byExpressions b list k j + same x j
+  expression-uses : (k x j : ℕ) → expressionRoot b list k ≡ x → byExpressions b list (k + 1) j ≡ byExpressions b list k j + same x j
   unfolding byExpressions
-  expression-uses k x j e = total-more k (λ i. same (wordAt b (list + i)) j) ∙ rw e
+  expression-uses k x j e = total-more k (λ i. same (expressionRoot b list i) j) ∙ rw e
 
-  expression-read : (k x : ℕ) {z : Expr} → wordAt b (list + k) ≡ x → tree b at nodes x .expression ≡ z → expressionAt b at nodes list k ≡ z
+  expression-read : (k x : ℕ) {z : Expr} → expressionRoot b list k ≡ x → tree b at nodes x .expression ≡ z → expressionAt b at nodes list k ≡ z
   unfolding expressionAt
   expression-read k x e p = ap (λ (i : ℕ). tree b at nodes i .expression) e ∙ p
 
-  expressions-more : (s k : ℕ) (x : Expr) (xs : List Expr) → s + exprCount x ≤ nodes → ExprAt b at names s (exprCount x) x → wordAt b (list + k) ≡ rootOf s (exprCount x) → ExpressionsAt b at names nodes list (s + exprCount x) (k + 1) xs → ExpressionsAt b at names nodes list s k (x ∷ xs)
+  expressions-more : (s k : ℕ) (x : Expr) (xs : List Expr) → s + exprCount x ≤ nodes → ExprAt b at names s (exprCount x) x →
+      expressionRoot b list k ≡ rootOf s (exprCount x) → ExpressionsAt b at names nodes list (s + exprCount x) (k + 1) xs →
+      ExpressionsAt b at names nodes list s k (x ∷ xs)
   unfolding expressionsCount expressionsUse rows
   expressions-more s k x xs few y e r =
       let n = exprCount x in
@@ -166,13 +185,14 @@ publics-at b names list k (v ∷ vs) f w h =
     let z : list + k + 0 ≡ list + k = omega arith in
     rw g (publics-at b names list (k + 1) vs (f .1) (λ j l. let q : list + (k + 1) + j ≡ list + k + suc j = omega arith in rw q (w (suc j) (omega arith))) (publics-more b names list k h (sym (rw z at (w 0 (omega arith)))) (f .0)))
 
-publics-read : (b : List ℕ) (list k : ℕ) (vs : List ℕ) → Holds b (list + k) vs → rows (length vs) k (λ i. wordAt b (list + i)) ≡ vs
+publics-read : (b : List ℕ) (list k : ℕ) (vs : List ℕ) → Holds b (list + k) vs → rows (length vs) k (publicAt b list) ≡ vs
 unfolding rows
 publics-read b list k [] w = refl
 publics-read b list k (v ∷ vs) w =
     let z : list + k + 0 ≡ list + k = omega arith in
-    let e : wordAt b (list + k) ≡ v = rw z at (w 0 (omega arith)) in
-    let r : rows (length vs) (suc k) (λ i. wordAt b (list + i)) ≡ vs = publics-read b list (suc k) vs (λ j l. let q : list + suc k + j ≡ list + k + suc j = omega arith in rw q (w (suc j) (omega arith))) in
+    let e : publicAt b list k ≡ v = rw z at (w 0 (omega arith)) in
+    let r : rows (length vs) (suc k) (publicAt b list) ≡ vs =
+    publics-read b list (suc k) vs (λ j l. let q : list + suc k + j ≡ list + k + suc j = omega arith in rw q (w (suc j) (omega arith))) in
     cc
 
 -- ---- names: from the k-th on, with text from offset o on
@@ -185,7 +205,8 @@ all-at Q d (a ∷ rest) f (suc i) l = all-at Q d rest (f .1) i (omega arith)
 texts-cons : {t u : Text} {ts us : List Text} → t ≡ u → ts ≡ us → t ∷ ts ≡ u ∷ us
 texts-cons p q = cc
 
-module _ (b : List ℕ) (text k o : ℕ) (t : Text) (rest : List ℕ) (e1 : wordAt b (5 + 2 * k) ≡ o) (e2 : wordAt b (5 + 2 * k + 1) ≡ length t) (tail : drop (text + o) b ≡ t ++ rest) where
+module _ (b : List ℕ) (text k o : ℕ) (t : Text) (rest : List ℕ)
+    (e1 : nameEntry b k .offset ≡ o) (e2 : nameEntry b k .size ≡ length t) (tail : drop (text + o) b ≡ t ++ rest) where
   name-byte : (i : ℕ) → i < length t → getD b (text + o + i) 0 ≡ getD t i 0
   name-byte i l = sym (getD-drop (text + o) b i 0) ∙ ap (λ (r : List ℕ). getD r i 0) tail ∙ List·getD-append t rest 0 i l
 
@@ -217,17 +238,21 @@ record NamesAt (b : List ℕ) (text k o : ℕ) (ts : List Text) : Type 0 where
   pub ends : endOf b k ≡ o → endOf b (k + length ts) ≡ o + length (joined ts)
   pub read : rows (length ts) k (nameOf b text) ≡ ts
 
-names-at : (b : List ℕ) (text k o : ℕ) (ts : List Text) → All TextFits ts → Holds b (5 + 2 * k) (pairWords o ts) → drop (text + o) b ≡ joined ts → NamesAt b text k o ts
+names-at : (b : List ℕ) (text k o : ℕ) (ts : List Text) → All TextFits ts → Holds b (HEADER + NAME-WORDS * k) (pairWords o ts) →
+    drop (text + o) b ≡ joined ts → NamesAt b text k o ts
 unfolding pairWords joined rows
 names-at b text k o [] f w tail =
     let e : k + 0 ≡ k = omega arith in
     record { fits = λ h q. rw e h; ends = λ q. rw e (omega (arith, q)); read = refl }
 names-at b text k o (t ∷ ts) f w tail =
     let g : k + suc (length ts) ≡ k + 1 + length ts = omega arith in
-    let z : 5 + 2 * k + 0 ≡ 5 + 2 * k = omega arith in
-    let e1 : wordAt b (5 + 2 * k) ≡ o = rw z at (w 0 (omega arith)) in
-    let e2 : wordAt b (5 + 2 * k + 1) ≡ length t = w 1 (omega arith) in
-    let r = names-at b text (k + 1) (o + length t) ts (f .1) (λ j l. let q : 5 + 2 * (k + 1) + j ≡ 5 + 2 * k + suc (suc j) = omega arith in rw q (w (suc (suc j)) (omega arith))) (name-tail b text k o t (joined ts) e1 e2 tail) in
+    let z : HEADER + NAME-WORDS * k + 0 ≡ HEADER + NAME-WORDS * k = omega arith in
+    let e1 : nameEntry b k .offset ≡ o = rw z at (w 0 (omega arith)) in
+    let e2 : nameEntry b k .size ≡ length t = w 1 (omega arith) in
+    let next : Holds b (HEADER + NAME-WORDS * (k + 1)) (pairWords (o + length t) ts) = λ j l.
+    let q : HEADER + NAME-WORDS * (k + 1) + j ≡ HEADER + NAME-WORDS * k + suc (suc j) = omega arith in
+    rw q (w (suc (suc j)) (omega arith)) in
+    let r = names-at b text (k + 1) (o + length t) ts (f .1) next (name-tail b text k o t (joined ts) e1 e2 tail) in
     record {
       fits = λ h q. rw g (r .fits (every-more k (nameFits b text) h (name-fits b text k o t (joined ts) e1 e2 tail q (f .0))) (name-ends b text k o t (joined ts) e1 e2 tail));
       ends = λ q. rw g (r .ends (name-ends b text k o t (joined ts) e1 e2 tail) ∙ simp length-append (omega arith));
@@ -340,8 +365,10 @@ module _ (m : Module) (w : Writable m) (b : List ℕ) (c0 : names b ≡ length (
         ∙ ap (publicsFit b n (publicsAt b)) e
         ∙ publics-at b n (publicsAt b) 0 (m .publics) (w .publics-fit) (from-zero b (publicsAt b) (m .publics) hu) (publics-none b n (publicsAt b))
 
-    publics-back : rows (publics b) 0 (λ k. wordAt b (publicsAt b + k)) ≡ m .publics
-    publics-back = ap (λ (i : ℕ). rows i 0 (λ k. wordAt b (publicsAt b + k))) c1 ∙ publics-read b (publicsAt b) 0 (m .publics) (from-zero b (publicsAt b) (m .publics) hu)
+    publics-back : rows (publics b) 0 (publicAt b (publicsAt b)) ≡ m .publics
+    publics-back =
+        ap (λ (i : ℕ). rows i 0 (publicAt b (publicsAt b))) c1
+        ∙ publics-read b (publicsAt b) 0 (m .publics) (from-zero b (publicsAt b) (m .publics) hu)
 
   module _ (hd : Holds b (definitionsAt b) (definitionsWords 0 (m .definitions))) (he : Holds b (expressionsAt b) (expressionsWords (definitionsCount (m .definitions)) (m .expressions))) (hn : Holds b (nodesAt b) (definitionsNodes 0 (m .definitions))) (hx : Holds b (nodesAt b + 4 * definitionsCount (m .definitions)) (expressionsNodes (definitionsCount (m .definitions)) (m .expressions))) where
     few : nodes b ≤ 2048
@@ -407,12 +434,12 @@ module _ (m : Module) (w : Writable m) (b : List ℕ) (c0 : names b ≡ length (
 
 -- ---- the record itself
 
-pairs-length : (o : ℕ) (ts : List Text) → length (pairWords o ts) ≡ 2 * length ts
+pairs-length : (o : ℕ) (ts : List Text) → length (pairWords o ts) ≡ NAME-WORDS * length ts
 unfolding pairWords
 pairs-length o [] = refl
 pairs-length o (t ∷ ts) = omega (arith, pairs-length (o + length t) ts)
 
-definitions-words : (s : ℕ) (ds : List (Pat × Expr)) → length (definitionsWords s ds) ≡ 2 * length ds
+definitions-words : (s : ℕ) (ds : List (Pat × Expr)) → length (definitionsWords s ds) ≡ DEFINITION-WORDS * length ds
 unfolding definitionsWords
 definitions-words s [] = refl
 definitions-words s (d ∷ ds) = omega (arith, definitions-words (s + patCount (d .0) + exprCount (d .1)) ds)
@@ -444,7 +471,9 @@ bytes-held ws text j l =
 moved : (b : List ℕ) (i k : ℕ) (ws : List ℕ) → i ≡ k → Holds b k ws → Holds b i ws
 moved b i k ws e h j l = ap (λ (n : ℕ). wordAt b (n + j)) e ∙ h j l
 
-words-length : (m : Module) → length (recordWords m) ≡ 5 + 2 * length (m .names) + length (m .publics) + 2 * length (m .definitions) + length (m .expressions) + 4 * (definitionsCount (m .definitions) + expressionsCount (m .expressions))
+words-length : (m : Module) → length (recordWords m) ≡
+    HEADER + NAME-WORDS * length (m .names) + length (m .publics) + DEFINITION-WORDS * length (m .definitions) + length (m .expressions)
+    + 4 * (definitionsCount (m .definitions) + expressionsCount (m .expressions))
 unfolding recordWords
 words-length m =
     let d = definitionsCount (m .definitions) in
@@ -470,19 +499,28 @@ read-back m w =
     let c2 : definitions b ≡ n3 = h0 2 (omega arith) in
     let c3 : expressions b ≡ n4 = h0 3 (omega arith) in
     let c4 : nodes b ≡ d + expressionsCount (m .expressions) = h0 4 (omega arith) in
-    let r1 : Holds b 5 (pairWords 0 (m .names) ++ ps) = holds-right b 0 5 (n1 ∷ n2 ∷ n3 ∷ n4 ∷ (d + expressionsCount (m .expressions)) ∷ []) (pairWords 0 (m .names) ++ ps) refl h0 in
-    let r2 : Holds b (5 + 2 * n1) ps = holds-right b 5 (2 * n1) (pairWords 0 (m .names)) ps (pairs-length 0 (m .names)) r1 in
-    let r3 : Holds b (5 + 2 * n1 + n2) us = holds-right b (5 + 2 * n1) n2 (m .publics) us refl r2 in
-    let r4 : Holds b (5 + 2 * n1 + n2 + 2 * n3) ds = holds-right b (5 + 2 * n1 + n2) (2 * n3) (definitionsWords 0 (m .definitions)) ds (definitions-words 0 (m .definitions)) r3 in
-    let r5 : Holds b (5 + 2 * n1 + n2 + 2 * n3 + n4) es = holds-right b (5 + 2 * n1 + n2 + 2 * n3) n4 (expressionsWords d (m .expressions)) es (expressions-words d (m .expressions)) r4 in
-    let r6 : Holds b (5 + 2 * n1 + n2 + 2 * n3 + n4 + 4 * d) (expressionsNodes d (m .expressions)) = holds-right b (5 + 2 * n1 + n2 + 2 * n3 + n4) (4 * d) (definitionsNodes 0 (m .definitions)) (expressionsNodes d (m .expressions)) (definitions-nodes 0 (m .definitions)) r5 in
+    let ts = m .names in
+    let xs = m .definitions in
+    let ys = m .expressions in
+    let p1 : ℕ = HEADER + NAME-WORDS * n1 in
+    let p2 : ℕ = p1 + n2 in
+    let p3 : ℕ = p2 + DEFINITION-WORDS * n3 in
+    let p4 : ℕ = p3 + n4 in
+    let head : List ℕ = n1 ∷ n2 ∷ n3 ∷ n4 ∷ (d + expressionsCount ys) ∷ [] in
+    let r1 : Holds b HEADER (pairWords 0 ts ++ ps) = holds-right b 0 HEADER head (pairWords 0 ts ++ ps) refl h0 in
+    let r2 : Holds b p1 ps = holds-right b HEADER (NAME-WORDS * n1) (pairWords 0 ts) ps (pairs-length 0 ts) r1 in
+    let r3 : Holds b p2 us = holds-right b p1 n2 (m .publics) us refl r2 in
+    let r4 : Holds b p3 ds = holds-right b p2 (DEFINITION-WORDS * n3) (definitionsWords 0 xs) ds (definitions-words 0 xs) r3 in
+    let r5 : Holds b p4 es = holds-right b p3 n4 (expressionsWords d ys) es (expressions-words d ys) r4 in
+    let r6 : Holds b (p4 + 4 * d) (expressionsNodes d ys) =
+    holds-right b p4 (4 * d) (definitionsNodes 0 xs) (expressionsNodes d ys) (definitions-nodes 0 xs) r5 in
     let e : length (bytesOf (recordWords m)) ≡ textAt b = omega (arith, length-bytesOf (recordWords m), words-length m) in
     words-read-back m w b c0 c1 c2 c3 c4
-    (length-append (bytesOf (recordWords m)) (joined (m .names)) ∙ omega arith)
-    (moved b (definitionsAt b) (5 + 2 * n1 + n2) (definitionsWords 0 (m .definitions)) (omega arith) (holds-left b (5 + 2 * n1 + n2) (definitionsWords 0 (m .definitions)) ds r3))
-    (moved b (expressionsAt b) (5 + 2 * n1 + n2 + 2 * n3) (expressionsWords d (m .expressions)) (omega arith) (holds-left b (5 + 2 * n1 + n2 + 2 * n3) (expressionsWords d (m .expressions)) es r4))
-    (moved b (nodesAt b) (5 + 2 * n1 + n2 + 2 * n3 + n4) (definitionsNodes 0 (m .definitions)) (omega arith) (holds-left b (5 + 2 * n1 + n2 + 2 * n3 + n4) (definitionsNodes 0 (m .definitions)) (expressionsNodes d (m .expressions)) r5))
-    (moved b (nodesAt b + 4 * d) (5 + 2 * n1 + n2 + 2 * n3 + n4 + 4 * d) (expressionsNodes d (m .expressions)) (omega arith) r6)
-    (holds-left b 5 (pairWords 0 (m .names)) ps r1)
-    (drop-at (bytesOf (recordWords m)) (joined (m .names)) (textAt b) e)
-    (moved b (publicsAt b) (5 + 2 * n1) (m .publics) (omega arith) (holds-left b (5 + 2 * n1) (m .publics) us r2))
+    (length-append (bytesOf (recordWords m)) (joined ts) ∙ omega arith)
+    (moved b (definitionsAt b) p2 (definitionsWords 0 xs) (omega arith) (holds-left b p2 (definitionsWords 0 xs) ds r3))
+    (moved b (expressionsAt b) p3 (expressionsWords d ys) (omega arith) (holds-left b p3 (expressionsWords d ys) es r4))
+    (moved b (nodesAt b) p4 (definitionsNodes 0 xs) (omega arith) (holds-left b p4 (definitionsNodes 0 xs) (expressionsNodes d ys) r5))
+    (moved b (nodesAt b + 4 * d) (p4 + 4 * d) (expressionsNodes d ys) (omega arith) r6)
+    (holds-left b HEADER (pairWords 0 ts) ps r1)
+    (drop-at (bytesOf (recordWords m)) (joined ts) (textAt b) e)
+    (moved b (publicsAt b) p1 (m .publics) (omega arith) (holds-left b p1 (m .publics) us r2))

@@ -6,8 +6,17 @@ use lib.ListN.{length}
 use lib.Dec.{leb, ltb, eqb}
 use Rattle.words.specs.Words.{wordAt}
 use Rattle.source.specs.declared.Layout.{Layout}
+use Rattle.source.specs.declared.lists.NameEntry.{NameEntry}
+use Rattle.source.specs.declared.lists.DefinitionEntry.{DefinitionEntry}
 use Rattle.records.specs.Kinds.{NODE-WORDS}
-use Rattle.records.specs.SourceRecord.{DEFINITIONS, EXPRESSIONS, HEADER, NAMES, NODES, PUBLICS}
+use Rattle.records.specs.SourceRecord.{DEFINITIONS, EXPRESSIONS, HEADER, NAME-BYTES, NAMES, NODES, PUBLICS}
+
+-- the words of a name (offset, length) and of a definition (pattern, value)
+abbrev pub NAME-WORDS : ℕ
+NAME-WORDS = 2
+
+abbrev pub DEFINITION-WORDS : ℕ
+DEFINITION-WORDS = 2
 
 module _ (b : List ℕ) where
   -- "Header: counts of names (to 512), publics (to 64), definitions (to 512), expressions (to 512), nodes (to 2,048)"
@@ -26,15 +35,16 @@ module _ (b : List ℕ) where
   abbrev pub nodes : ℕ
   nodes = wordAt b 4
 
-  -- "Then one pair of offset and length per name; public name indices; definition pairs; expression nodes; nodes of four words": the word at which each starts; the names' pairs start at word 5
+  -- "Then one pair of offset and length per name; public name indices; definition pairs; expression nodes; nodes of four words":
+  -- the word at which each starts; the names' pairs start at word 5
   abbrev pub publicsAt : ℕ
-  publicsAt = HEADER + 2 * names
+  publicsAt = HEADER + NAME-WORDS * names
 
   abbrev pub definitionsAt : ℕ
   definitionsAt = publicsAt + publics
 
   abbrev pub expressionsAt : ℕ
-  expressionsAt = definitionsAt + 2 * definitions
+  expressionsAt = definitionsAt + DEFINITION-WORDS * definitions
 
   abbrev pub nodesAt : ℕ
   nodesAt = expressionsAt + expressions
@@ -57,6 +67,23 @@ layoutOf b = record {
   «nodes_at» = nodesAt b;
   «text_at» = textAt b;
 }
+
+-- entry k of a list that starts at word `at`; the names' pairs start behind the header
+abbrev pub nameEntry : List ℕ → ℕ → NameEntry
+nameEntry b k = record { offset = wordAt b (HEADER + NAME-WORDS * k); size = wordAt b (HEADER + NAME-WORDS * k + 1) }
+
+abbrev pub publicAt : List ℕ → ℕ → ℕ → ℕ
+publicAt b at k = wordAt b (at + k)
+
+abbrev pub definitionEntry : List ℕ → ℕ → ℕ → DefinitionEntry
+definitionEntry b at k = record { pattern = wordAt b (at + DEFINITION-WORDS * k); value = wordAt b (at + DEFINITION-WORDS * k + 1) }
+
+abbrev pub expressionRoot : List ℕ → ℕ → ℕ → ℕ
+expressionRoot b at k = wordAt b (at + k)
+
+-- the longest record
+abbrev pub BYTES : ℕ
+BYTES = 4 * (HEADER + NAME-WORDS * NAMES + PUBLICS + DEFINITION-WORDS * DEFINITIONS + EXPRESSIONS + NODE-WORDS * NODES) + NAMES * NAME-BYTES
 
 -- not 2: no "count over its limit"
 unfoldable pub counted : List ℕ → Bool

@@ -1,13 +1,13 @@
 -- The names of a record with the bytes b, whose name text starts at byte `text`: what 3 and 4 say of them.
-use Prim.Native.Nat.{ℕ, zero, suc, _+_, _*_}
+use Prim.Native.Nat.{ℕ, zero, suc, _+_}
 use mathlib.Core.List.{List}
 use mathlib.Core.Bool.{Bool, not, _&&_}
 use lib.ListN.{length, getD, take, drop}
 use lib.Dec.{leb, eqb}
-use Rattle.words.specs.Words.{wordAt}
 use Rattle.source.specs.Trees.{Text}
 use Rattle.source.specs.Indices.{every}
-use Rattle.records.specs.SourceRecord.{HEADER, NAME-BYTES}
+use Rattle.source.specs.Layout.{nameEntry}
+use Rattle.records.specs.SourceRecord.{NAME-BYTES}
 
 -- "bytes 33 to 126"
 abbrev pub FIRST-BYTE : ℕ
@@ -18,10 +18,10 @@ LAST-BYTE = 126
 
 -- "one pair of offset and length per name"
 unfoldable pub offsetOf : List ℕ → ℕ → ℕ
-offsetOf b k = wordAt b (HEADER + 2 * k)
+offsetOf b k = nameEntry b k .offset
 
 unfoldable pub lengthOf : List ℕ → ℕ → ℕ
-lengthOf b k = wordAt b (HEADER + 2 * k + 1)
+lengthOf b k = nameEntry b k .size
 
 -- where the first k names end
 unfoldable pub endOf : List ℕ → ℕ → ℕ

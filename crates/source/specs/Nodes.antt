@@ -15,6 +15,7 @@ use Rattle.source.specs.declared.Chain.{Chain}
 use Rattle.source.specs.declared.Child.{Child}
 use Rattle.source.specs.declared.Children.{Children}
 use Rattle.source.specs.Indices.{every, pick}
+use Rattle.source.specs.Layout.{publicAt, definitionEntry, expressionRoot}
 use Rattle.records.specs.Kinds.{APPLICATION, AS-PATTERN, CONS, CONS-PATTERN, CONSTANT, CONSTANT-PATTERN, FUNCTION, INFIX, LET, LINK, MATCH, NEGATE, NIL, NIL-PATTERN, NODE-WORDS, PRODUCT, PRODUCT-PATTERN, SEQUENCE, UNIT, UNIT-PATTERN, VARIABLE, VARIABLE-PATTERN}
 use Rattle.records.specs.Operators.{ADD, DIVIDE, DIVIDE-Z, EQUAL, EXPONENTIATE, INT-DIVIDE, MULTIPLY, SUBTRACT}
 use Rattle.records.specs.SourceRecord.{NO-LINK}
@@ -170,11 +171,11 @@ module _ (b : List ℕ) (at : ℕ) where
 
   -- n definitions, n expressions from word `list` on: pairs of a pattern and an expression, and expressions, of the first `nodes` nodes
   unfoldable pub definitionsFit : ℕ → ℕ → ℕ → Bool
-  definitionsFit nodes list n = every n (λ k. patternFits nodes (wordAt b (list + 2 * k)) && expressionFits nodes (wordAt b (list + 2 * k + 1)))
+  definitionsFit nodes list n = every n (λ k. patternFits nodes (definitionEntry b list k .pattern) && expressionFits nodes (definitionEntry b list k .value))
 
   unfoldable pub expressionsFit : ℕ → ℕ → ℕ → Bool
-  expressionsFit nodes list n = every n (λ k. expressionFits nodes (wordAt b (list + k)))
+  expressionsFit nodes list n = every n (λ k. expressionFits nodes (expressionRoot b list k))
 
 -- n public name indices from word `list` on
 unfoldable pub publicsFit : List ℕ → ℕ → ℕ → ℕ → Bool
-publicsFit b names list n = every n (λ k. ltb (wordAt b (list + k)) names)
+publicsFit b names list n = every n (λ k. ltb (publicAt b list k) names)

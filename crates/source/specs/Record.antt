@@ -1,16 +1,16 @@
 -- What a source record is: its module, or the first of the numbers 1 to 6. For a reader with document 01, "Source record" and "Numbers by place of the check", beside it.
-use Prim.Native.Nat.{ℕ, zero, suc, _+_, _*_}
+use Prim.Native.Nat.{ℕ, zero, suc, _+_}
 use mathlib.Core.List.{List, [], _∷_}
 use mathlib.Core.Bool.{Bool, true, false, _&&_}
 use lib.ListN.{length}
 use lib.Dec.{leb, eqb}
-use Rattle.words.specs.Words.{wordAt}
 use Rattle.source.specs.declared.Entry.{Entry}
 use Rattle.source.specs.declared.Form.{Form}
 use Rattle.source.specs.declared.Shape.{Shape}
 use Rattle.source.specs.Trees.{Pat, Expr, Items, Arms, Env, Module}
 use Rattle.source.specs.Indices.{every, rows}
-use Rattle.source.specs.Layout.{names, publics, definitions, expressions, nodes, publicsAt, definitionsAt, expressionsAt, nodesAt, textAt, counted, listed}
+use Rattle.source.specs.Layout.{names, publics, definitions, expressions, nodes, publicsAt, definitionsAt, expressionsAt, nodesAt, textAt}
+use Rattle.source.specs.Layout.{publicAt, definitionEntry, expressionRoot, counted, listed}
 use Rattle.source.specs.Names.{namesFit, namesDiffer, nameOf}
 use Rattle.source.specs.Nodes.{entryOf, nodesFit, publicsFit, definitionsFit, expressionsFit}
 use Rattle.source.specs.Uses.{byNodes, byDefinitions, byExpressions}
@@ -90,15 +90,15 @@ nodeTree b at k = tree b at (k + 1) k
 -- ---- the module
 
 unfoldable pub definitionAt : List ℕ → ℕ → ℕ → ℕ → ℕ → Pat × Expr
-definitionAt b at count list k = (tree b at count (wordAt b (list + 2 * k)) .pattern, tree b at count (wordAt b (list + 2 * k + 1)) .expression)
+definitionAt b at count list k = (tree b at count (definitionEntry b list k .pattern) .pattern, tree b at count (definitionEntry b list k .value) .expression)
 
 unfoldable pub expressionAt : List ℕ → ℕ → ℕ → ℕ → ℕ → Expr
-expressionAt b at count list k = tree b at count (wordAt b (list + k)) .expression
+expressionAt b at count list k = tree b at count (expressionRoot b list k) .expression
 
 unfoldable pub moduleOf : List ℕ → Module
 moduleOf b = record {
   names = rows (names b) 0 (nameOf b (textAt b));
-  publics = rows (publics b) 0 (λ k. wordAt b (publicsAt b + k));
+  publics = rows (publics b) 0 (publicAt b (publicsAt b));
   definitions = rows (definitions b) 0 (definitionAt b (nodesAt b) (nodes b) (definitionsAt b));
   expressions = rows (expressions b) 0 (expressionAt b (nodesAt b) (nodes b) (expressionsAt b));
 }

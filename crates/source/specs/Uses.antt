@@ -1,14 +1,14 @@
 -- How often each node is used, in a record with the bytes b whose nodes start at word `at`: what 6 says. It is asked only where nothing is 5.
-use Prim.Native.Nat.{ℕ, zero, suc, _+_, _*_}
+use Prim.Native.Nat.{ℕ, zero, suc, _+_}
 use mathlib.Core.List.{List}
 use mathlib.Core.Bool.{Bool, true, false}
 use lib.Dec.{eqb}
-use Rattle.words.specs.Words.{wordAt}
 use Rattle.source.specs.declared.Entry.{Entry}
 use Rattle.source.specs.declared.Chain.{Chain}
 use Rattle.source.specs.declared.Child.{Child}
 use Rattle.source.specs.declared.Children.{Children}
 use Rattle.source.specs.Indices.{every, total, pick}
+use Rattle.source.specs.Layout.{definitionEntry, expressionRoot}
 use Rattle.source.specs.Nodes.{entryOf, childrenOf}
 use Rattle.records.specs.SourceRecord.{NO-LINK}
 
@@ -52,7 +52,7 @@ module _ (b : List ℕ) (at : ℕ) where
   byNodes n k = total n (λ j. childrenUse j (childrenOf (entryOf b at j)) k)
 
 unfoldable pub byDefinitions : List ℕ → ℕ → ℕ → ℕ → ℕ
-byDefinitions b list n k = total n (λ j. same (wordAt b (list + 2 * j)) k + same (wordAt b (list + 2 * j + 1)) k)
+byDefinitions b list n k = total n (λ j. same (definitionEntry b list j .pattern) k + same (definitionEntry b list j .value) k)
 
 unfoldable pub byExpressions : List ℕ → ℕ → ℕ → ℕ → ℕ
-byExpressions b list n k = total n (λ j. same (wordAt b (list + j)) k)
+byExpressions b list n k = total n (λ j. same (expressionRoot b list j) k)

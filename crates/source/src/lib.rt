@@ -1,16 +1,35 @@
-// The source record, read in place: its layout and its nodes.
+// The source record, read in place: its layout, the entries of its lists, and its nodes.
 mod entries;
+pub mod lists;
 
 use entries::entry;
 use field::InfixOp;
+use lists::DEFINITION_WORDS;
+use lists::NAME_WORDS;
 use records::NODE_WORDS;
+use records::source_record::DEFINITIONS;
+use records::source_record::EXPRESSIONS;
 use records::source_record::HEADER;
+use records::source_record::NAME_BYTES;
+use records::source_record::NAMES;
+use records::source_record::NODES;
+use records::source_record::PUBLICS;
 ghost use mathlib.Core.Path.{_≡_};
 ghost use Prim.Native.Nat.{_+_, _*_, _≤_, _<_};
 ghost use lib.ListN.{length};
 ghost use Rattle.words.specs.Words.{wordAt};
 ghost use Rattle.source.specs.Layout.{layoutOf};
 ghost use Rattle.source.specs.Nodes.{entryOf};
+
+// The words of the longest record, and its bytes with the name text.
+const WORDS: usize = HEADER
+    + NAME_WORDS * NAMES
+    + PUBLICS
+    + DEFINITION_WORDS * DEFINITIONS
+    + EXPRESSIONS
+    + NODE_WORDS * NODES;
+
+pub const BYTES: usize = 4 * WORDS + NAMES * NAME_BYTES;
 
 // The counts of the header, the word at which each list starts (the names' pairs start at word 5), and the byte at which the name text starts.
 pub struct Layout {
@@ -86,7 +105,7 @@ pub struct Children {
 }
 
 // A word, as a count or an index.
-pub fn count(s: &[u8], i: usize) -> usize
+fn count(s: &[u8], i: usize) -> usize
     requires { ⌜ 4 * i + 4 ≤ length (now s) ⌝ }
     ensures { λ r. ⌜ (r ≡ wordAt (now (s .entry)) i) × (r < 4294967296) ⌝ }
 {
@@ -103,9 +122,9 @@ pub fn layout_of(s: &[u8]) -> Layout
     let definitions = count(s, 2);
     let expressions = count(s, 3);
     let nodes = count(s, 4);
-    let publics_at = HEADER + 2 * names;
+    let publics_at = HEADER + NAME_WORDS * names;
     let definitions_at = publics_at + publics;
-    let expressions_at = definitions_at + 2 * definitions;
+    let expressions_at = definitions_at + DEFINITION_WORDS * definitions;
     let nodes_at = expressions_at + expressions;
     Layout {
         names,

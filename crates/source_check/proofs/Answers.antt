@@ -9,7 +9,7 @@ use lib.Dec.{leb, ltb, eqb}
 use borrow.Author.Tests.{leb-true, le-leb, lt-leb}
 use Rattle.source.specs.declared.Layout.{Layout}
 use Rattle.source.specs.Indices.{every}
-use Rattle.source.specs.Layout.{layoutOf, counted, listed, names, publics, definitions, expressions, nodes, textAt}
+use Rattle.source.specs.Layout.{layoutOf, counted, listed, names, publics, definitions, expressions, nodes, textAt, NAME-WORDS, DEFINITION-WORDS}
 use Rattle.source.specs.Names.{namesFit, namesDiffer}
 use Rattle.source.specs.Nodes.{nodesFit, publicsFit, definitionsFit, expressionsFit}
 use Rattle.source.specs.Uses.{byNodes, byDefinitions, byExpressions}
@@ -19,14 +19,15 @@ use Rattle.source_check.specs.declared.Checked.{Checked}
 use Rattle.source_check.specs.Answer.{checked}
 use Rattle.source_check.specs.Marks.{verdict, outcome, Adds, noMarks}
 use Rattle.source_check.proofs.Marks.{accepted, refused, adds-more, counted-once}
+use Rattle.records.specs.SourceRecord.{HEADER}
 
 -- where the lists lie in a file that is long enough
 pub record Room (l : Layout) (size : ℕ) : Type 0 where
   pub nodes-in : 4 * (l .«nodes_at» + 4 * l .nodes) ≤ size
   pub publics-in : 4 * (l .«publics_at» + l .publics) ≤ size
-  pub definitions-in : 4 * (l .«definitions_at» + 2 * l .definitions) ≤ size
+  pub definitions-in : 4 * (l .«definitions_at» + DEFINITION-WORDS * l .definitions) ≤ size
   pub expressions-in : 4 * (l .«expressions_at» + l .expressions) ≤ size
-  pub names-in : 4 * (5 + 2 * l .names) ≤ size
+  pub names-in : 4 * (HEADER + NAME-WORDS * l .names) ≤ size
 
 room-of : (b : List ℕ) (size : ℕ) → textAt b ≤ size → Room (layoutOf b) size
 unfolding layoutOf

@@ -1,15 +1,15 @@
 -- What a node's words use, and the loops over nodes, definitions and expressions. Assumes nothing.
-use Prim.Native.Nat.{ℕ, _+_, _*_, _<_}
+use Prim.Native.Nat.{ℕ, _+_, _<_}
 use mathlib.Core.Path.{_≡_, refl, sym, ap, _∙_}
 use mathlib.Core.List.{List}
 use mathlib.Core.Bool.{Bool, true, false, _&&_}
-use Rattle.words.specs.Words.{wordAt}
 use Rattle.source.specs.declared.Entry.{Entry}
 use Rattle.source.specs.declared.Child.{Child}
 use Rattle.source.specs.declared.Children.{Children}
 use Rattle.source.specs.Indices.{total}
 use Rattle.source.specs.Nodes.{entryOf, expressionFits, patternFits, childFits, childrenOf, childrenFit, nodesFit, definitionsFit, expressionsFit}
 use Rattle.source.specs.Uses.{same, childUses, childrenUse, byNodes, byDefinitions, byExpressions}
+use Rattle.source.specs.Layout.{definitionEntry, expressionRoot}
 use Rattle.source.proofs.Laws.{every-none, every-more, every-fails, total-more}
 use Rattle.source_check.specs.declared.Checked.{Checked}
 use Rattle.source_check.specs.Marks.{verdict, Adds}
@@ -77,14 +77,16 @@ unfolding definitionsFit byDefinitions total
 definitions-none b at nodes list m = (every-none _, adds-none m _ (λ k. refl))
 
 abbrev pairs : List ℕ → ℕ → ℕ → ℕ → ℕ → Bool
-pairs b at nodes list k = patternFits b at nodes (wordAt b (list + 2 * k)) && expressionFits b at nodes (wordAt b (list + 2 * k + 1))
+pairs b at nodes list k = patternFits b at nodes (definitionEntry b list k .pattern) && expressionFits b at nodes (definitionEntry b list k .value)
 
-module _ (b : List ℕ) (at nodes list k : ℕ) {x : ℕ} {r1 : Checked} (e1 : x ≡ wordAt b (list + 2 * k)) (p1 : r1 ≡ verdict 5 (patternFits b at nodes x)) where
+module _ (b : List ℕ) (at nodes list k : ℕ) {x : ℕ} {r1 : Checked}
+    (e1 : x ≡ definitionEntry b list k .pattern) (p1 : r1 ≡ verdict 5 (patternFits b at nodes x)) where
   pub definitions-pattern : (n : ℕ) {a : ℕ} → k < n → r1 ≡ Checked.Refused a → definitionsFit b at nodes list n ≡ false
   unfolding definitionsFit
   definitions-pattern n l f = sym (every-fails n k (pairs b at nodes list) l (rw (← e1, refused 5 _ p1 f)))
 
-  module _ {y : ℕ} {r2 : Checked} (a1 : r1 ≡ Checked.Accepted) (e2 : y ≡ wordAt b (list + 2 * k + 1)) (p2 : r2 ≡ verdict 5 (expressionFits b at nodes y)) where
+  module _ {y : ℕ} {r2 : Checked} (a1 : r1 ≡ Checked.Accepted)
+      (e2 : y ≡ definitionEntry b list k .value) (p2 : r2 ≡ verdict 5 (expressionFits b at nodes y)) where
     pub definitions-value : (n : ℕ) {a : ℕ} → k < n → r2 ≡ Checked.Refused a → definitionsFit b at nodes list n ≡ false
     unfolding definitionsFit
     definitions-value n l f = sym (every-fails n k (pairs b at nodes list) l (rw (← e1, ← e2, accepted 5 _ p1 a1, refused 5 _ p2 f)))
@@ -93,21 +95,22 @@ module _ (b : List ℕ) (at nodes list k : ℕ) {x : ℕ} {r1 : Checked} (e1 : x
     unfolding definitionsFit byDefinitions
     definitions-more h u v a w = (
       every-more k (pairs b at nodes list) h (rw (← e1, ← e2, accepted 5 _ p1 a1, accepted 5 _ p2 a)),
-      adds-more (byDefinitions b list (k + 1)) u (adds-more (λ j. same x j + same y j) v w (λ j. refl)) (λ j. total-more k (λ i. same (wordAt b (list + 2 * i)) j + same (wordAt b (list + 2 * i + 1)) j) ∙ rw (← e1, ← e2)),
+      adds-more (byDefinitions b list (k + 1)) u (adds-more (λ j. same x j + same y j) v w (λ j. refl))
+          (λ j. total-more k (λ i. same (definitionEntry b list i .pattern) j + same (definitionEntry b list i .value) j) ∙ rw (← e1, ← e2)),
     )
 
 pub expressions-none : (b : List ℕ) (at nodes list : ℕ) (m : List ℕ) → (expressionsFit b at nodes list 0 ≡ true) × Adds m m (byExpressions b list 0)
 unfolding expressionsFit byExpressions total
 expressions-none b at nodes list m = (every-none _, adds-none m _ (λ k. refl))
 
-module _ (b : List ℕ) (at nodes list k : ℕ) {x : ℕ} {r : Checked} (e : x ≡ wordAt b (list + k)) (p : r ≡ verdict 5 (expressionFits b at nodes x)) where
+module _ (b : List ℕ) (at nodes list k : ℕ) {x : ℕ} {r : Checked} (e : x ≡ expressionRoot b list k) (p : r ≡ verdict 5 (expressionFits b at nodes x)) where
   pub expressions-fail : (n : ℕ) {a : ℕ} → k < n → r ≡ Checked.Refused a → expressionsFit b at nodes list n ≡ false
   unfolding expressionsFit
-  expressions-fail n l f = sym (every-fails n k (λ j. expressionFits b at nodes (wordAt b (list + j))) l (rw (← e) (refused 5 _ p f)))
+  expressions-fail n l f = sym (every-fails n k (λ j. expressionFits b at nodes (expressionRoot b list j)) l (rw (← e) (refused 5 _ p f)))
 
   pub expressions-more : {m m1 m2 : List ℕ} → expressionsFit b at nodes list k ≡ true → Adds m m1 (byExpressions b list k) → r ≡ Checked.Accepted → Adds m1 m2 (same x) → (expressionsFit b at nodes list (k + 1) ≡ true) × Adds m m2 (byExpressions b list (k + 1))
   unfolding expressionsFit byExpressions
   expressions-more h u a v = (
-    every-more k (λ j. expressionFits b at nodes (wordAt b (list + j))) h (rw (← e) (accepted 5 _ p a)),
-    adds-more (byExpressions b list (k + 1)) u v (λ j. total-more k (λ i. same (wordAt b (list + i)) j) ∙ rw (← e)),
+    every-more k (λ j. expressionFits b at nodes (expressionRoot b list j)) h (rw (← e) (accepted 5 _ p a)),
+    adds-more (byExpressions b list (k + 1)) u v (λ j. total-more k (λ i. same (expressionRoot b list i) j) ∙ rw (← e)),
   )

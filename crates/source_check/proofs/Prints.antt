@@ -10,9 +10,9 @@ use lib.ListN.{length, getD, set}
 use lib.Seq.{getD-set-same, getD-set-other}
 use lib.Dec.{eqb}
 use borrow.Author.Tests.{eqb-true}
-use Rattle.words.specs.Words.{wordAt}
 use Rattle.source.specs.Indices.{every}
 use Rattle.source.specs.Names.{offsetOf, lengthOf, sameBytes, sameName}
+use Rattle.source.specs.Layout.{nameEntry}
 use Rattle.source_check.specs.Fingerprints.{fingerprintOf, Fingerprinted}
 use Rattle.source.proofs.Laws.{and-left, and-right, alike}
 
@@ -28,7 +28,8 @@ print-more b from i e q = rw (add-one, e, q)
 
 -- ---- those of names
 
-pub print-set : (b : List ℕ) (text k : ℕ) (r : List ℕ) {h offset n : ℕ} → k < length r → Fingerprinted b text k r → offset ≡ wordAt b (5 + 2 * k) → n ≡ wordAt b (5 + 2 * k + 1) → h ≡ fingerprintOf b (text + offset) n → Fingerprinted b text (k + 1) (set r k h)
+pub print-set : (b : List ℕ) (text k : ℕ) (r : List ℕ) {h offset n : ℕ} → k < length r → Fingerprinted b text k r → offset ≡ nameEntry b k .offset →
+    n ≡ nameEntry b k .size → h ≡ fingerprintOf b (text + offset) n → Fingerprinted b text (k + 1) (set r k h)
 unfolding offsetOf lengthOf
 print-set b text k r {h} {offset} {n} l f p q e =
     λ j m. ⊎-elim

@@ -1,11 +1,11 @@
 // A number for each name, so that most pairs are known to differ without a look at their bytes.
-use records::source_record::HEADER;
 use records::source_record::NAMES;
-use source::count;
+use source::lists::name_at;
 ghost use mathlib.Core.Path.{_≡_};
 ghost use Prim.Native.Nat.{_+_, _*_, _≤_, _<_};
 ghost use mathlib.Core.Bool.{true};
 ghost use lib.ListN.{length, getD};
+ghost use Rattle.source.specs.Layout.{NAME-WORDS};
 ghost use Rattle.source.specs.Names.{namesFit};
 ghost use Rattle.source_check.specs.Fingerprints.{fingerprintOf, Fingerprinted};
 ghost use Rattle.records.specs.SourceRecord.{HEADER, NAMES};
@@ -39,15 +39,15 @@ fn fingerprint(s: &[u8], from: usize, n: usize) -> u32
 
 // The fingerprints of n names that fit.
 pub fn fingerprints(s: &[u8], text: usize, n: usize) -> [u32; NAMES]
-    requires { ⌜ ((4 * (HEADER + 2 * n) ≤ length (now s)) × (namesFit (now s) text n ≡ true)) × (n ≤ NAMES) ⌝ }
+    requires { ⌜ ((4 * (HEADER + NAME-WORDS * n) ≤ length (now s)) × (namesFit (now s) text n ≡ true)) × (n ≤ NAMES) ⌝ }
     ensures { λ r. ⌜ (length r ≡ NAMES) × Fingerprinted (now (s .entry)) text n r ⌝ }
 {
     let mut r = [0u32; NAMES];
     let mut k = 0usize;
     while k < n {
-        let from = text + count(s, HEADER + 2 * k);
-        let size = count(s, HEADER + 2 * k + 1);
-        r[k] = fingerprint(s, from, size);
+        let name = name_at(s, k);
+        let from = text + name.offset as usize;
+        r[k] = fingerprint(s, from, name.size as usize);
         k += 1;
     }
     r

@@ -1,13 +1,13 @@
 // The names: their pairs and bytes (refusal 3), and that no two are equal (refusal 4).
 use super::fingerprints::fingerprints;
-use records::source_record::HEADER;
 use records::source_record::NAME_BYTES;
 use records::source_record::NAMES;
-use source::count;
+use source::lists::name_at;
 ghost use mathlib.Core.Path.{_≡_};
 ghost use Prim.Native.Nat.{_+_, _*_, _≤_, _<_};
 ghost use mathlib.Core.Bool.{true};
 ghost use lib.ListN.{length};
+ghost use Rattle.source.specs.Layout.{NAME-WORDS};
 ghost use Rattle.source.specs.Names.{endOf, printed, nameFits, namesFit, sameBytes, sameName, nameNew, namesDiffer};
 ghost use Rattle.source_check.specs.Fingerprints.{Fingerprinted};
 ghost use Rattle.records.specs.SourceRecord.{HEADER, NAMES};
@@ -36,14 +36,15 @@ fn prints(s: &[u8], from: usize, n: usize) -> bool
 
 // Whether name k fits, where the names before it end at `end`.
 fn name_fits(s: &[u8], text: usize, k: usize, end: usize) -> bool
-    requires { ⌜ (4 * (7 + 2 * k) ≤ length (now s)) × ((text ≤ length (now s)) × (end ≡ endOf (now s) k)) ⌝ }
+    requires { ⌜ (4 * (HEADER + NAME-WORDS * k + NAME-WORDS) ≤ length (now s)) × ((text ≤ length (now s)) × (end ≡ endOf (now s) k)) ⌝ }
     ensures { λ r. ⌜ r ≡ nameFits (now (s .entry)) text k ⌝ }
 {
-    let offset = count(s, HEADER + 2 * k);
+    let name = name_at(s, k);
+    let offset = name.offset as usize;
     if offset != end {
         return false;
     }
-    let n = count(s, HEADER + 2 * k + 1);
+    let n = name.size as usize;
     if n < 1 {
         return false;
     }
@@ -58,7 +59,7 @@ fn name_fits(s: &[u8], text: usize, k: usize, end: usize) -> bool
 
 // Whether n names fit, and the last ends with the file: not 3.
 pub fn names_fit(s: &[u8], text: usize, n: usize) -> bool
-    requires { ⌜ (4 * (HEADER + 2 * n) ≤ length (now s)) × (text ≤ length (now s)) ⌝ }
+    requires { ⌜ (4 * (HEADER + NAME-WORDS * n) ≤ length (now s)) × (text ≤ length (now s)) ⌝ }
     ensures { λ r. ⌜ r ≡ namesFit (now (s .entry)) text n ⌝ }
 {
     let mut end = 0usize;
@@ -67,7 +68,8 @@ pub fn names_fit(s: &[u8], text: usize, n: usize) -> bool
         if !name_fits(s, text, k, end) {
             return false;
         }
-        end = count(s, HEADER + 2 * k) + count(s, HEADER + 2 * k + 1);
+        let name = name_at(s, k);
+        end = name.offset as usize + name.size as usize;
         k += 1;
     }
     s.len() == text + end
@@ -90,21 +92,23 @@ fn same_bytes(s: &[u8], from: usize, to: usize, n: usize) -> bool
 
 // Whether two of n names are equal.
 fn same_name(s: &[u8], text: usize, n: usize, j: usize, k: usize) -> bool
-    requires { ⌜ ((4 * (HEADER + 2 * n) ≤ length (now s)) × (namesFit (now s) text n ≡ true)) × ((j < n) × (k < n)) ⌝ }
+    requires { ⌜ ((4 * (HEADER + NAME-WORDS * n) ≤ length (now s)) × (namesFit (now s) text n ≡ true)) × ((j < n) × (k < n)) ⌝ }
     ensures { λ r. ⌜ r ≡ sameName (now (s .entry)) text j k ⌝ }
 {
-    let size = count(s, HEADER + 2 * j + 1);
-    if size != count(s, HEADER + 2 * k + 1) {
+    let one = name_at(s, j);
+    let other = name_at(s, k);
+    if one.size != other.size {
         return false;
     }
-    let from = text + count(s, HEADER + 2 * j);
-    let to = text + count(s, HEADER + 2 * k);
-    same_bytes(s, from, to, size)
+    let from = text + one.offset as usize;
+    let to = text + other.offset as usize;
+    same_bytes(s, from, to, one.size as usize)
 }
 
 // The same by fingerprints first: only where these are equal are bytes compared.
 fn same_found(s: &[u8], text: usize, n: usize, prints: &[u32; NAMES], j: usize, k: usize) -> bool
-    requires { ⌜ ((4 * (HEADER + 2 * n) ≤ length (now s)) × (namesFit (now s) text n ≡ true)) × (((j < n) × (k < n)) × ((n ≤ NAMES) × Fingerprinted (now s) text n (now prints))) ⌝ }
+    requires { ⌜ (4 * (HEADER + NAME-WORDS * n) ≤ length (now s)) × (namesFit (now s) text n ≡ true) ⌝ }
+    requires { ⌜ ((j < n) × (k < n)) × ((n ≤ NAMES) × Fingerprinted (now s) text n (now prints)) ⌝ }
     ensures { λ r. ⌜ r ≡ sameName (now (s .entry)) text j k ⌝ }
 {
     if prints[j] != prints[k] {
@@ -115,7 +119,8 @@ fn same_found(s: &[u8], text: usize, n: usize, prints: &[u32; NAMES], j: usize, 
 
 // Whether name k is none of those before it.
 fn name_new(s: &[u8], text: usize, n: usize, prints: &[u32; NAMES], k: usize) -> bool
-    requires { ⌜ ((4 * (HEADER + 2 * n) ≤ length (now s)) × (namesFit (now s) text n ≡ true)) × ((k < n) × ((n ≤ NAMES) × Fingerprinted (now s) text n (now prints))) ⌝ }
+    requires { ⌜ (4 * (HEADER + NAME-WORDS * n) ≤ length (now s)) × (namesFit (now s) text n ≡ true) ⌝ }
+    requires { ⌜ (k < n) × ((n ≤ NAMES) × Fingerprinted (now s) text n (now prints)) ⌝ }
     ensures { λ r. ⌜ r ≡ nameNew (now (s .entry)) text k ⌝ }
 {
     let mut j = 0usize;
@@ -130,7 +135,7 @@ fn name_new(s: &[u8], text: usize, n: usize, prints: &[u32; NAMES], k: usize) ->
 
 // Whether n names that fit are different: not 4.
 pub fn names_differ(s: &[u8], text: usize, n: usize) -> bool
-    requires { ⌜ ((4 * (HEADER + 2 * n) ≤ length (now s)) × (namesFit (now s) text n ≡ true)) × (n ≤ NAMES) ⌝ }
+    requires { ⌜ ((4 * (HEADER + NAME-WORDS * n) ≤ length (now s)) × (namesFit (now s) text n ≡ true)) × (n ≤ NAMES) ⌝ }
     ensures { λ r. ⌜ r ≡ namesDiffer (now (s .entry)) text n ⌝ }
 {
     let prints = fingerprints(s, text, n);

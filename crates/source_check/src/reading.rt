@@ -8,7 +8,9 @@ use source::Child;
 use source::Children;
 use source::Entry;
 use source::Layout;
-use source::count;
+use source::lists::definition_at;
+use source::lists::expression_at;
+use source::lists::public_at;
 use source::node_at;
 ghost use mathlib.Core.Path.{_≡_};
 ghost use Prim.Native.Nat.{_+_, _*_, _≤_, _<_};
@@ -18,7 +20,7 @@ ghost use Rattle.source.specs.Indices.{every};
 ghost use Rattle.source.specs.Nodes.{expressionFits, patternFits, itemFits, resultFits, chainFits, childFits, childrenFit, nodesFit, publicsFit, definitionsFit, expressionsFit};
 ghost use Rattle.source.specs.Uses.{same, resultUses, chainUses, childUses, childrenUse, byNodes, byDefinitions, byExpressions};
 ghost use Rattle.source_check.specs.Marks.{verdict, outcome, bump, Adds, noMarks};
-ghost use Rattle.source.specs.Layout.{layoutOf};
+ghost use Rattle.source.specs.Layout.{layoutOf, DEFINITION-WORDS};
 ghost use Rattle.source.specs.Record.{shaped, usedOnce};
 ghost use Rattle.records.specs.SourceRecord.{NODES};
 
@@ -222,7 +224,7 @@ fn read_publics(s: &[u8], names: usize, list: usize, n: usize) -> Checked
 {
     let mut k = 0usize;
     while k < n {
-        if names <= count(s, list + k) {
+        if names <= public_at(s, list, k) as usize {
             return Checked::Refused(5);
         }
         k += 1;
@@ -239,17 +241,16 @@ fn read_definitions(
     n: usize,
     marks: &mut [u32; NODES],
 ) -> Checked
-    requires { ⌜ (4 * (list + 2 * n) ≤ length (now s)) × ((4 * (at + 4 * nodes) ≤ length (now s)) × (nodes ≤ NODES)) ⌝ }
+    requires { ⌜ (4 * (list + DEFINITION-WORDS * n) ≤ length (now s)) × ((4 * (at + 4 * nodes) ≤ length (now s)) × (nodes ≤ NODES)) ⌝ }
     ensures { λ r. ⌜ (r ≡ verdict 5 (definitionsFit (now (s .entry)) at nodes list n)) × (r ≡ Checked.Accepted → Adds (now (marks .entry)) (now (marks .exit)) (byDefinitions (now (s .entry)) list n)) ⌝ }
 {
     let mut k = 0usize;
     while k < n {
-        let p = count(s, list + 2 * k);
-        let Checked::Accepted = use_pattern(s, at, nodes, p, marks) else {
+        let d = definition_at(s, list, k);
+        let Checked::Accepted = use_pattern(s, at, nodes, d.pattern as usize, marks) else {
             return Checked::Refused(5);
         };
-        let x = count(s, list + 2 * k + 1);
-        let Checked::Accepted = use_expression(s, at, nodes, x, marks) else {
+        let Checked::Accepted = use_expression(s, at, nodes, d.value as usize, marks) else {
             return Checked::Refused(5);
         };
         k += 1;
@@ -271,7 +272,7 @@ fn read_expressions(
 {
     let mut k = 0usize;
     while k < n {
-        let x = count(s, list + k);
+        let x = expression_at(s, list, k) as usize;
         let Checked::Accepted = use_expression(s, at, nodes, x, marks) else {
             return Checked::Refused(5);
         };

@@ -6,7 +6,7 @@ use eval_entry::Answer;
 use eval_memory::MOST_UNITS;
 use eval_memory::UNIT_BYTES;
 use eval_write::FLAT_BYTES;
-use records::source_record::BYTES;
+use source::BYTES;
 use streams::Opened;
 use streams::open_standard;
 use test_report::ACCEPTED;

@@ -5,7 +5,7 @@
 use eval_memory::MOST_UNITS;
 use eval_memory::UNIT_BYTES;
 use pass_entry::Answer;
-use records::source_record::BYTES;
+use source::BYTES;
 use streams::Opened;
 use streams::open_standard;
 use test_report::ACCEPTED;

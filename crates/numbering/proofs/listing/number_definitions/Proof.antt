@@ -3,13 +3,13 @@ use Rattle.numbering.proofs.listing.number_definitions.Tie as tie
 use Rattle.numbering.proofs.listing.number_definitions.Reads as reads
 use Rattle.numbering.proofs.listing.number_definitions.Lts as lts
 use Rattle.numbering.proofs.listing.number_def_variables.Reads as number-def-variables-reads
-use Rattle.words.proofs.word_at.Reads as word-at-reads
 use borrow.Author.Needs.{needs}
 use native.Mathlib.Omega.{arith}
 use Prim.Native.Nat.{ℕ, _-_, _+_, _*_, _≤_, _<_}
 use mathlib.Core.Path.{_≡_, refl, _∙_, ap, sym}
 use lib.ListN.{length, length-set}
 use mathlib.Core.List.{List}
+use Rattle.source.proofs.Parts.{pattern-is, value-is}
 use Rattle.numbering.specs.Walks.{Sizes, ReadyDefinitions, DefinitionsWalk}
 use Rattle.numbering.proofs.Listed.{definitions-all, definitions-start, definitions-first, definitions-rest, definitions-step, definitions-end}
 
@@ -22,35 +22,22 @@ abbrev μ-loop : tie.MeasureT-loop
 loop-holds : tie.Need-loop-holds Inv-loop μ-loop
 loop-holds c = ((omega arith, definitions-all _ _ _ _ _ (c .before .pre .1 .0)), (c .before .pre .1 .1, λ r l g u o d w. definitions-start _ _ _ _ _ w))
 
-mul-word-at : tie.Need-mul-word-at Inv-loop μ-loop
-mul-word-at c = search needs
-
-add-word-at : tie.Need-add-word-at Inv-loop μ-loop
-add-word-at c = search needs
-
-word-at-requires : tie.Need-word-at-requires Inv-loop μ-loop
-word-at-requires c κs = search needs
+definition-at-requires : tie.Need-definition-at-requires Inv-loop μ-loop
+definition-at-requires c κs = search needs
 
 cast-p : tie.Need-cast-p Inv-loop μ-loop
 cast-p c = search needs
-
-mul-word-at-2 : tie.Need-mul-word-at-2 Inv-loop μ-loop
-mul-word-at-2 c = search needs
-
-add-word-at-2 : tie.Need-add-word-at-2 Inv-loop μ-loop
-add-word-at-2 c = search needs
-
-add-word-at-3 : tie.Need-add-word-at-3 Inv-loop μ-loop
-add-word-at-3 c = search needs
-
-word-at-requires-2 : tie.Need-word-at-requires-2 Inv-loop μ-loop
-word-at-requires-2 c κs = search needs
 
 cast-v : tie.Need-cast-v Inv-loop μ-loop
 cast-v c = search needs
 
 number-def-variables-requires : tie.Need-number-def-variables-requires Inv-loop μ-loop
-number-def-variables-requires c κs = (definitions-first _ _ _ _ _ _ (c .before .before .before .before .before .before .word-at .ensures) (c .before .before .before .before .before .word-at2 .ensures) (c .before .before .before .before .before .before .before .before .before .before .pre .0 .1) (c .before .before .before .before .before .before .before .loop-test .taken) (c .before .before .before .before .before .before .before .before .loop .inv .0 .1), c .before .before .before .before .before .before .before .before .loop .inv .1 .0)
+number-def-variables-requires c κs =
+    let read = c .before .before .before .before .before .before .before .definition-at .ensures in
+    let turn = c .before .before .before .before .before .before .before .before .before .loop in
+    let fit = c .before .before .before .before .before .before .before .before .before .before .before .pre .0 .1 in
+    let less = c .before .before .before .before .before .before .before .before .loop-test .taken in
+    (definitions-first _ _ _ _ _ _ (pattern-is read) (value-is read) fit less (turn .inv .0 .1), turn .inv .1 .0)
 
 add-i : tie.Need-add-i Inv-loop μ-loop
 add-i c = search needs
@@ -59,7 +46,16 @@ loop-less : tie.Need-loop-less Inv-loop μ-loop
 loop-less c = search needs
 
 loop-again : tie.Need-loop-again Inv-loop μ-loop
-loop-again c = let v = c .number-def-variables .ensures in ((omega arith, definitions-rest _ _ _ _ _ _ _ (c .before .before .before .before .before .before .before .word-at .ensures) (c .before .before .before .before .before .before .word-at2 .ensures) (c .before .before .before .before .before .before .before .before .loop-test .taken) (c .before .before .before .before .before .before .before .before .before .loop .inv .0 .1) (v .few)), ((v .sizes, v .row), λ r l g u o d w. c .before .before .before .before .before .before .before .before .before .loop .inv .1 .1 r l g u o d (definitions-step _ _ _ _ _ _ (c .before .before .before .before .before .before .before .word-at .ensures) (c .before .before .before .before .before .before .word-at2 .ensures) (c .before .before .before .before .before .before .before .before .loop-test .taken) (c .before .before .before .before .before .before .before .before .before .loop .inv .0 .1) v w)))
+loop-again c =
+    let v = c .number-def-variables .ensures in
+    let read = c .before .before .before .before .before .before .before .before .definition-at .ensures in
+    let less = c .before .before .before .before .before .before .before .before .before .loop-test .taken in
+    let inv = c .before .before .before .before .before .before .before .before .before .before .loop .inv in
+    let p = pattern-is read in
+    let x = value-is read in (
+      (omega arith, definitions-rest _ _ _ _ _ _ _ p x less (inv .0 .1) (v .few)),
+      ((v .sizes, v .row), λ r l g u o d w. inv .1 .1 r l g u o d (definitions-step _ _ _ _ _ _ p x less (inv .0 .1) v w)),
+    )
 
 returns : tie.Need-returns Inv-loop μ-loop
 returns c = c .before .loop .inv .1 .1 _ _ _ _ _ _ (definitions-end _ _ _ _ _ _ (c .loop-test .left) (c .before .loop .inv .1 .0 .0) (c .before .loop .inv .1 .0 .1))
@@ -71,14 +67,8 @@ number-definitions-spec =
     Inv-loop
     μ-loop
     loop-holds
-    mul-word-at
-    add-word-at
-    word-at-requires
+    definition-at-requires
     cast-p
-    mul-word-at-2
-    add-word-at-2
-    add-word-at-3
-    word-at-requires-2
     cast-v
     number-def-variables-requires
     add-i

@@ -3,7 +3,6 @@ use Rattle.numbering.proofs.listing.number_expressions.Tie as tie
 use Rattle.numbering.proofs.listing.number_expressions.Reads as reads
 use Rattle.numbering.proofs.listing.number_expressions.Lts as lts
 use Rattle.numbering.proofs.expressions.number_expr_variables.Reads as number-expr-variables-reads
-use Rattle.words.proofs.word_at.Reads as word-at-reads
 use borrow.Author.Needs.{needs}
 use native.Mathlib.Omega.{arith}
 use Prim.Native.Nat.{ℕ, _-_, _+_, _*_, _≤_, _<_}
@@ -22,17 +21,18 @@ abbrev μ-loop : tie.MeasureT-loop
 loop-holds : tie.Need-loop-holds Inv-loop μ-loop
 loop-holds c = ((omega arith, expressions-all _ _ _ _ _ (c .before .pre .1 .0)), (c .before .pre .1 .1, λ r l g u o d w. expressions-start _ _ _ _ _ w))
 
-add-word-at : tie.Need-add-word-at Inv-loop μ-loop
-add-word-at c = search needs
-
-word-at-requires : tie.Need-word-at-requires Inv-loop μ-loop
-word-at-requires c κs = search needs
+expression-at-requires : tie.Need-expression-at-requires Inv-loop μ-loop
+expression-at-requires c κs = search needs
 
 cast-e : tie.Need-cast-e Inv-loop μ-loop
 cast-e c = search needs
 
 number-expr-variables-requires : tie.Need-number-expr-variables-requires Inv-loop μ-loop
-number-expr-variables-requires c κs = (expressions-first _ _ _ _ _ _ (c .before .before .before .before .before .word-at .ensures) (c .before .before .before .before .before .before .before .before .before .pre .0 .1) (c .before .before .before .before .before .before .loop-test .taken) (c .before .before .before .before .before .before .before .loop .inv .0 .1), c .before .before .before .before .before .before .before .loop .inv .1 .0)
+number-expr-variables-requires c κs =
+    let read = c .before .before .before .before .before .expression-at .ensures in
+    let turn = c .before .before .before .before .before .before .before .loop in
+    let fit = c .before .before .before .before .before .before .before .before .before .pre .0 .1 in
+    (expressions-first _ _ _ _ _ _ read fit (c .before .before .before .before .before .before .loop-test .taken) (turn .inv .0 .1), turn .inv .1 .0)
 
 add-i : tie.Need-add-i Inv-loop μ-loop
 add-i c = search needs
@@ -41,7 +41,14 @@ loop-less : tie.Need-loop-less Inv-loop μ-loop
 loop-less c = search needs
 
 loop-again : tie.Need-loop-again Inv-loop μ-loop
-loop-again c = let v = c .number-expr-variables .ensures in ((omega arith, expressions-rest _ _ _ _ _ _ _ (c .before .before .before .before .before .before .word-at .ensures) (c .before .before .before .before .before .before .before .loop-test .taken) (c .before .before .before .before .before .before .before .before .loop .inv .0 .1) (v .few)), ((v .sizes, v .row), λ r l g u o d w. c .before .before .before .before .before .before .before .before .loop .inv .1 .1 r l g u o d (expressions-step _ _ _ _ _ _ (c .before .before .before .before .before .before .word-at .ensures) (c .before .before .before .before .before .before .before .loop-test .taken) (c .before .before .before .before .before .before .before .before .loop .inv .0 .1) v w)))
+loop-again c =
+    let v = c .number-expr-variables .ensures in
+    let read = c .before .before .before .before .before .before .expression-at .ensures in
+    let less = c .before .before .before .before .before .before .before .loop-test .taken in
+    let inv = c .before .before .before .before .before .before .before .before .loop .inv in (
+      (omega arith, expressions-rest _ _ _ _ _ _ _ read less (inv .0 .1) (v .few)),
+      ((v .sizes, v .row), λ r l g u o d w. inv .1 .1 r l g u o d (expressions-step _ _ _ _ _ _ read less (inv .0 .1) v w)),
+    )
 
 returns : tie.Need-returns Inv-loop μ-loop
 returns c = c .before .loop .inv .1 .1 _ _ _ _ _ _ (expressions-end _ _ _ _ _ _ (c .loop-test .left) (c .before .loop .inv .1 .0 .0) (c .before .loop .inv .1 .0 .1))
@@ -53,8 +60,7 @@ number-expressions-spec =
     Inv-loop
     μ-loop
     loop-holds
-    add-word-at
-    word-at-requires
+    expression-at-requires
     cast-e
     number-expr-variables-requires
     add-i

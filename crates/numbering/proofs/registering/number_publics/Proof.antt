@@ -3,7 +3,6 @@ use Rattle.numbering.proofs.registering.number_publics.Tie as tie
 use Rattle.numbering.proofs.registering.number_publics.Reads as reads
 use Rattle.numbering.proofs.registering.number_publics.Lts as lts
 use Rattle.numbering.proofs.rows.number_variable.Reads as number-variable-reads
-use Rattle.words.proofs.word_at.Reads as word-at-reads
 use borrow.Author.Needs.{needs}
 use native.Mathlib.Omega.{arith}
 use Prim.Native.Nat.{ℕ, _-_, _+_, _*_, _≤_, _<_}
@@ -22,17 +21,21 @@ abbrev μ-loop : tie.MeasureT-loop
 loop-holds : tie.Need-loop-holds Inv-loop μ-loop
 loop-holds c = ((omega arith, (omega arith, omega arith)), ((c .before .pre .1 .1 .0, c .before .pre .1 .1 .1 .0), λ r g p w. publics-start _ _ _ w))
 
-add-word-at : tie.Need-add-word-at Inv-loop μ-loop
-add-word-at c = search needs
-
-word-at-requires : tie.Need-word-at-requires Inv-loop μ-loop
-word-at-requires c κs = search needs
+public-at-requires : tie.Need-public-at-requires Inv-loop μ-loop
+public-at-requires c κs = search needs
 
 cast-x : tie.Need-cast-x Inv-loop μ-loop
 cast-x c = search needs
 
 number-variable-requires : tie.Need-number-variable-requires Inv-loop μ-loop
-number-variable-requires c κs = (public-name _ _ _ _ _ (c .before .before .before .before .before .pre .0 .1) (c .before .before .before .before .before .pre .1 .0 .0) (c .before .before .loop-test .taken) (c .before .word-at .ensures), (omega (arith, c .before .before .before .loop .inv .0 .1 .1, c .before .before .before .loop .inv .0 .0, c .before .before .before .before .before .pre .1 .0 .1, c .before .before .before .before .before .pre .1 .1 .1 .1), c .before .before .before .loop .inv .1 .0 .0))
+number-variable-requires c κs =
+    let start = c .before .before .before .before .before in
+    let turn = c .before .before .before .loop in
+    let less = c .before .before .loop-test .taken in
+    let few = start .pre .1 in (
+      public-name _ _ _ _ _ (start .pre .0 .1) (few .0 .0) less (c .before .public-at .ensures),
+      (omega (arith, turn .inv .0 .1 .1, turn .inv .0 .0, few .0 .1, few .1 .1 .1), turn .inv .1 .0 .0),
+    )
 
 mul-publics : tie.Need-mul-publics Inv-loop μ-loop
 mul-publics c = search needs
@@ -47,7 +50,19 @@ loop-less : tie.Need-loop-less Inv-loop μ-loop
 loop-less c = search needs
 
 loop-again : tie.Need-loop-again Inv-loop μ-loop
-loop-again c = let v = c .number-variable .ensures in ((omega arith, (omega (arith, v .more, c .before .before .before .before .loop .inv .0 .1 .0), omega (arith, v .few, c .before .before .before .before .loop .inv .0 .1 .1))), ((v .row, simp length-set (c .before .before .before .before .loop .inv .1 .0 .1)), λ r g p w. c .before .before .before .before .loop .inv .1 .1 r g p (publics-step _ _ _ _ (c .before .before .word-at .ensures) (c .before .before .before .loop-test .taken) (omega (arith, c .before .before .before .before .loop .inv .1 .0 .1, c .before .before .before .loop-test .taken, c .before .before .before .before .before .before .pre .1 .0 .1)) v w)))
+loop-again c =
+    let v = c .number-variable .ensures in
+    let turn = c .before .before .before .before .loop in
+    let inv = turn .inv in
+    let few = c .before .before .before .before .before .before .pre .1 .0 .1 in
+    let less = c .before .before .before .loop-test .taken in
+    let room : turn .i < length (turn .publics) = omega (arith, inv .1 .0 .1, less, few) in (
+      (omega arith, (omega (arith, v .more, inv .0 .1 .0), omega (arith, v .few, inv .0 .1 .1))),
+      (
+        (v .row, simp length-set (inv .1 .0 .1)),
+        λ r g p w. inv .1 .1 r g p (publics-step _ _ _ _ (c .before .before .public-at .ensures) less room v w),
+      ),
+    )
 
 returns : tie.Need-returns Inv-loop μ-loop
 returns c = c .before .loop .inv .1 .1 _ _ _ (publics-end _ _ _ _ (c .loop-test .left) (c .before .loop .inv .1 .0 .0) (c .before .loop .inv .1 .0 .1))
@@ -59,8 +74,7 @@ number-publics-spec =
     Inv-loop
     μ-loop
     loop-holds
-    add-word-at
-    word-at-requires
+    public-at-requires
     cast-x
     number-variable-requires
     mul-publics

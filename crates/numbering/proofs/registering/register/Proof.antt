@@ -3,7 +3,6 @@ use Rattle.numbering.proofs.registering.register.Tie as tie
 use Rattle.numbering.proofs.registering.register.Reads as reads
 use Rattle.numbering.proofs.registering.register.Lts as lts
 use Rattle.numbering.proofs.registering.same_text.Reads as same-text-reads
-use Rattle.words.proofs.word_at.Reads as word-at-reads
 use borrow.Author.Needs.{needs}
 use native.Mathlib.Omega.{arith}
 use Prim.Native.Nat.{ℕ, _-_, _+_, _*_, _≤_, _<_}
@@ -12,6 +11,7 @@ use lib.ListN.{length, length-set}
 use borrow.Author.Tests.{not-true, not-false}
 use Rattle.source.specs.Indices.{rows}
 use Rattle.source.specs.Names.{nameOf}
+use Rattle.source.proofs.Parts.{offset-is, size-is}
 use Rattle.numbering.specs.Numbering.{named}
 use Rattle.numbering.proofs.First.{text-at, text-fits, found-start, found-no, found-yes, found-none}
 
@@ -24,38 +24,29 @@ abbrev μ-loop : tie.MeasureT-loop
 loop-holds : tie.Need-loop-holds Inv-loop μ-loop
 loop-holds c = (found-start (c .before .before .args .s .now) (c .before .before .args .t .now) (c .before .before .args .text) (c .before .before .args .count) (c .before .before .args .id), (omega arith, refl))
 
-mul-word-at : tie.Need-mul-word-at Inv-loop μ-loop
-mul-word-at c = search needs
+name-at-requires : tie.Need-name-at-requires Inv-loop μ-loop
+name-at-requires c κs = search needs
 
-add-word-at : tie.Need-add-word-at Inv-loop μ-loop
-add-word-at c = search needs
+-- the bytes of the name that was read lie in the file
+name-inside : (c : tie.After-name-at Inv-loop μ-loop) →
+    let args = c .before .before .before .before .before .args in
+    let name = c .name-at .result in
+    args .text + name .offset + name .size ≤ length (args .s .now)
+name-inside c =
+    let read = c .name-at .ensures in
+    text-fits _ _ _ _ (c .before .before .before .before .before .pre .0 .0) (c .before .loop-test .taken) (offset-is read) (size-is read)
 
-word-at-requires : tie.Need-word-at-requires Inv-loop μ-loop
-word-at-requires c κs = search needs
-
-cast-offset : tie.Need-cast-offset Inv-loop μ-loop
-cast-offset c = search needs
-
-mul-word-at-2 : tie.Need-mul-word-at-2 Inv-loop μ-loop
-mul-word-at-2 c = search needs
-
-add-word-at-2 : tie.Need-add-word-at-2 Inv-loop μ-loop
-add-word-at-2 c = search needs
-
-add-word-at-3 : tie.Need-add-word-at-3 Inv-loop μ-loop
-add-word-at-3 c = search needs
-
-word-at-requires-2 : tie.Need-word-at-requires-2 Inv-loop μ-loop
-word-at-requires-2 c κs = search needs
-
-cast-n : tie.Need-cast-n Inv-loop μ-loop
-cast-n c = search needs
+cast-same-text : tie.Need-cast-same-text Inv-loop μ-loop
+cast-same-text c = search needs
 
 add-same-text : tie.Need-add-same-text Inv-loop μ-loop
-add-same-text c = omega (arith, text-fits _ _ _ _ (c .before .before .before .before .before .before .pre .0 .0) (c .before .before .loop-test .taken) (c .before .word-at .ensures) (c .word-at2 .ensures))
+add-same-text c = omega (arith, name-inside (c .before))
+
+cast-same-text-2 : tie.Need-cast-same-text-2 Inv-loop μ-loop
+cast-same-text-2 c = search needs
 
 same-text-requires : tie.Need-same-text-requires Inv-loop μ-loop
-same-text-requires c κs = text-fits _ _ _ _ (c .before .before .before .before .before .before .pre .0 .0) (c .before .before .loop-test .taken) (c .before .word-at .ensures) (c .word-at2 .ensures)
+same-text-requires c κs = name-inside (c .before .before)
 
 add-globals : tie.Need-add-globals Inv-loop μ-loop
 add-globals c = search needs
@@ -67,7 +58,16 @@ element-write-globals : tie.Need-element-write-globals Inv-loop μ-loop
 element-write-globals c = search needs
 
 returns : tie.Need-returns Inv-loop μ-loop
-returns c = rw (c .before .before .before .before .before .loop .inv .1 .1) (found-yes (c .before .before .before .before .before .before .before .before .args .s .now) (c .before .before .before .before .before .before .before .before .args .t .now) (c .before .before .before .before .before .before .before .before .args .text) (c .before .before .before .before .before .before .before .before .args .count) (c .before .before .before .before .before .before .before .before .args .id) _ (c .before .before .before .before .loop-test .taken) (c .before .before .before .before .before .before .before .before .pre .1 .0 .0) (c .before .before .before .before .before .before .before .before .pre .1 .0 .1) (text-at _ _ _ _ (c .before .before .before .word-at .ensures) (c .before .before .word-at2 .ensures) (c .before .same-text .ensures)) (c .if1 .taken) (c .before .before .before .before .before .loop .inv .0))
+returns c =
+    let start = c .before .before .before .before .before .before .before .before .before in
+    let args = start .args in
+    let turn = c .before .before .before .before .before .before .loop in
+    let less = c .before .before .before .before .before .loop-test .taken in
+    let read = c .before .before .before .before .name-at .ensures in
+    let is = text-at _ _ _ _ (offset-is read) (size-is read) (c .before .same-text .ensures) in
+    let few = start .pre .1 .0 in
+    rw (turn .inv .1 .1)
+    (found-yes (args .s .now) (args .t .now) (args .text) (args .count) (args .id) _ less (few .0) (few .1) is (c .if1 .taken) (turn .inv .0))
 
 add-k : tie.Need-add-k Inv-loop μ-loop
 add-k c = search needs
@@ -76,7 +76,14 @@ loop-less : tie.Need-loop-less Inv-loop μ-loop
 loop-less c = search needs
 
 loop-again : tie.Need-loop-again Inv-loop μ-loop
-loop-again c = (found-no (c .before .before .before .before .before .before .before .before .args .s .now) (c .before .before .before .before .before .before .before .before .args .t .now) (c .before .before .before .before .before .before .before .before .args .text) (c .before .before .before .before .before .before .before .before .args .count) (c .before .before .before .before .before .before .before .before .args .id) _ (c .before .before .before .before .loop-test .taken) (text-at _ _ _ _ (c .before .before .before .word-at .ensures) (c .before .before .word-at2 .ensures) (c .before .same-text .ensures)) (c .if1 .left) (c .before .before .before .before .before .loop .inv .0), (omega arith, c .before .before .before .before .before .loop .inv .1 .1))
+loop-again c =
+    let args = c .before .before .before .before .before .before .before .before .before .args in
+    let turn = c .before .before .before .before .before .before .loop in
+    let less = c .before .before .before .before .before .loop-test .taken in
+    let read = c .before .before .before .before .name-at .ensures in
+    let is = text-at _ _ _ _ (offset-is read) (size-is read) (c .before .same-text .ensures) in
+    let rest = found-no (args .s .now) (args .t .now) (args .text) (args .count) (args .id) _ less is (c .if1 .left) (turn .inv .0) in
+    (rest, (omega arith, turn .inv .1 .1))
 
 returns-2 : tie.Need-returns-2 Inv-loop μ-loop
 returns-2 c = rw (c .before .loop .inv .1 .1) (found-none (c .before .before .before .before .args .s .now) (c .before .before .before .before .args .t .now) (c .before .before .before .before .args .text) (c .before .before .before .before .args .count) (c .before .before .before .before .args .id) _ (c .loop-test .left) (c .before .before .before .before .pre .1 .0 .1) (c .before .loop .inv .0))
@@ -88,16 +95,10 @@ register-spec =
     Inv-loop
     μ-loop
     loop-holds
-    mul-word-at
-    add-word-at
-    word-at-requires
-    cast-offset
-    mul-word-at-2
-    add-word-at-2
-    add-word-at-3
-    word-at-requires-2
-    cast-n
+    name-at-requires
+    cast-same-text
     add-same-text
+    cast-same-text-2
     same-text-requires
     add-globals
     mul-globals

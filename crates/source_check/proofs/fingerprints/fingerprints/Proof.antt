@@ -3,11 +3,12 @@ use Rattle.source_check.proofs.fingerprints.fingerprints.Statement.{sta
 use Rattle.source_check.proofs.fingerprints.fingerprints.Tie as tie
 use borrow.Author.Needs.{needs}
 use native.Mathlib.Omega.{arith}
-use Prim.Native.Nat.{_-_, _≤_}
-use mathlib.Core.Path.{_≡_, refl}
+use Prim.Native.Nat.{_+_, _-_, _≤_, _<_}
+use mathlib.Core.Path.{_≡_}
 use lib.ListN.{length, length-set}
 use Rattle.source_check.specs.Fingerprints.{Fingerprinted}
 use Rattle.source_check.proofs.Prints.{print-set}
+use Rattle.source.proofs.Parts.{offset-is, size-is}
 use Rattle.source.proofs.Names.{named-at, inside}
 
 abbrev Inv-loop : tie.InvT-loop
@@ -19,32 +20,32 @@ abbrev μ-loop : tie.MeasureT-loop
 loop-holds : tie.Need-loop-holds Inv-loop μ-loop
 loop-holds c = ((λ k l. absurd (omega arith)), (search needs, omega arith))
 
-mul-count : tie.Need-mul-count Inv-loop μ-loop
-mul-count c = search needs
+name-at-requires : tie.Need-name-at-requires Inv-loop μ-loop
+name-at-requires c κs = search needs
 
-add-count : tie.Need-add-count Inv-loop μ-loop
-add-count c = search needs
+-- the bytes of the name that was read lie in the file
+name-inside : (c : tie.After-name-at Inv-loop μ-loop) →
+    let args = c .before .before .before .before .args in
+    let name = c .name-at .result in
+    args .text + name .offset + name .size ≤ length (args .s .now)
+name-inside c =
+    let start = c .before .before .before .before in
+    let args = start .args in
+    let read = c .name-at .ensures in
+    let named = named-at (args .s .now) (args .text) (args .n) (c .before .before .loop .k) (start .pre .0 .1) (c .before .loop-test .taken) in
+    inside (args .s .now) _ _ (size-is read) (offset-is read) named
 
-count-requires : tie.Need-count-requires Inv-loop μ-loop
-count-requires c κs = search needs
+cast-from : tie.Need-cast-from Inv-loop μ-loop
+cast-from c = search needs
 
 add-from : tie.Need-add-from Inv-loop μ-loop
-add-from c = omega (arith, inside (c .before .before .before .before .args .s .now) _ _ refl (c .count .ensures .0) (named-at (c .before .before .before .before .args .s .now) (c .before .before .before .before .args .text) (c .before .before .before .before .args .n) (c .before .before .loop .k) (c .before .before .before .before .pre .0 .1) (c .before .loop-test .taken)))
+add-from c = omega (arith, name-inside (c .before))
 
-mul-count-2 : tie.Need-mul-count-2 Inv-loop μ-loop
-mul-count-2 c = search needs
-
-add-count-2 : tie.Need-add-count-2 Inv-loop μ-loop
-add-count-2 c = search needs
-
-add-count-3 : tie.Need-add-count-3 Inv-loop μ-loop
-add-count-3 c = search needs
-
-count-requires-2 : tie.Need-count-requires-2 Inv-loop μ-loop
-count-requires-2 c κs = search needs
+cast-fingerprint : tie.Need-cast-fingerprint Inv-loop μ-loop
+cast-fingerprint c = search needs
 
 fingerprint-requires : tie.Need-fingerprint-requires Inv-loop μ-loop
-fingerprint-requires c κs = inside (c .before .before .before .before .before .args .s .now) _ _ (c .count2 .ensures .0) (c .before .count .ensures .0) (named-at (c .before .before .before .before .before .args .s .now) (c .before .before .before .before .before .args .text) (c .before .before .before .before .before .args .n) (c .before .before .before .loop .k) (c .before .before .before .before .before .pre .0 .1) (c .before .before .loop-test .taken))
+fingerprint-requires c κs = name-inside (c .before .before)
 
 mul-r : tie.Need-mul-r Inv-loop μ-loop
 mul-r c = search needs
@@ -59,7 +60,14 @@ loop-less : tie.Need-loop-less Inv-loop μ-loop
 loop-less c = search needs
 
 loop-again : tie.Need-loop-again Inv-loop μ-loop
-loop-again c = (print-set (c .before .before .before .before .before .before .args .s .now) _ _ (c .before .before .before .before .loop .r) (omega (arith, c .before .before .before .before .loop .inv .1 .0, c .before .before .before .loop-test .taken, c .before .before .before .before .before .before .pre .1)) (c .before .before .before .before .loop .inv .0) (c .before .before .count .ensures .0) (c .before .count2 .ensures .0) (c .fingerprint .ensures), (simp length-set (c .before .before .before .before .loop .inv .1 .0), omega arith))
+loop-again c =
+    let start = c .before .before .before .before .before .before .before in
+    let turn = c .before .before .before .before .before .loop in
+    let read = c .before .before .before .name-at .ensures in
+    let room : turn .k < length (turn .r) = omega (arith, turn .inv .1 .0, c .before .before .before .before .loop-test .taken, start .pre .1) in (
+      print-set (start .args .s .now) _ _ (turn .r) room (turn .inv .0) (offset-is read) (size-is read) (c .fingerprint .ensures),
+      (simp length-set (turn .inv .1 .0), omega arith),
+    )
 
 returns : tie.Need-returns Inv-loop μ-loop
 returns c = (c .before .loop .inv .1 .0, (λ k l. c .before .loop .inv .0 k (omega (arith, l, c .loop-test .left))))
@@ -71,14 +79,10 @@ fingerprints-spec =
     Inv-loop
     μ-loop
     loop-holds
-    mul-count
-    add-count
-    count-requires
+    name-at-requires
+    cast-from
     add-from
-    mul-count-2
-    add-count-2
-    add-count-3
-    count-requires-2
+    cast-fingerprint
     fingerprint-requires
     mul-r
     array-write-r

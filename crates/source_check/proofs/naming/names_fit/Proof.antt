@@ -10,6 +10,7 @@ use borrow.Author.Tests.{not-true, not-false}
 use Rattle.source.specs.Indices.{every}
 use Rattle.source.specs.Names.{endOf, nameFits}
 use Rattle.source.proofs.Laws.{every-none, every-more}
+use Rattle.source.proofs.Parts.{offset-is, size-is}
 use Rattle.source.proofs.Names.{end-none, end-more, names-fail, names-end}
 
 abbrev Inv-loop : tie.InvT-loop
@@ -27,26 +28,14 @@ name-fits-requires c κs = (omega (arith, c .before .before .before .pre .0), (c
 returns : tie.Need-returns Inv-loop μ-loop
 returns c = names-fail (c .before .before .before .before .before .args .s .now) _ _ (c .before .before .before .loop .k) (c .before .before .loop-test .taken) (c .before .name-fits .ensures) (not-true _ (c .if1 .taken))
 
-mul-count : tie.Need-mul-count Inv-loop μ-loop
-mul-count c = search needs
+name-at-requires : tie.Need-name-at-requires Inv-loop μ-loop
+name-at-requires c κs = search needs
 
-add-count : tie.Need-add-count Inv-loop μ-loop
-add-count c = search needs
+cast-end : tie.Need-cast-end Inv-loop μ-loop
+cast-end c = search needs
 
-count-requires : tie.Need-count-requires Inv-loop μ-loop
-count-requires c κs = search needs
-
-mul-count-2 : tie.Need-mul-count-2 Inv-loop μ-loop
-mul-count-2 c = search needs
-
-add-count-2 : tie.Need-add-count-2 Inv-loop μ-loop
-add-count-2 c = search needs
-
-add-count-3 : tie.Need-add-count-3 Inv-loop μ-loop
-add-count-3 c = search needs
-
-count-requires-2 : tie.Need-count-requires-2 Inv-loop μ-loop
-count-requires-2 c κs = search needs
+cast-end-2 : tie.Need-cast-end-2 Inv-loop μ-loop
+cast-end-2 c = search needs
 
 add-end : tie.Need-add-end Inv-loop μ-loop
 add-end c = search needs
@@ -58,7 +47,12 @@ loop-less : tie.Need-loop-less Inv-loop μ-loop
 loop-less c = search needs
 
 loop-again : tie.Need-loop-again Inv-loop μ-loop
-loop-again c = ((every-more _ _ (c .before .before .before .before .before .loop .inv .0 .0) (sym (c .before .before .before .name-fits .ensures) ∙ not-false _ (c .before .before .if1 .left)), end-more (c .before .before .before .before .before .before .before .args .s .now) _ (c .before .count .ensures .0) (c .count2 .ensures .0)), (omega arith, omega (arith, c .before .count .ensures .1, c .count2 .ensures .1)))
+loop-again c =
+    let b = c .before .before .before .before .before .before .before .before .args .s .now in
+    let turn = c .before .before .before .before .before .before .loop in
+    let read = c .before .before .name-at .ensures in
+    let fits = sym (c .before .before .before .before .name-fits .ensures) ∙ not-false _ (c .before .before .before .if1 .left) in
+    ((every-more _ _ (turn .inv .0 .0) fits, end-more b _ (offset-is read) (size-is read)), (omega arith, search needs))
 
 add-result : tie.Need-add-result Inv-loop μ-loop
 add-result c = search needs
@@ -75,13 +69,9 @@ names-fit-spec =
     loop-holds
     name-fits-requires
     returns
-    mul-count
-    add-count
-    count-requires
-    mul-count-2
-    add-count-2
-    add-count-3
-    count-requires-2
+    name-at-requires
+    cast-end
+    cast-end-2
     add-end
     add-k
     loop-less

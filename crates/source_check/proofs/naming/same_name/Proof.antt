@@ -3,86 +3,85 @@ use borrow.Author.Needs.{needs}
 use Rattle.source_check.proofs.naming.same_name.Statement.{statement}
 use Rattle.source_check.proofs.naming.same_name.Tie as tie
 use native.Mathlib.Omega.{arith}
-use mathlib.Core.Path.{_∙_}
+use Prim.Native.Nat.{_+_, _≤_}
+use mathlib.Core.Path.{_≡_, _∙_}
+use lib.ListN.{length}
+use Rattle.source.proofs.Parts.{offset-is, size-is}
 use Rattle.source.proofs.Names.{named-at, same-length-no, same-length-on, inside}
 
-mul-count : tie.Need-mul-count
-mul-count c = search needs
+name-at-requires : tie.Need-name-at-requires
+name-at-requires c κs = search needs
 
-add-count : tie.Need-add-count
-add-count c = search needs
-
-add-count-2 : tie.Need-add-count-2
-add-count-2 c = search needs
-
-count-requires : tie.Need-count-requires
-count-requires c κs = search needs
-
-mul-count-2 : tie.Need-mul-count-2
-mul-count-2 c = search needs
-
-add-count-3 : tie.Need-add-count-3
-add-count-3 c = search needs
-
-add-count-4 : tie.Need-add-count-4
-add-count-4 c = search needs
-
-count-requires-2 : tie.Need-count-requires-2
-count-requires-2 c κs = search needs
+name-at-requires-2 : tie.Need-name-at-requires-2
+name-at-requires-2 c κs = search needs
 
 returns : tie.Need-returns
-returns c = same-length-no (c .before .before .before .before .args .s .now) _ _ _ (c .before .before .count .ensures .0) (c .before .count2 .ensures .0) (c .if1 .taken)
+returns c =
+    let one = c .before .before .before .before .name-at .ensures in
+    let other = c .before .before .before .name-at2 .ensures in
+    same-length-no (c .before .before .before .before .before .before .args .s .now) _ _ _ (size-is one) (size-is other) (c .if1 .taken)
 
-mul-count-3 : tie.Need-mul-count-3
-mul-count-3 c = search needs
+-- the bytes of the two names that were read lie in the file
+one-inside : (c : tie.After-name-at2) →
+    let args = c .before .before .before .args in
+    let one = c .before .name-at .result in
+    args .text + one .offset + one .size ≤ length (args .s .now)
+one-inside c =
+    let start = c .before .before .before in
+    let args = start .args in
+    let read = c .before .name-at .ensures in
+    let named = named-at (args .s .now) (args .text) (args .n) (args .j) (start .pre .0 .1) (start .pre .1 .0) in
+    inside (args .s .now) _ _ (size-is read) (offset-is read) named
 
-add-count-5 : tie.Need-add-count-5
-add-count-5 c = search needs
+other-inside : (c : tie.After-name-at2) → c .before .name-at .result .size ≡ c .name-at2 .result .size →
+    let args = c .before .before .before .args in
+    args .text + c .name-at2 .result .offset + c .before .name-at .result .size ≤ length (args .s .now)
+other-inside c same =
+    let start = c .before .before .before in
+    let args = start .args in
+    let read = c .name-at2 .ensures in
+    let named = named-at (args .s .now) (args .text) (args .n) (args .k) (start .pre .0 .1) (start .pre .1 .1) in
+    inside (args .s .now) _ _ (same ∙ size-is read) (offset-is read) named
 
-count-requires-3 : tie.Need-count-requires-3
-count-requires-3 c κs = search needs
+cast-from : tie.Need-cast-from
+cast-from c = search needs
 
 add-from : tie.Need-add-from
-add-from c = omega (arith, (inside (c .before .before .before .before .before .args .s .now) _ _ (c .before .before .before .count .ensures .0) (c .count3 .ensures .0) (named-at (c .before .before .before .before .before .args .s .now) (c .before .before .before .before .before .args .text) (c .before .before .before .before .before .args .n) (c .before .before .before .before .before .args .j) (c .before .before .before .before .before .pre .0 .1) (c .before .before .before .before .before .pre .1 .0))))
+add-from c = omega (arith, one-inside (c .before .before .before .before))
 
-mul-count-4 : tie.Need-mul-count-4
-mul-count-4 c = search needs
-
-add-count-6 : tie.Need-add-count-6
-add-count-6 c = search needs
-
-count-requires-4 : tie.Need-count-requires-4
-count-requires-4 c κs = search needs
+cast-to : tie.Need-cast-to
+cast-to c = search needs
 
 add-to : tie.Need-add-to
-add-to c = omega (arith, (inside (c .before .before .before .before .before .before .args .s .now) _ _ (c .before .before .if1 .left ∙ (c .before .before .before .count2 .ensures .0)) (c .count4 .ensures .0) (named-at (c .before .before .before .before .before .before .args .s .now) (c .before .before .before .before .before .before .args .text) (c .before .before .before .before .before .before .args .n) (c .before .before .before .before .before .before .args .k) (c .before .before .before .before .before .before .pre .0 .1) (c .before .before .before .before .before .before .pre .1 .1))))
+add-to c = omega (arith, other-inside (c .before .before .before .before .before) (c .before .before .if1 .left))
+
+cast-same-bytes : tie.Need-cast-same-bytes
+cast-same-bytes c = search needs
 
 same-bytes-requires : tie.Need-same-bytes-requires
-same-bytes-requires c κs = (inside (c .before .before .before .before .before .before .args .s .now) _ _ (c .before .before .before .before .count .ensures .0) (c .before .count3 .ensures .0) (named-at (c .before .before .before .before .before .before .args .s .now) (c .before .before .before .before .before .before .args .text) (c .before .before .before .before .before .before .args .n) (c .before .before .before .before .before .before .args .j) (c .before .before .before .before .before .before .pre .0 .1) (c .before .before .before .before .before .before .pre .1 .0)), inside (c .before .before .before .before .before .before .args .s .now) _ _ (c .before .before .if1 .left ∙ (c .before .before .before .count2 .ensures .0)) (c .count4 .ensures .0) (named-at (c .before .before .before .before .before .before .args .s .now) (c .before .before .before .before .before .before .args .text) (c .before .before .before .before .before .before .args .n) (c .before .before .before .before .before .before .args .k) (c .before .before .before .before .before .before .pre .0 .1) (c .before .before .before .before .before .before .pre .1 .1)))
+same-bytes-requires c κs =
+    let read = c .before .before .before .before .before .before in
+    (one-inside read, other-inside read (c .before .before .before .if1 .left))
 
 returns-2 : tie.Need-returns-2
-returns-2 c = same-length-on (c .before .before .before .before .before .before .before .args .s .now) _ _ _ (c .before .before .before .before .before .count .ensures .0) (c .before .before .before .before .count2 .ensures .0) (c .before .before .before .if1 .left) (c .before .before .count3 .ensures .0) (c .before .count4 .ensures .0) (c .same-bytes .ensures)
+returns-2 c =
+    let b = c .before .before .before .before .before .before .before .before .before .before .args .s .now in
+    let one = c .before .before .before .before .before .before .before .before .name-at .ensures in
+    let other = c .before .before .before .before .before .before .before .name-at2 .ensures in
+    let same = c .before .before .before .before .if1 .left in
+    same-length-on b _ _ _ (size-is one) (size-is other) same (offset-is one) (offset-is other) (c .same-bytes .ensures)
 
 pub same-name-spec : {M : Type 1} → statement M
 same-name-spec =
     tie.close
     (tie.spec
-    mul-count
-    add-count
-    add-count-2
-    count-requires
-    mul-count-2
-    add-count-3
-    add-count-4
-    count-requires-2
+    name-at-requires
+    name-at-requires-2
     returns
-    mul-count-3
-    add-count-5
-    count-requires-3
+    cast-from
     add-from
-    mul-count-4
-    add-count-6
-    count-requires-4
+    cast-to
     add-to
+    cast-same-bytes
     same-bytes-requires
     returns-2)

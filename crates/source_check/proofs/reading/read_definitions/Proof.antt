@@ -8,6 +8,7 @@ use mathlib.Core.Path.{_≡_, _∙_, ap, sym}
 use mathlib.Core.Bool.{true}
 use Rattle.source.specs.Nodes.{definitionsFit}
 use Rattle.source.specs.Uses.{byDefinitions}
+use Rattle.source.proofs.Parts.{pattern-is, value-is}
 use Rattle.source_check.specs.Marks.{Adds}
 use Rattle.source_check.proofs.Marks.{accepts, refuses, not-accepted}
 use Rattle.source_check.proofs.Lists.{definitions-none, definitions-pattern, definitions-value, definitions-more}
@@ -21,14 +22,11 @@ abbrev μ-loop : tie.MeasureT-loop
 loop-holds : tie.Need-loop-holds Inv-loop μ-loop
 loop-holds c = (definitions-none _ _ _ _ _, omega arith)
 
-mul-count : tie.Need-mul-count Inv-loop μ-loop
-mul-count c = search needs
+definition-at-requires : tie.Need-definition-at-requires Inv-loop μ-loop
+definition-at-requires c κs = search needs
 
-add-count : tie.Need-add-count Inv-loop μ-loop
-add-count c = search needs
-
-count-requires : tie.Need-count-requires Inv-loop μ-loop
-count-requires c κs = search needs
+cast-use-pattern : tie.Need-cast-use-pattern Inv-loop μ-loop
+cast-use-pattern c = search needs
 
 use-pattern-requires : tie.Need-use-pattern-requires Inv-loop μ-loop
 use-pattern-requires c κs = search needs
@@ -40,19 +38,18 @@ enum-told-2 : tie.Need-enum-told-2 Inv-loop μ-loop
 enum-told-2 c = search needs
 
 returns : tie.Need-returns Inv-loop μ-loop
-returns c = (refuses 5 _ (definitions-pattern (c .before .before .before .before .before .before .before .before .args .s .now) (c .before .before .before .before .before .before .before .before .args .at) (c .before .before .before .before .before .before .before .before .args .nodes) (c .before .before .before .before .before .before .before .before .args .list) (c .before .before .before .before .before .before .loop .k) (c .before .before .before .before .count .ensures .0) (c .before .before .use-pattern .ensures .0) _ (c .before .before .before .before .before .loop-test .taken) (c .enum-told2 .given .1)), λ e. not-accepted e)
+returns c =
+    let args = c .before .before .before .before .before .before .before .before .before .args in
+    let k = c .before .before .before .before .before .before .before .loop .k in
+    let less = c .before .before .before .before .before .before .loop-test .taken in
+    let read = c .before .before .before .before .before .definition-at .ensures in
+    let used = c .before .before .use-pattern .ensures .0 in
+    let no = c .enum-told2 .given .1 in
+    let fails = definitions-pattern (args .s .now) (args .at) (args .nodes) (args .list) k (pattern-is read) used _ less no in
+    (refuses 5 _ fails, λ e. not-accepted e)
 
-mul-count-2 : tie.Need-mul-count-2 Inv-loop μ-loop
-mul-count-2 c = search needs
-
-add-count-2 : tie.Need-add-count-2 Inv-loop μ-loop
-add-count-2 c = search needs
-
-add-count-3 : tie.Need-add-count-3 Inv-loop μ-loop
-add-count-3 c = search needs
-
-count-requires-2 : tie.Need-count-requires-2 Inv-loop μ-loop
-count-requires-2 c κs = search needs
+cast-use-expression : tie.Need-cast-use-expression Inv-loop μ-loop
+cast-use-expression c = search needs
 
 use-expression-requires : tie.Need-use-expression-requires Inv-loop μ-loop
 use-expression-requires c κs = search needs
@@ -64,7 +61,17 @@ enum-told-4 : tie.Need-enum-told-4 Inv-loop μ-loop
 enum-told-4 c = search needs
 
 returns-2 : tie.Need-returns-2 Inv-loop μ-loop
-returns-2 c = (refuses 5 _ (definitions-value (c .before .before .before .before .before .before .before .before .before .before .before .before .before .args .s .now) (c .before .before .before .before .before .before .before .before .before .before .before .before .before .args .at) (c .before .before .before .before .before .before .before .before .before .before .before .before .before .args .nodes) (c .before .before .before .before .before .before .before .before .before .before .before .before .before .args .list) (c .before .before .before .before .before .before .before .before .before .before .before .loop .k) (c .before .before .before .before .before .before .before .before .before .count .ensures .0) (c .before .before .before .before .before .before .before .use-pattern .ensures .0) (c .before .before .before .before .before .enum-told .given .1) (c .before .before .before .before .count2 .ensures .0) (c .before .before .use-expression .ensures .0) _ (c .before .before .before .before .before .before .before .before .before .before .loop-test .taken) (c .enum-told4 .given .1)), λ e. not-accepted e)
+returns-2 c =
+    let args = c .before .before .before .before .before .before .before .before .before .before .before .before .before .before .args in
+    let k = c .before .before .before .before .before .before .before .before .before .before .before .before .loop .k in
+    let less = c .before .before .before .before .before .before .before .before .before .before .before .loop-test .taken in
+    let read = c .before .before .before .before .before .before .before .before .before .before .definition-at .ensures in
+    let first = c .before .before .before .before .before .before .before .use-pattern .ensures .0 in
+    let yes = c .before .before .before .before .before .enum-told .given .1 in
+    let second = c .before .before .use-expression .ensures .0 in
+    let no = c .enum-told4 .given .1 in
+    let fails = definitions-value (args .s .now) (args .at) (args .nodes) (args .list) k (pattern-is read) first yes (value-is read) second _ less no in
+    (refuses 5 _ fails, λ e. not-accepted e)
 
 add-k : tie.Need-add-k Inv-loop μ-loop
 add-k c = search needs
@@ -73,7 +80,22 @@ loop-less : tie.Need-loop-less Inv-loop μ-loop
 loop-less c = search needs
 
 loop-again : tie.Need-loop-again Inv-loop μ-loop
-loop-again c = (definitions-more (c .before .before .before .before .before .before .before .before .before .before .before .before .before .args .s .now) (c .before .before .before .before .before .before .before .before .before .before .before .before .before .args .at) (c .before .before .before .before .before .before .before .before .before .before .before .before .before .args .nodes) (c .before .before .before .before .before .before .before .before .before .before .before .before .before .args .list) (c .before .before .before .before .before .before .before .before .before .before .before .loop .k) (c .before .before .before .before .before .before .before .before .before .count .ensures .0) (c .before .before .before .before .before .before .before .use-pattern .ensures .0) (c .before .before .before .before .before .enum-told .given .1) (c .before .before .before .before .count2 .ensures .0) (c .before .before .use-expression .ensures .0) (c .before .before .before .before .before .before .before .before .before .before .before .loop .inv .0 .0) (c .before .before .before .before .before .before .before .before .before .before .before .loop .inv .0 .1) (c .before .before .before .before .before .before .before .use-pattern .ensures .1 (c .before .before .before .before .before .enum-told .given .1)) (c .enum-told3 .given .1) (c .before .before .use-expression .ensures .1 (c .enum-told3 .given .1)), omega arith)
+loop-again c =
+    let args = c .before .before .before .before .before .before .before .before .before .before .before .before .before .before .args in
+    let turn = c .before .before .before .before .before .before .before .before .before .before .before .before .loop in
+    let read = c .before .before .before .before .before .before .before .before .before .before .definition-at .ensures in
+    let first = c .before .before .before .before .before .before .before .use-pattern .ensures in
+    let one = c .before .before .before .before .before .enum-told .given .1 in
+    let second = c .before .before .use-expression .ensures in
+    let two = c .enum-told3 .given .1 in (
+      definitions-more (args .s .now) (args .at) (args .nodes) (args .list) (turn .k) (pattern-is read) (first .0) one (value-is read) (second .0)
+          (turn .inv .0 .0)
+          (turn .inv .0 .1)
+          (first .1 one)
+          two
+          (second .1 two),
+      omega arith,
+    )
 
 returns-3 : tie.Need-returns-3 Inv-loop μ-loop
 returns-3 c = let e : c .before .loop .k ≡ c .before .before .before .args .n = omega (arith, c .loop-test .left) in (accepts 5 _ (ap (definitionsFit (c .before .before .before .args .s .now) (c .before .before .before .args .at) (c .before .before .before .args .nodes) (c .before .before .before .args .list)) (sym e) ∙ c .before .loop .inv .0 .0), λ _. rw e at (c .before .loop .inv .0 .1))
@@ -85,17 +107,13 @@ read-definitions-spec =
     Inv-loop
     μ-loop
     loop-holds
-    mul-count
-    add-count
-    count-requires
+    definition-at-requires
+    cast-use-pattern
     use-pattern-requires
     enum-told
     enum-told-2
     returns
-    mul-count-2
-    add-count-2
-    add-count-3
-    count-requires-2
+    cast-use-expression
     use-expression-requires
     enum-told-3
     enum-told-4

@@ -21,11 +21,11 @@ abbrev μ-loop : tie.MeasureT-loop
 loop-holds : tie.Need-loop-holds Inv-loop μ-loop
 loop-holds c = (expressions-none _ _ _ _ _, omega arith)
 
-add-count : tie.Need-add-count Inv-loop μ-loop
-add-count c = search needs
+expression-at-requires : tie.Need-expression-at-requires Inv-loop μ-loop
+expression-at-requires c κs = search needs
 
-count-requires : tie.Need-count-requires Inv-loop μ-loop
-count-requires c κs = search needs
+cast-x : tie.Need-cast-x Inv-loop μ-loop
+cast-x c = search needs
 
 use-expression-requires : tie.Need-use-expression-requires Inv-loop μ-loop
 use-expression-requires c κs = search needs
@@ -37,7 +37,14 @@ enum-told-2 : tie.Need-enum-told-2 Inv-loop μ-loop
 enum-told-2 c = search needs
 
 returns : tie.Need-returns Inv-loop μ-loop
-returns c = (refuses 5 _ (expressions-fail (c .before .before .before .before .before .before .before .before .args .s .now) (c .before .before .before .before .before .before .before .before .args .at) (c .before .before .before .before .before .before .before .before .args .nodes) (c .before .before .before .before .before .before .before .before .args .list) (c .before .before .before .before .before .before .loop .k) (c .before .before .before .before .count .ensures .0) (c .before .before .use-expression .ensures .0) _ (c .before .before .before .before .before .loop-test .taken) (c .enum-told2 .given .1)), λ e. not-accepted e)
+returns c =
+    let args = c .before .before .before .before .before .before .before .before .args in
+    let k = c .before .before .before .before .before .before .loop .k in
+    let less = c .before .before .before .before .before .loop-test .taken in
+    let read = c .before .before .before .before .expression-at .ensures in
+    let used = c .before .before .use-expression .ensures .0 in
+    let no = c .enum-told2 .given .1 in
+    (refuses 5 _ (expressions-fail (args .s .now) (args .at) (args .nodes) (args .list) k read used _ less no), λ e. not-accepted e)
 
 add-k : tie.Need-add-k Inv-loop μ-loop
 add-k c = search needs
@@ -46,7 +53,15 @@ loop-less : tie.Need-loop-less Inv-loop μ-loop
 loop-less c = search needs
 
 loop-again : tie.Need-loop-again Inv-loop μ-loop
-loop-again c = (expressions-more (c .before .before .before .before .before .before .before .before .args .s .now) (c .before .before .before .before .before .before .before .before .args .at) (c .before .before .before .before .before .before .before .before .args .nodes) (c .before .before .before .before .before .before .before .before .args .list) (c .before .before .before .before .before .before .loop .k) (c .before .before .before .before .count .ensures .0) (c .before .before .use-expression .ensures .0) (c .before .before .before .before .before .before .loop .inv .0 .0) (c .before .before .before .before .before .before .loop .inv .0 .1) (c .enum-told .given .1) (c .before .before .use-expression .ensures .1 (c .enum-told .given .1)), omega arith)
+loop-again c =
+    let args = c .before .before .before .before .before .before .before .before .args in
+    let turn = c .before .before .before .before .before .before .loop in
+    let read = c .before .before .before .before .expression-at .ensures in
+    let used = c .before .before .use-expression .ensures in
+    let yes = c .enum-told .given .1 in (
+      expressions-more (args .s .now) (args .at) (args .nodes) (args .list) (turn .k) read (used .0) (turn .inv .0 .0) (turn .inv .0 .1) yes (used .1 yes),
+      omega arith,
+    )
 
 returns-2 : tie.Need-returns-2 Inv-loop μ-loop
 returns-2 c = let e : c .before .loop .k ≡ c .before .before .before .args .n = omega (arith, c .loop-test .left) in (accepts 5 _ (ap (expressionsFit (c .before .before .before .args .s .now) (c .before .before .before .args .at) (c .before .before .before .args .nodes) (c .before .before .before .args .list)) (sym e) ∙ c .before .loop .inv .0 .0), λ _. rw e at (c .before .loop .inv .0 .1))
@@ -58,8 +73,8 @@ read-expressions-spec =
     Inv-loop
     μ-loop
     loop-holds
-    add-count
-    count-requires
+    expression-at-requires
+    cast-x
     use-expression-requires
     enum-told
     enum-told-2

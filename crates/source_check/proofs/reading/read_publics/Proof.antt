@@ -19,14 +19,17 @@ abbrev μ-loop : tie.MeasureT-loop
 loop-holds : tie.Need-loop-holds Inv-loop μ-loop
 loop-holds c = (publics-none _ _ _, omega arith)
 
-add-count : tie.Need-add-count Inv-loop μ-loop
-add-count c = search needs
+public-at-requires : tie.Need-public-at-requires Inv-loop μ-loop
+public-at-requires c κs = search needs
 
-count-requires : tie.Need-count-requires Inv-loop μ-loop
-count-requires c κs = search needs
+cast-if1 : tie.Need-cast-if1 Inv-loop μ-loop
+cast-if1 c = search needs
 
 returns : tie.Need-returns Inv-loop μ-loop
-returns c = refuses 5 _ (publics-fail (c .before .before .before .before .before .args .s .now) _ _ _ (c .before .before .before .loop .k) (c .before .before .loop-test .taken) (c .before .count .ensures .0) (c .if1 .taken))
+returns c =
+    let b = c .before .before .before .before .before .args .s .now in
+    let read = c .before .public-at .ensures in
+    refuses 5 _ (publics-fail b _ _ _ (c .before .before .before .loop .k) (c .before .before .loop-test .taken) read (c .if1 .taken))
 
 add-k : tie.Need-add-k Inv-loop μ-loop
 add-k c = search needs
@@ -35,7 +38,9 @@ loop-less : tie.Need-loop-less Inv-loop μ-loop
 loop-less c = search needs
 
 loop-again : tie.Need-loop-again Inv-loop μ-loop
-loop-again c = (publics-more (c .before .before .before .before .before .args .s .now) _ _ _ (c .before .before .before .loop .inv .0) (c .before .count .ensures .0) (c .if1 .left), omega arith)
+loop-again c =
+    let b = c .before .before .before .before .before .args .s .now in
+    (publics-more b _ _ _ (c .before .before .before .loop .inv .0) (c .before .public-at .ensures) (c .if1 .left), omega arith)
 
 returns-2 : tie.Need-returns-2 Inv-loop μ-loop
 returns-2 c = let e : c .before .loop .k ≡ c .before .before .before .args .n = omega (arith, c .loop-test .left) in accepts 5 _ (ap (publicsFit (c .before .before .before .args .s .now) (c .before .before .before .args .names) (c .before .before .before .args .list)) (sym e) ∙ c .before .loop .inv .0)
@@ -47,8 +52,8 @@ read-publics-spec =
     Inv-loop
     μ-loop
     loop-holds
-    add-count
-    count-requires
+    public-at-requires
+    cast-if1
     returns
     add-k
     loop-less
