@@ -12,7 +12,6 @@ use lib.Dec.{ltb, eqb}
 use mir.Val.{SFits}
 use mir.Syntax.{w64}
 use borrow.Author.Tests.{eq-eqb, ne-eqb, ltb-true}
-use Rattle.words.specs.Words.{wordAt}
 use Rattle.field.specs.declared.InfixOp.{InfixOp}
 use Rattle.source.specs.declared.Entry.{Entry}
 use Rattle.source.specs.declared.Form.{Form}
@@ -20,6 +19,8 @@ use Rattle.source.specs.declared.Shape.{Shape}
 use Rattle.source.specs.declared.Chain.{Chain}
 use Rattle.source.specs.declared.Children.{Children}
 use Rattle.source.specs.Trees.{Pat, Expr, Items, Arms, Env}
+use Rattle.source.specs.declared.lists.NodeEntry.{NodeEntry}
+use Rattle.source.specs.Layout.{nodeEntry}
 use Rattle.source.specs.Nodes.{entryFor, entryOf, isExpression, isPattern, expressionFits, patternFits, itemFits, resultFits, linkFits, chainFits, childFits, childrenOf, childrenFit, nodesFit}
 use Rattle.source.specs.Record.{Tree, expressionOf, patternOf, linkOf, grown, tree, nodeTree}
 use Rattle.source.proofs.Laws.{split, and-left, and-right, not-both, every-at}
@@ -34,9 +35,9 @@ false-true h = let z : _≡_ {A = ℕ} 0 1 = cc in omega arith
 pub wider : (z : ℤ) → mag z < 2 ^ 31 → SFits w64 z
 wider z h = record { sfits = omega arith }
 
-pub entry-is : (b : List ℕ) (at k : ℕ) {kind x y z : ℕ} → kind ≡ wordAt b (at + 4 * k) → x ≡ wordAt b (at + 4 * k + 1) → y ≡ wordAt b (at + 4 * k + 2) → z ≡ wordAt b (at + 4 * k + 3) → entryFor kind x y z ≡ entryOf b at k
+pub entry-is : (b : List ℕ) (at k : ℕ) (n : NodeEntry) → n ≡ nodeEntry b at k → entryFor (n .kind) (n .a) (n .b) (n .c) ≡ entryOf b at k
 unfolding entryOf
-entry-is b at k p q r s = rw (p, q, r, s)
+entry-is b at k n e = rw e refl
 
 -- ---- trees
 

@@ -18,6 +18,7 @@ use Rattle.source.specs.Uses.{same, childrenUse, byNodes}
 use Rattle.source.specs.Encoding.{node, rootOf, linkTo}
 use Rattle.source.proofs.Laws.{split, every-more, total-more}
 use Rattle.source.proofs.Uses.{same-yes, same-no}
+use Rattle.source.specs.Layout.{nodeEntry}
 use Rattle.source.proofs.Nodes.{entry-is}
 
 -- ---- words from one on
@@ -40,9 +41,15 @@ nodes-after b at s n xs ys e h =
     rw q (holds-right b (at + 4 * s) (4 * n) xs ys e h)
 
 pub node-held : (b : List ℕ) (at s : ℕ) {k x y z : ℕ} → Holds b (at + 4 * s) (node k x y z) → entryOf b at s ≡ entryFor k x y z
-node-held b at s h =
+node-held b at s {k} {x} {y} {z} h =
     let e : at + 4 * s + 0 ≡ at + 4 * s = omega arith in
-    sym (entry-is b at s (sym (rw e at (h 0 (omega arith)))) (sym (h 1 (omega arith))) (sym (h 2 (omega arith))) (sym (h 3 (omega arith))))
+    let here = sym (rw e at (h 0 (omega arith))) in
+    let first = sym (h 1 (omega arith)) in
+    let second = sym (h 2 (omega arith)) in
+    let third = sym (h 3 (omega arith)) in
+    let words : record { kind = k; a = x; b = y; c = z } ≡ nodeEntry b at s =
+    λ i. record { kind = here i; a = first i; b = second i; c = third i } in
+    sym (entry-is b at s _ words)
 
 -- ---- the indices from s up to e
 

@@ -8,6 +8,7 @@ use Rattle.words.specs.Words.{wordAt}
 use Rattle.source.specs.declared.Layout.{Layout}
 use Rattle.source.specs.declared.lists.NameEntry.{NameEntry}
 use Rattle.source.specs.declared.lists.DefinitionEntry.{DefinitionEntry}
+use Rattle.source.specs.declared.lists.NodeEntry.{NodeEntry}
 use Rattle.records.specs.Kinds.{NODE-WORDS}
 use Rattle.records.specs.SourceRecord.{DEFINITIONS, EXPRESSIONS, HEADER, NAME-BYTES, NAMES, NODES, PUBLICS}
 
@@ -80,6 +81,15 @@ definitionEntry b at k = record { pattern = wordAt b (at + DEFINITION-WORDS * k)
 
 abbrev pub expressionRoot : List ℕ → ℕ → ℕ → ℕ
 expressionRoot b at k = wordAt b (at + k)
+
+-- "nodes of four words (kind, a, b, c)"
+abbrev pub nodeEntry : List ℕ → ℕ → ℕ → NodeEntry
+nodeEntry s at k = record {
+  kind = wordAt s (at + NODE-WORDS * k);
+  a = wordAt s (at + NODE-WORDS * k + 1);
+  b = wordAt s (at + NODE-WORDS * k + 2);
+  c = wordAt s (at + NODE-WORDS * k + 3);
+}
 
 -- the longest record
 abbrev pub BYTES : ℕ

@@ -6,7 +6,6 @@ use mathlib.Core.Bool.{Bool, true, false, _&&_, _||_}
 use lib.Dec.{leb, ltb, eqb}
 use mir.Val.{toZ}
 use mir.Syntax.{w32}
-use Rattle.words.specs.Words.{wordAt}
 use Rattle.field.specs.declared.InfixOp.{InfixOp}
 use Rattle.source.specs.declared.Entry.{Entry}
 use Rattle.source.specs.declared.Form.{Form}
@@ -15,8 +14,8 @@ use Rattle.source.specs.declared.Chain.{Chain}
 use Rattle.source.specs.declared.Child.{Child}
 use Rattle.source.specs.declared.Children.{Children}
 use Rattle.source.specs.Indices.{every, pick}
-use Rattle.source.specs.Layout.{publicAt, definitionEntry, expressionRoot}
-use Rattle.records.specs.Kinds.{APPLICATION, AS-PATTERN, CONS, CONS-PATTERN, CONSTANT, CONSTANT-PATTERN, FUNCTION, INFIX, LET, LINK, MATCH, NEGATE, NIL, NIL-PATTERN, NODE-WORDS, PRODUCT, PRODUCT-PATTERN, SEQUENCE, UNIT, UNIT-PATTERN, VARIABLE, VARIABLE-PATTERN}
+use Rattle.source.specs.Layout.{publicAt, definitionEntry, expressionRoot, nodeEntry}
+use Rattle.records.specs.Kinds.{APPLICATION, AS-PATTERN, CONS, CONS-PATTERN, CONSTANT, CONSTANT-PATTERN, FUNCTION, INFIX, LET, LINK, MATCH, NEGATE, NIL, NIL-PATTERN, PRODUCT, PRODUCT-PATTERN, SEQUENCE, UNIT, UNIT-PATTERN, VARIABLE, VARIABLE-PATTERN}
 use Rattle.records.specs.Operators.{ADD, DIVIDE, DIVIDE-Z, EQUAL, EXPONENTIATE, INT-DIVIDE, MULTIPLY, SUBTRACT}
 use Rattle.records.specs.SourceRecord.{NO-LINK}
 
@@ -69,7 +68,7 @@ entryFor kind x y z =
 
 -- node k
 unfoldable pub entryOf : List ℕ → ℕ → ℕ → Entry
-entryOf b at k = entryFor (wordAt b (at + NODE-WORDS * k)) (wordAt b (at + NODE-WORDS * k + 1)) (wordAt b (at + NODE-WORDS * k + 2)) (wordAt b (at + NODE-WORDS * k + 3))
+entryOf b at k = let n = nodeEntry b at k in entryFor (n .kind) (n .a) (n .b) (n .c)
 
 -- ---- what a node asks of its words
 

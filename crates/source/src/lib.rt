@@ -6,6 +6,7 @@ use entries::entry;
 use field::InfixOp;
 use lists::DEFINITION_WORDS;
 use lists::NAME_WORDS;
+use lists::node_words;
 use records::NODE_WORDS;
 use records::source_record::DEFINITIONS;
 use records::source_record::EXPRESSIONS;
@@ -20,6 +21,8 @@ ghost use lib.ListN.{length};
 ghost use Rattle.words.specs.Words.{wordAt};
 ghost use Rattle.source.specs.Layout.{layoutOf};
 ghost use Rattle.source.specs.Nodes.{entryOf};
+ghost use Rattle.records.specs.Kinds.{NODE-WORDS};
+ghost use Rattle.records.specs.SourceRecord.{HEADER};
 
 // The words of the longest record, and its bytes with the name text.
 const WORDS: usize = HEADER
@@ -114,7 +117,7 @@ fn count(s: &[u8], i: usize) -> usize
 
 // The layout that the header says.
 pub fn layout_of(s: &[u8]) -> Layout
-    requires { ⌜ 20 ≤ length (now s) ⌝ }
+    requires { ⌜ 4 * HEADER ≤ length (now s) ⌝ }
     ensures { λ r. ⌜ r ≡ layoutOf (now (s .entry)) ⌝ }
 {
     let names = count(s, 0);
@@ -142,13 +145,9 @@ pub fn layout_of(s: &[u8]) -> Layout
 
 // Node k of the nodes that start at word `at`.
 pub fn node_at(s: &[u8], at: usize, k: usize) -> Entry
-    requires { ⌜ 4 * (at + 4 * k + 4) ≤ length (now s) ⌝ }
+    requires { ⌜ 4 * (at + NODE-WORDS * k + NODE-WORDS) ≤ length (now s) ⌝ }
     ensures { λ r. ⌜ r ≡ entryOf (now (s .entry)) at k ⌝ }
 {
-    let base = at + NODE_WORDS * k;
-    let kind = words::word_at(s, base);
-    let a = words::word_at(s, base + 1);
-    let b = words::word_at(s, base + 2);
-    let c = words::word_at(s, base + 3);
-    entry(kind, a, b, c)
+    let n = node_words(s, at, k);
+    entry(n.kind, n.a, n.b, n.c)
 }

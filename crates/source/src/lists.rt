@@ -1,10 +1,12 @@
 // The entries of a source record's lists, each by its place and its index.
+use records::NODE_WORDS;
 use records::source_record::HEADER;
 use words::word_at;
 ghost use mathlib.Core.Path.{_≡_};
 ghost use Prim.Native.Nat.{_+_, _*_, _≤_};
 ghost use lib.ListN.{length};
-ghost use Rattle.source.specs.Layout.{nameEntry, publicAt, definitionEntry, expressionRoot, NAME-WORDS, DEFINITION-WORDS};
+ghost use Rattle.source.specs.Layout.{nameEntry, publicAt, definitionEntry, expressionRoot, nodeEntry, NAME-WORDS, DEFINITION-WORDS};
+ghost use Rattle.records.specs.Kinds.{NODE-WORDS};
 ghost use Rattle.records.specs.SourceRecord.{HEADER};
 
 // The words of a name and of a definition.
@@ -22,6 +24,14 @@ pub struct NameEntry {
 pub struct DefinitionEntry {
     pub pattern: u32,
     pub value: u32,
+}
+
+// A node: its kind, and its words a, b and c.
+pub struct NodeEntry {
+    pub kind: u32,
+    pub a: u32,
+    pub b: u32,
+    pub c: u32,
 }
 
 // Name k.
@@ -62,4 +72,18 @@ pub fn expression_at(s: &[u8], at: usize, k: usize) -> u32
     ensures { λ r. ⌜ r ≡ expressionRoot (now (s .entry)) at k ⌝ }
 {
     word_at(s, at + k)
+}
+
+// The words of node k of those that start at word `at`.
+pub fn node_words(s: &[u8], at: usize, k: usize) -> NodeEntry
+    requires { ⌜ 4 * (at + NODE-WORDS * k + NODE-WORDS) ≤ length (now s) ⌝ }
+    ensures { λ r. ⌜ r ≡ nodeEntry (now (s .entry)) at k ⌝ }
+{
+    let base = at + NODE_WORDS * k;
+    NodeEntry {
+        kind: word_at(s, base),
+        a: word_at(s, base + 1),
+        b: word_at(s, base + 2),
+        c: word_at(s, base + 3),
+    }
 }
