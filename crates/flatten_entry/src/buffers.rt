@@ -2,14 +2,8 @@
 // and `longest-record` in proofs/).
 use eval_memory::MOST_UNITS;
 use eval_memory::UNIT_BYTES;
-<<<<<<< HEAD
 use pass_entry::OUTPUT_BYTES;
-use records::source_record::BYTES;
-=======
-use pass_entry::BODY_BYTES;
-use pass_entry::LIST_BYTES;
 use source::BYTES;
->>>>>>> b5713ed493e2e41ab5c26b5ad8d1a36a18ed181f
 ghost use mathlib.Core.Path.{_≡_};
 ghost use Rattle.flatten_entry.specs.Buffers.{recordBuffer, storeBuffer, outputBuffer};
 
