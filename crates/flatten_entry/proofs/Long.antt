@@ -10,7 +10,7 @@ use lib.Dec.{leb, ltb, eqb}
 use borrow.Author.Tests.{leb-true, ltb-true, ltb-false, le-leb, ne-eqb, eqb-true}
 use Rattle.words.specs.Words.{wordAt}
 use Rattle.source.specs.Indices.{every}
-use Rattle.source.specs.Layout.{names, publics, definitions, expressions, nodes, textAt, counted, listed}
+use Rattle.source.specs.Layout.{BYTES, names, publics, definitions, expressions, nodes, textAt, counted, listed}
 use Rattle.source.specs.Names.{offsetOf, lengthOf, endOf, nameFits, namesFit}
 use Rattle.source.specs.Record.{Read, sourceOf, unless}
 use Rattle.pass_trees.proofs.Lists.{both-true}
@@ -62,7 +62,7 @@ module _ (b : List ℕ) where
   abbrev early : Read
   early = unless (counted b) 2 (unless (ltb 0 (names b)) 1 (Read.refused 3))
 
-  module _ (long : 76052 < length b) where
+  module _ (long : BYTES < length b) where
     is-listed : counted b ≡ true → listed b ≡ ltb 0 (names b)
     unfolding listed
     is-listed h =
@@ -95,7 +95,7 @@ early-taken : (n : ℕ) (b : List ℕ) → 20 ≤ n → early (take n b) ≡ ear
 unfolding counted
 early-taken n b l = rw (word-taken n b 0 (omega arith), word-taken n b 1 (omega arith), word-taken n b 2 (omega arith), word-taken n b 3 (omega arith), word-taken n b 4 (omega arith)) refl
 
-pub front-read : (b : List ℕ) (n : ℕ) → 76052 < n → sourceOf (take n b) ≡ sourceOf b
+pub front-read : (b : List ℕ) (n : ℕ) → BYTES < n → sourceOf (take n b) ≡ sourceOf b
 front-read b n l = go (way (ltb n (length b)))
   where
     go : Way (ltb n (length b)) → sourceOf (take n b) ≡ sourceOf b

@@ -25,7 +25,9 @@ returns : tie.Need-returns Inv-loop μ-loop
 returns c = digit-low _ _ _ (c .before .before .before .loop .inv .0 .0) (c .before .before .loop-test .taken) refl (c .if1 .taken)
 
 returns-2 : tie.Need-returns-2 Inv-loop μ-loop
-returns-2 c = digit-high _ _ _ (c .before .before .before .before .loop .inv .0 .0) (c .before .before .before .loop-test .taken) refl (c .before .if1 .left) (c .if2 .taken)
+returns-2 c =
+    let at-loop = c .before .before .before .before in
+    digit-high _ _ _ (at-loop .loop .inv .0 .0) (c .before .before .before .loop-test .taken) refl (c .before .if1 .left) (c .if2 .taken)
 
 mul-at-most : tie.Need-mul-at-most Inv-loop μ-loop
 mul-at-most c = search needs
@@ -47,8 +49,10 @@ loop-less c = search needs
 
 loop-again : tie.Need-loop-again Inv-loop μ-loop
 loop-again c =
-    let inv = c .before .before .before .before .before .loop .inv .0 in
-    let there = c .before .before .before .before .loop-test .taken in
+    let at-loop-test = c .before .before .before .before in
+    let at-loop = at-loop-test .before in
+    let inv = at-loop .loop .inv .0 in
+    let there = at-loop-test .loop-test .taken in
     ((digit-more _ _ _ (inv .0) there refl (c .before .before .if1 .left) (c .before .if2 .left) (c .at-most .ensures .0), c .at-most .ensures .1), omega (arith, there))
 
 returns-3 : tie.Need-returns-3 Inv-loop μ-loop

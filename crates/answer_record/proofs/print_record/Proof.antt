@@ -21,7 +21,10 @@ close-output-requires : tie.Need-close-output-requires
 close-output-requires c κs = search needs
 
 returns-2 : tie.Need-returns-2
-returns-2 c = whole-then (c .before .before .before .before .write-output .result) (c .close-output .result) _ (length (c .before .before .before .before .before .before .args .bytes .now)) (c .before .before .n .given .1) (c .before .before .before .before .write-output .ensures) (c .close-output .ensures)
+returns-2 c =
+    let at-write-output = c .before .before .before .before in
+    let start = at-write-output .before .before in
+    whole-then (at-write-output .write-output .result) (c .close-output .result) _ (length (start .args .bytes .now)) (c .before .before .n .given .1) (at-write-output .write-output .ensures) (c .close-output .ensures)
 
 pub print-record-spec : {M : Type 1} → statement M
 print-record-spec =

@@ -25,7 +25,8 @@ closed-requires c κs = search needs
 
 returns-2 : tie.Need-returns-2
 returns-2 c =
-    let first = c .before .before .before .before .print-equalities in
+    let at-print-equalities = c .before .before .before .before in
+    let first = at-print-equalities .print-equalities in
     same-lines (c .closed .result) _ _ (lines-of _ _ _ (c .before .before .k .given .1) (first .ensures)) (c .closed .ensures)
 
 pub print-record-spec : {M : Type 1} → statement M

@@ -29,12 +29,14 @@ returns c = search needs
 
 array-share-prefix-record : tie.Need-array-share-prefix-record
 array-share-prefix-record c =
-    let read = c .before .before .before .before .read-input in
+    let at-read-input = c .before .before .before .before in
+    let read = at-read-input .read-input in
     bytes-within (read .result) _ _ (c .before .n .given .1) (read .ensures) .0
 
 slice-aggregate-cut : tie.Need-slice-aggregate-cut
 slice-aggregate-cut c =
-    let read = c .before .before .before .before .before .read-input in
+    let at-read-input = c .before .before .before .before .before in
+    let read = at-read-input .read-input in
     bytes-within (read .result) _ _ (c .before .before .n .given .1) (read .ensures) .1
 
 slice-aggregate-cut-2 : tie.Need-slice-aggregate-cut-2

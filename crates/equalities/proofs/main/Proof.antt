@@ -57,7 +57,8 @@ array-share-prefix-record-2 c = search needs
 
 slice-aggregate-cut-record : tie.Need-slice-aggregate-cut-record
 slice-aggregate-cut-record c =
-    let read = c .before .before .before .before .before .before .read-input in
+    let at-read-input = c .before .before .before .before .before .before in
+    let read = at-read-input .read-input in
     bytes-within (read .result) _ _ (c .before .before .before .n .given .1) (read .ensures) .1
 
 cut-record-requires : tie.Need-cut-record-requires

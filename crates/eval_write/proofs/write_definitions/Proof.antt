@@ -21,7 +21,9 @@ listed-requires : tie.Need-listed-requires Inv-loop μ-loop
 listed-requires c κs = search needs
 
 write-tree-requires : tie.Need-write-tree-requires Inv-loop μ-loop
-write-tree-requires c κs = (c .before .before .before .before .before .pre .0, c .before .before .before .loop .inv .0 .1)
+write-tree-requires c κs =
+    let start = c .before .before .before .before .before in
+    (start .pre .0, c .before .before .before .loop .inv .0 .1)
 
 cast-to : tie.Need-cast-to Inv-loop μ-loop
 cast-to c = search needs

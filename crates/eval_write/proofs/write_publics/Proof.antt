@@ -38,7 +38,9 @@ loop-less : tie.Need-loop-less Inv-loop μ-loop
 loop-less c = search needs
 
 loop-again : tie.Need-loop-again Inv-loop μ-loop
-loop-again c = (firsts-more _ _ _ (c .before .before .before .before .loop .inv .0) (c .put .ensures), omega (arith, c .before .before .before .loop-test .taken))
+loop-again c =
+    let at-loop = c .before .before .before .before in
+    (firsts-more _ _ _ (at-loop .loop .inv .0) (c .put .ensures), omega (arith, c .before .before .before .loop-test .taken))
 
 returns : tie.Need-returns Inv-loop μ-loop
 unfolding firsts

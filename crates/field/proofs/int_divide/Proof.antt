@@ -25,7 +25,9 @@ x-is : (c : tie.After-canonical) → c .canonical .result ≡ elem P (c .before 
 x-is c = passed (elem P) _ (c .before .before .before .fits .a) (c .canonical .ensures)
 
 y-is : (c : tie.After-canonical2) → c .canonical2 .result ≡ elem P (c .before .before .before .before .args .b)
-y-is c = passed (elem P) _ (c .before .before .before .before .fits .b) (c .canonical2 .ensures)
+y-is c =
+    let at-fits = c .before .before .before .before in
+    passed (elem P) _ (at-fits .fits .b) (c .canonical2 .ensures)
 
 returns : tie.Need-returns
 unfolding intDivideOf

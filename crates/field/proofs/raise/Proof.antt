@@ -45,17 +45,21 @@ power-small c = subst⁻¹ (λ (k : ℕ). k < P) (c .power-of .ensures) (mod-lt 
 
 power-above-zero : (c : tie.After-power-of) → 0 < c .power-of .result
 power-above-zero c =
+    let before-4 = c .before .before .before .before in
     subst⁻¹ (λ (k : ℕ). 0 < k) (c .power-of .ensures)
-    (power-pos P P-prime _ _ (pos-of-ne-zero (c .before .if2 .left)) (below-P _ (base (c .before .before .before .before))))
+    (power-pos P P-prime _ _ (pos-of-ne-zero (c .before .if2 .left)) (below-P _ (base (before-4))))
 
 returns : tie.Need-returns
 returns c =
-    let s : tie.Start = c .before .before .before .before in
+    let before-4 = c .before .before .before .before in
+    let s : tie.Start = before-4 in
     sym (pick-zero _ _ _ (sym (base (c .before .before .before)) ∙ c .if2 .taken))
     ∙ sym (power-below P _ _ _ (below (c .before)))
 
 add-power-of : tie.Need-add-power-of
-add-power-of c = omega (arith, size (c .before .before), c .before .before .before .before .fits .n .sfits)
+add-power-of c =
+    let at-fits = c .before .before .before .before in
+    omega (arith, size (c .before .before), at-fits .fits .n .sfits)
 
 power-of-requires : tie.Need-power-of-requires
 power-of-requires c κs = below-P _ (base (c .before .before .before))

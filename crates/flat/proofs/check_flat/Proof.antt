@@ -22,10 +22,14 @@ rules-hold-requires c κs =
     (c .layout-of .ensures, (w .long, w .nodes-few))
 
 returns-2 : tie.Need-returns-2
-returns-2 c = is-21 _ (c .before .before .before .before .measures .ensures) (not-false _ (c .before .before .before .if1 .left)) (c .before .rules-hold .ensures) (not-true _ (c .if2 .taken))
+returns-2 c =
+    let at-measures = c .before .before .before .before in
+    is-21 _ (at-measures .measures .ensures) (not-false _ (c .before .before .before .if1 .left)) (c .before .rules-hold .ensures) (not-true _ (c .if2 .taken))
 
 returns-3 : tie.Need-returns-3
-returns-3 c = is-accepted _ (c .before .before .before .before .measures .ensures) (not-false _ (c .before .before .before .if1 .left)) (c .before .rules-hold .ensures) (not-false _ (c .if2 .left))
+returns-3 c =
+    let at-measures = c .before .before .before .before in
+    is-accepted _ (at-measures .measures .ensures) (not-false _ (c .before .before .before .if1 .left)) (c .before .rules-hold .ensures) (not-false _ (c .if2 .left))
 
 pub check-flat-spec : {M : Type 1} → statement M
 check-flat-spec =

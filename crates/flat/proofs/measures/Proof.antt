@@ -12,31 +12,41 @@ count-requires : tie.Need-count-requires
 count-requires c κs = search needs
 
 returns-2 : tie.Need-returns-2
-returns-2 c = measured-2 (c .before .before .before .before .args .s .now) (omega arith) (omega arith)
+returns-2 c =
+    let start = c .before .before .before .before in
+    measured-2 (start .args .s .now) (omega arith) (omega arith)
 
 count-requires-2 : tie.Need-count-requires-2
 count-requires-2 c κs = search needs
 
 returns-3 : tie.Need-returns-3
-returns-3 c = measured-3 (c .before .before .before .before .before .before .args .s .now) (omega arith) (omega arith) (omega arith)
+returns-3 c =
+    let start = c .before .before .before .before .before .before in
+    measured-3 (start .args .s .now) (omega arith) (omega arith) (omega arith)
 
 count-requires-3 : tie.Need-count-requires-3
 count-requires-3 c κs = search needs
 
 returns-4 : tie.Need-returns-4
-returns-4 c = measured-4 (c .before .before .before .before .before .before .before .before .args .s .now) (omega arith) (omega arith) (omega arith) (omega arith)
+returns-4 c =
+    let start = c .before .before .before .before .before .before .before .before in
+    measured-4 (start .args .s .now) (omega arith) (omega arith) (omega arith) (omega arith)
 
 count-requires-4 : tie.Need-count-requires-4
 count-requires-4 c κs = search needs
 
 returns-5 : tie.Need-returns-5
-returns-5 c = measured-5 (c .before .before .before .before .before .before .before .before .before .before .args .s .now) (omega arith) (omega arith) (omega arith) (omega arith) (omega arith)
+returns-5 c =
+    let start = c .before .before .before .before .before .before .before .before .before .before in
+    measured-5 (start .args .s .now) (omega arith) (omega arith) (omega arith) (omega arith) (omega arith)
 
 count-requires-5 : tie.Need-count-requires-5
 count-requires-5 c κs = search needs
 
 returns-6 : tie.Need-returns-6
-returns-6 c = measured-6 (c .before .before .before .before .before .before .before .before .before .before .before .before .args .s .now) (omega arith) (omega arith) (omega arith) (omega arith) (omega arith) (omega arith)
+returns-6 c =
+    let start = c .before .before .before .before .before .before .before .before .before .before .before .before in
+    measured-6 (start .args .s .now) (omega arith) (omega arith) (omega arith) (omega arith) (omega arith) (omega arith)
 
 add-size : tie.Need-add-size
 add-size c = search needs
@@ -66,7 +76,9 @@ mul-result : tie.Need-mul-result
 mul-result c = search needs
 
 returns-7 : tie.Need-returns-7
-returns-7 c = measured-7 (c .before .before .before .before .before .before .before .before .before .before .before .before .args .s .now) _ (omega arith) (omega arith) (omega arith) (omega arith) (omega arith) (omega arith) (omega arith)
+returns-7 c =
+    let start = c .before .before .before .before .before .before .before .before .before .before .before .before in
+    measured-7 (start .args .s .now) _ (omega arith) (omega arith) (omega arith) (omega arith) (omega arith) (omega arith) (omega arith)
 
 pub measures-spec : {M : Type 1} → statement M
 measures-spec =

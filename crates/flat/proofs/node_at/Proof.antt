@@ -44,7 +44,10 @@ cast-t13 : tie.Need-cast-t13
 cast-t13 c = search needs
 
 returns : tie.Need-returns
-returns c = read-4 _ _ _ _ _ (c .before .before .before .before .before .word-at .ensures) (c .before .before .before .before .word-at2 .ensures) (c .before .before .word-at3 .ensures) (c .before .word-at4 .ensures) (c .before .before .before .if1 .taken) (c .operator .ensures)
+returns c =
+    let at-word-at2 = c .before .before .before .before in
+    let at-word-at = at-word-at2 .before in
+    read-4 _ _ _ _ _ (at-word-at .word-at .ensures) (at-word-at2 .word-at2 .ensures) (c .before .before .word-at3 .ensures) (c .before .word-at4 .ensures) (c .before .before .before .if1 .taken) (c .operator .ensures)
 
 cast-t14 : tie.Need-cast-t14
 cast-t14 c = search needs
@@ -56,10 +59,15 @@ signed-requires : tie.Need-signed-requires
 signed-requires c κs = search needs
 
 returns-3 : tie.Need-returns-3
-returns-3 c = read-7 _ _ _ _ _ (c .before .before .before .before .before .word-at .ensures) (c .before .before .before .before .word-at2 .ensures) (c .before .if3 .taken) (toZ-ofZ w32 _ (record { sfits = c .signed .ok }) ∙ c .signed .ensures)
+returns-3 c =
+    let at-word-at2 = c .before .before .before .before in
+    let at-word-at = at-word-at2 .before in
+    read-7 _ _ _ _ _ (at-word-at .word-at .ensures) (at-word-at2 .word-at2 .ensures) (c .before .if3 .taken) (toZ-ofZ w32 _ (record { sfits = c .signed .ok }) ∙ c .signed .ensures)
 
 returns-4 : tie.Need-returns-4
-returns-4 c = read-8 _ _ _ _ _ (c .before .before .before .before .word-at .ensures) (c .before .before .before .word-at2 .ensures) (c .before .before .if1 .left) (c .before .if2 .left) (c .if3 .left)
+returns-4 c =
+    let at-word-at = c .before .before .before .before in
+    read-8 _ _ _ _ _ (at-word-at .word-at .ensures) (c .before .before .before .word-at2 .ensures) (c .before .before .if1 .left) (c .before .if2 .left) (c .if3 .left)
 
 pub node-at-spec : {M : Type 1} → statement M
 node-at-spec =

@@ -30,12 +30,14 @@ returns c = search needs
 
 array-share-prefix-record : tie.Need-array-share-prefix-record
 array-share-prefix-record c =
-    let read = c .before .before .before .before .read-input in
+    let at-read-input = c .before .before .before .before in
+    let read = at-read-input .read-input in
     bytes-within (read .result) _ _ (c .before .n .given .1) (read .ensures) .0
 
 slice-aggregate-flatten : tie.Need-slice-aggregate-flatten
 slice-aggregate-flatten c =
-    let read = c .before .before .before .before .before .read-input in
+    let at-read-input = c .before .before .before .before .before in
+    let read = at-read-input .read-input in
     bytes-within (read .result) _ _ (c .before .before .n .given .1) (read .ensures) .1
 
 flatten-requires : tie.Need-flatten-requires

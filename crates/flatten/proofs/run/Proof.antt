@@ -25,7 +25,8 @@ array-borrow-prefix-store c = search needs
 
 slice-aggregate-flatten-input : tie.Need-slice-aggregate-flatten-input
 slice-aggregate-flatten-input c =
-    let long : length (c .before .before .before .before .store-buffer .result) ≡ 1048560 = search needs in
+    let at-store-buffer = c .before .before .before .before in
+    let long : length (at-store-buffer .store-buffer .result) ≡ 1048560 = search needs in
     sym (length-take-le _ _ (omega (arith, long, c .before .before .at-most .ensures .1)))
 
 array-borrow-prefix-out : tie.Need-array-borrow-prefix-out
@@ -33,7 +34,8 @@ array-borrow-prefix-out c = search needs
 
 slice-aggregate-flatten-input-2 : tie.Need-slice-aggregate-flatten-input-2
 slice-aggregate-flatten-input-2 c =
-    let long : length (c .before .before .before .before .output-buffer .result) ≡ OUTPUT-BYTES = search needs in
+    let at-output-buffer = c .before .before .before .before in
+    let long : length (at-output-buffer .output-buffer .result) ≡ OUTPUT-BYTES = search needs in
     sym (length-take-le _ _ (omega (arith, long, c .before .before .at-most2 .ensures .1)))
 
 flatten-input-requires : tie.Need-flatten-input-requires

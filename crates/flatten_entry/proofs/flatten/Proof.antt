@@ -17,8 +17,10 @@ enum-known-answer c = search needs
 
 pass-on-requires : tie.Need-pass-on-requires
 pass-on-requires c κs =
-    let p = passable _ _ _ _ (c .before .before .before .before .before .before .before .before .before .evaluate-source .ensures .0) (c .before .before .before .before .before .answer .given .1) in
-    let long : length (c .before .before .before .before .before .before .before .before .before .evaluate-source .result .bytes) ≡ BYTES = search needs in
+    let at-answer = c .before .before .before .before .before in
+    let at-evaluate-source = at-answer .before .before .before .before in
+    let p = passable _ _ _ _ (at-evaluate-source .evaluate-source .ensures .0) (at-answer .answer .given .1) in
+    let long : length (at-evaluate-source .evaluate-source .result .bytes) ≡ BYTES = search needs in
     (omega (arith, p .within, long), (p .readable, p .small))
 
 enum-known-answer-2 : tie.Need-enum-known-answer-2
@@ -32,18 +34,23 @@ same-length-2 c = search needs
 
 returns : tie.Need-returns
 returns c =
-    let p = passable _ _ _ _ (c .before .before .before .before .before .before .before .before .before .before .before .before .evaluate-source .ensures .0) (c .before .before .before .before .before .before .before .before .answer .given .1) in
-    let g = gives-as (c .before .before .before .before .before .before .before .before .before .before .before .before .before .before .before .before .before .args .out .now) _ _ (p .gives) (c .before .before .pass-on .ensures) in
-    (g .0, (g .1, c .before .before .before .before .before .before .before .before .before .before .before .before .evaluate-source .ensures .1))
+    let at-answer = c .before .before .before .before .before .before .before .before in
+    let at-evaluate-source = at-answer .before .before .before .before in
+    let start = at-evaluate-source .before .before .before .before .before in
+    let p = passable _ _ _ _ (at-evaluate-source .evaluate-source .ensures .0) (at-answer .answer .given .1) in
+    let g = gives-as (start .args .out .now) _ _ (p .gives) (c .before .before .pass-on .ensures) in
+    (g .0, (g .1, at-evaluate-source .evaluate-source .ensures .1))
 
 same-length-3 : tie.Need-same-length-3
 same-length-3 c = search needs
 
 returns-2 : tie.Need-returns-2
 returns-2 c =
-    let e = refused-gives _ _ _ _ (c .before .before .before .before .before .evaluate-source .ensures .0) (c .before .answer2 .given .1) in
-    let g = gives-as (c .before .before .before .before .before .before .before .before .before .before .args .out .now) _ _ e (gives-refused (c .before .before .before .before .before .before .before .before .before .before .args .out .now) _) in
-    (g .0, (g .1, c .before .before .before .before .before .evaluate-source .ensures .1))
+    let at-evaluate-source = c .before .before .before .before .before in
+    let start = at-evaluate-source .before .before .before .before .before in
+    let e = refused-gives _ _ _ _ (at-evaluate-source .evaluate-source .ensures .0) (c .before .answer2 .given .1) in
+    let g = gives-as (start .args .out .now) _ _ e (gives-refused (start .args .out .now) _) in
+    (g .0, (g .1, at-evaluate-source .evaluate-source .ensures .1))
 
 pub flatten-spec : {M : Type 1} → statement M
 flatten-spec =

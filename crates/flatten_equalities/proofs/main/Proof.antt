@@ -45,12 +45,14 @@ returns-2 c = search needs
 
 array-share-prefix-record : tie.Need-array-share-prefix-record
 array-share-prefix-record c =
-    let read = c .before .before .before .before .read-input in
+    let at-read-input = c .before .before .before .before in
+    let read = at-read-input .read-input in
     bytes-within (read .result) _ _ (c .before .n .given .1) (read .ensures) .0
 
 slice-aggregate-flatten-record : tie.Need-slice-aggregate-flatten-record
 slice-aggregate-flatten-record c =
-    let read = c .before .before .before .before .before .read-input in
+    let at-read-input = c .before .before .before .before .before in
+    let read = at-read-input .read-input in
     bytes-within (read .result) _ _ (c .before .before .n .given .1) (read .ensures) .1
 
 flatten-record-requires : tie.Need-flatten-record-requires

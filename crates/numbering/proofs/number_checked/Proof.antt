@@ -21,10 +21,16 @@ no-row-requires : tie.Need-no-row-requires
 no-row-requires c κs = search needs
 
 register-intrinsics-requires : tie.Need-register-intrinsics-requires
-register-intrinsics-requires c κs = let w = names-asked _ (c .before .before .before .before .pre .0) _ (c .before .before .layout-of .ensures) in (w .0, (w .1, no-row-long (c .before .no-row .ensures)))
+register-intrinsics-requires c κs =
+    let start = c .before .before .before .before in
+    let w = names-asked _ (start .pre .0) _ (c .before .before .layout-of .ensures) in (w .0, (w .1, no-row-long (c .before .no-row .ensures)))
 
 number-lists-requires : tie.Need-number-lists-requires
-number-lists-requires c κs = (((c .before .before .before .before .before .before .before .before .pre .0, c .before .before .before .before .before .before .layout-of .ensures), (c .before .before .before .register-intrinsics .ensures .0, c .before .before .before .before .before .before .before .before .pre .1)), c .before .before .before .register-intrinsics .ensures .1 (no-row-holds (c .before .before .before .before .before .no-row .ensures)))
+number-lists-requires c κs =
+    let at-no-row = c .before .before .before .before .before in
+    let at-layout-of = at-no-row .before in
+    let start = at-layout-of .before .before in
+    (((start .pre .0, at-layout-of .layout-of .ensures), (c .before .before .before .register-intrinsics .ensures .0, start .pre .1)), c .before .before .before .register-intrinsics .ensures .1 (no-row-holds (at-no-row .no-row .ensures)))
 
 returns : tie.Need-returns
 returns c = search needs

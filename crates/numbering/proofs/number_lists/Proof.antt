@@ -25,16 +25,33 @@ no-entries-requires-2 : tie.Need-no-entries-requires-2
 no-entries-requires-2 c κs = search needs
 
 number-publics-requires : tie.Need-number-publics-requires
-number-publics-requires c κs = let w = publics-asked _ (c .before .before .before .before .before .before .before .pre .0 .0 .0) _ (c .before .before .before .before .before .before .before .pre .0 .0 .1) in (w .0, (w .1, (c .before .before .before .before .before .before .before .pre .0 .1 .0, (c .before .before .before .before .before .before .before .pre .0 .1 .1 .1, omega arith))))
+number-publics-requires c κs =
+    let start = c .before .before .before .before .before .before .before in
+    let w = publics-asked _ (start .pre .0 .0 .0) _ (start .pre .0 .0 .1) in (w .0, (w .1, (start .pre .0 .1 .0, (start .pre .0 .1 .1 .1, omega arith))))
 
 number-definitions-requires : tie.Need-number-definitions-requires
-number-definitions-requires c κs = let v = c .before .before .before .before .before .number-publics .ensures in let w = definitions-asked _ (c .before .before .before .before .before .before .before .before .before .before .before .before .before .pre .0 .0 .0) _ (c .before .before .before .before .before .before .before .before .before .before .before .before .before .pre .0 .0 .1) _ (v .few) in (w .0, (w .1, (record { rows = no-row-long (c .before .before .before .before .before .before .before .before .before .before .before .no-row .ensures); undone = no-entries-long (c .before .before .before .before .before .before .before .before .before .before .no-entries .ensures); olds = no-entries-long (c .before .before .before .before .before .before .before .before .before .no-entries2 .ensures); nodes = c .before .before .before .before .before .before .before .before .before .before .before .before .before .pre .0 .1 .1 .0 }, v .row)))
+number-definitions-requires c κs =
+    let at-number-publics = c .before .before .before .before .before in
+    let at-no-entries2 = at-number-publics .before .before .before .before in
+    let at-no-entries = at-no-entries2 .before in
+    let at-no-row = at-no-entries .before in
+    let start = at-no-row .before .before in
+    let v = at-number-publics .number-publics .ensures in let w = definitions-asked _ (start .pre .0 .0 .0) _ (start .pre .0 .0 .1) _ (v .few) in (w .0, (w .1, (record { rows = no-row-long (at-no-row .no-row .ensures); undone = no-entries-long (at-no-entries .no-entries .ensures); olds = no-entries-long (at-no-entries2 .no-entries2 .ensures); nodes = start .pre .0 .1 .1 .0 }, v .row)))
 
 number-expressions-requires : tie.Need-number-expressions-requires
-number-expressions-requires c κs = let v = c .before .before .before .before .before .before .before .before .before .before .before .number-publics .ensures in let d = c .before .before .before .before .before .number-definitions .ensures in let w = expressions-asked _ (c .before .before .before .before .before .before .before .before .before .before .before .before .before .before .before .before .before .before .before .pre .0 .0 .0) _ (c .before .before .before .before .before .before .before .before .before .before .before .before .before .before .before .before .before .before .before .pre .0 .0 .1) _ _ (v .few) (d .few) in (w .0, (w .1, (d .sizes, d .row)))
+number-expressions-requires c κs =
+    let at-number-definitions = c .before .before .before .before .before in
+    let at-number-publics = at-number-definitions .before .before .before .before .before .before in
+    let start = at-number-publics .before .before .before .before .before .before .before .before in
+    let v = at-number-publics .number-publics .ensures in let d = at-number-definitions .number-definitions .ensures in let w = expressions-asked _ (start .pre .0 .0 .0) _ (start .pre .0 .0 .1) _ _ (v .few) (d .few) in (w .0, (w .1, (d .sizes, d .row)))
 
 returns : tie.Need-returns
-returns c = entire-at _ (c .before .before .before .before .before .before .before .before .before .before .before .before .before .before .before .before .before .before .before .before .pre .0 .0 .0) _ (c .before .before .before .before .before .before .before .before .before .before .before .before .before .before .before .before .before .before .before .before .pre .0 .0 .1) (c .before .before .before .before .before .before .before .before .before .before .before .before .number-publics .ensures) (c .before .before .before .before .before .before .number-definitions .ensures) (c .number-expressions .ensures) (no-row-holds (c .before .before .before .before .before .before .before .before .before .before .before .before .before .before .before .before .before .before .no-row .ensures)) (c .before .before .before .before .before .before .before .before .before .before .before .before .before .before .before .before .before .before .before .before .pre .1) (c .before .before .before .before .before .before .before .before .before .before .before .before .before .before .before .before .before .before .before .before .pre .0 .1 .1 .0) (c .before .before .before .before .before .before .before .before .before .before .before .before .before .before .before .before .before .before .before .before .pre .0 .1 .1 .1)
+returns c =
+    let at-number-definitions = c .before .before .before .before .before .before in
+    let at-number-publics = at-number-definitions .before .before .before .before .before .before in
+    let at-no-row = at-number-publics .before .before .before .before .before .before in
+    let start = at-no-row .before .before in
+    entire-at _ (start .pre .0 .0 .0) _ (start .pre .0 .0 .1) (at-number-publics .number-publics .ensures) (at-number-definitions .number-definitions .ensures) (c .number-expressions .ensures) (no-row-holds (at-no-row .no-row .ensures)) (start .pre .1) (start .pre .0 .1 .1 .0) (start .pre .0 .1 .1 .1)
 
 pub number-lists-spec : {M : Type 1} → statement M
 number-lists-spec =

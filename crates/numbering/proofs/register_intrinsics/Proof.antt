@@ -30,7 +30,9 @@ register-requires-3 : tie.Need-register-requires-3
 register-requires-3 c κs = search needs
 
 returns : tie.Need-returns
-returns c = (c .register3 .ensures .row, λ h. three-registered _ _ _ (c .before .before .before .before .before .before .register .ensures) (c .before .before .before .register2 .ensures) (c .register3 .ensures) h)
+returns c =
+    let at-register = c .before .before .before .before .before .before in
+    (c .register3 .ensures .row, λ h. three-registered _ _ _ (at-register .register .ensures) (c .before .before .before .register2 .ensures) (c .register3 .ensures) h)
 
 pub register-intrinsics-spec : {M : Type 1} → statement M
 register-intrinsics-spec =

@@ -9,16 +9,24 @@ flatten-expr-to-3ac-requires : tie.Need-flatten-expr-to-3ac-requires
 flatten-expr-to-3ac-requires c κs = search needs
 
 flatten-expr-to-3ac-requires-2 : tie.Need-flatten-expr-to-3ac-requires-2
-flatten-expr-to-3ac-requires-2 c κs = (c .before .before .before .before .before .before .before .pre .1, room-on _ _ _ _ (c .before .before .before .flatten-expr-to-3ac .ensures) _ (c .before .before .before .before .before .before .before .pre .2))
+flatten-expr-to-3ac-requires-2 c κs =
+    let start = c .before .before .before .before .before .before .before in
+    (start .pre .1, room-on _ _ _ _ (c .before .before .before .flatten-expr-to-3ac .ensures) _ (start .pre .2))
 
 place-term-requires : tie.Need-place-term-requires
-place-term-requires c κs = room-both _ _ _ _ _ _ _ (c .before .before .before .before .before .before .before .flatten-expr-to-3ac .ensures) (c .before .before .before .flatten-expr-to-3ac2 .ensures) (c .before .before .before .before .before .before .before .before .before .before .before .pre .2)
+place-term-requires c κs =
+    let at-flatten-expr-to-3ac = c .before .before .before .before .before .before .before in
+    let start = at-flatten-expr-to-3ac .before .before .before .before in
+    room-both _ _ _ _ _ _ _ (at-flatten-expr-to-3ac .flatten-expr-to-3ac .ensures) (c .before .before .before .flatten-expr-to-3ac2 .ensures) (start .pre .2)
 
 same-length : tie.Need-same-length
 same-length c = search needs
 
 returns : tie.Need-returns
-returns c = way-both _ _ _ _ _ _ _ (c .before .before .before .before .before .before .before .before .before .before .flatten-expr-to-3ac .ensures) (c .before .before .before .before .before .before .flatten-expr-to-3ac2 .ensures) (c .before .before .place-term .ensures)
+returns c =
+    let at-flatten-expr-to-3ac2 = c .before .before .before .before .before .before in
+    let at-flatten-expr-to-3ac = at-flatten-expr-to-3ac2 .before .before .before .before in
+    way-both _ _ _ _ _ _ _ (at-flatten-expr-to-3ac .flatten-expr-to-3ac .ensures) (at-flatten-expr-to-3ac2 .flatten-expr-to-3ac2 .ensures) (c .before .before .place-term .ensures)
 
 pub flatten-both-spec : {M : Type 1} → statement M
 flatten-both-spec =

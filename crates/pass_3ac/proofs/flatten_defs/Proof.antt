@@ -27,7 +27,8 @@ loop-holds c = (record { count = c .before .before .pre .0 .3; place = c .before
 
 definition-at-requires : tie.Need-definition-at-requires Inv-loop μ-loop
 definition-at-requires c κs =
-    let readable = c .before .before .before .before .pre .0 .0 in
+    let start = c .before .before .before .before in
+    let readable = start .pre .0 .0 in
     omega (arith, readable .long, readable .nodes-few, c .before .loop .inv .0 .count, c .before .loop .inv .0 .place, c .loop-test .taken)
 
 flatten-def-to-3ac-requires : tie.Need-flatten-def-to-3ac-requires Inv-loop μ-loop

@@ -42,19 +42,40 @@ same-length : tie.Need-same-length
 same-length c = search needs
 
 returns-2 : tie.Need-returns-2
-returns-2 c = way-left _ _ _ _ _ (c .before .before .before .before .before .before .before .before .before .before .before .copy-expr .ensures) (c .before .before .before .before .before .before .before .before .before .before .copy-expr2 .ensures) (c .before .before .before .before .before .before .before .before .before .is-dead .ensures) (c .before .before .before .before .before .before .before .before .if1 .left) (c .before .before .before .before .before .before .before .left-side .ensures) _ _ (c .before .before .before .before .before .side .given .1) (c .before .before .flatten-into .ensures)
+returns-2 c =
+    let at-side = c .before .before .before .before .before in
+    let at-left-side = at-side .before .before in
+    let at-if1 = at-left-side .before in
+    let at-is-dead = at-if1 .before in
+    let at-copy-expr2 = at-is-dead .before in
+    let at-copy-expr = at-copy-expr2 .before in
+    way-left _ _ _ _ _ (at-copy-expr .copy-expr .ensures) (at-copy-expr2 .copy-expr2 .ensures) (at-is-dead .is-dead .ensures) (at-if1 .if1 .left) (at-left-side .left-side .ensures) _ _ (at-side .side .given .1) (c .before .before .flatten-into .ensures)
 
 same-length-2 : tie.Need-same-length-2
 same-length-2 c = search needs
 
 returns-3 : tie.Need-returns-3
-returns-3 c = way-right _ _ _ _ _ (c .before .before .before .before .before .before .before .before .before .before .before .copy-expr .ensures) (c .before .before .before .before .before .before .before .before .before .before .copy-expr2 .ensures) (c .before .before .before .before .before .before .before .before .before .is-dead .ensures) (c .before .before .before .before .before .before .before .before .if1 .left) (c .before .before .before .before .before .before .before .left-side .ensures) _ _ (c .before .before .before .before .before .side2 .given .1) (c .before .before .flatten-into2 .ensures)
+returns-3 c =
+    let at-side2 = c .before .before .before .before .before in
+    let at-left-side = at-side2 .before .before in
+    let at-if1 = at-left-side .before in
+    let at-is-dead = at-if1 .before in
+    let at-copy-expr2 = at-is-dead .before in
+    let at-copy-expr = at-copy-expr2 .before in
+    way-right _ _ _ _ _ (at-copy-expr .copy-expr .ensures) (at-copy-expr2 .copy-expr2 .ensures) (at-is-dead .is-dead .ensures) (at-if1 .if1 .left) (at-left-side .left-side .ensures) _ _ (at-side2 .side2 .given .1) (c .before .before .flatten-into2 .ensures)
 
 same-length-3 : tie.Need-same-length-3
 same-length-3 c = search needs
 
 returns-4 : tie.Need-returns-4
-returns-4 c = way-neither _ _ _ _ _ (c .before .before .before .before .before .before .before .before .before .before .copy-expr .ensures) (c .before .before .before .before .before .before .before .before .before .copy-expr2 .ensures) (c .before .before .before .before .before .before .before .before .is-dead .ensures) (c .before .before .before .before .before .before .before .if1 .left) (c .before .before .before .before .before .before .left-side .ensures) _ _ (c .before .before .before .before .enum-told .given .1) (c .before .before .flatten-both .ensures)
+returns-4 c =
+    let at-enum-told = c .before .before .before .before in
+    let at-left-side = at-enum-told .before .before in
+    let at-if1 = at-left-side .before in
+    let at-is-dead = at-if1 .before in
+    let at-copy-expr2 = at-is-dead .before in
+    let at-copy-expr = at-copy-expr2 .before in
+    way-neither _ _ _ _ _ (at-copy-expr .copy-expr .ensures) (at-copy-expr2 .copy-expr2 .ensures) (at-is-dead .is-dead .ensures) (at-if1 .if1 .left) (at-left-side .left-side .ensures) _ _ (at-enum-told .enum-told .given .1) (c .before .before .flatten-both .ensures)
 
 pub flatten-equation-spec : {M : Type 1} → statement M
 flatten-equation-spec =

@@ -24,7 +24,8 @@ loop-holds c = (record { count = c .before .before .pre .2; place = c .before .b
 
 equation-at-requires : tie.Need-equation-at-requires Inv-loop μ-loop
 equation-at-requires c κs =
-    let readable = c .before .before .before .before .pre .0 in
+    let start = c .before .before .before .before in
+    let readable = start .pre .0 in
     omega (arith, readable .long, readable .nodes-few, c .before .loop .inv .0 .count, c .before .loop .inv .0 .place, c .loop-test .taken)
 
 flatten-equation-requires : tie.Need-flatten-equation-requires Inv-loop μ-loop

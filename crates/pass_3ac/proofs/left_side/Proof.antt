@@ -38,7 +38,9 @@ enum-told-5 : tie.Need-enum-told-5
 enum-told-5 c = search needs
 
 returns-4 : tie.Need-returns-4
-returns-4 c = side-variable (c .before .before .before .before .before .before .a .given .1) (c .before .before .before .b2 .given .1) (c .enum-told5 .given .1)
+returns-4 c =
+    let at-a = c .before .before .before .before .before .before in
+    side-variable (at-a .a .given .1) (c .before .before .before .b2 .given .1) (c .enum-told5 .given .1)
 
 enum-told-6 : tie.Need-enum-told-6
 enum-told-6 c = search needs
@@ -47,10 +49,16 @@ enum-told-7 : tie.Need-enum-told-7
 enum-told-7 c = search needs
 
 returns-5 : tie.Need-returns-5
-returns-5 c = side-constants (c .before .before .before .before .before .before .before .before .a .given .1) (c .before .before .before .before .before .b2 .given .1) (c .before .before .enum-told4 .given .1) (c .enum-told7 .given .1)
+returns-5 c =
+    let at-b2 = c .before .before .before .before .before in
+    let at-a = at-b2 .before .before .before in
+    side-constants (at-a .a .given .1) (at-b2 .b2 .given .1) (c .before .before .enum-told4 .given .1) (c .enum-told7 .given .1)
 
 returns-6 : tie.Need-returns-6
-returns-6 c = side-other (c .before .before .before .before .before .before .before .before .a .given .1) (c .before .before .before .before .before .b2 .given .1) (c .before .before .enum-told4 .given .1) (c .enum-told6 .given .1)
+returns-6 c =
+    let at-b2 = c .before .before .before .before .before in
+    let at-a = at-b2 .before .before .before in
+    side-other (at-a .a .given .1) (at-b2 .b2 .given .1) (c .before .before .enum-told4 .given .1) (c .enum-told6 .given .1)
 
 pub left-side-spec : {M : Type 1} → statement M
 left-side-spec =

@@ -26,7 +26,9 @@ same-length : tie.Need-same-length
 same-length c = search needs
 
 returns-2 : tie.Need-returns-2
-returns-2 c = placed-given _ _ _ _ _ (c .before .before .before .before .before .before .target .given .1) (c .before .before .before .copy .ensures) (c .before .before .put-equality .ensures)
+returns-2 c =
+    let at-target = c .before .before .before .before .before .before in
+    placed-given _ _ _ _ _ (at-target .target .given .1) (c .before .before .before .copy .ensures) (c .before .before .put-equality .ensures)
 
 pub place-term-spec : {M : Type 1} → statement M
 place-term-spec =

@@ -41,16 +41,26 @@ mark-used-enum-known-node : (t : ℕ) → mark-used-lts.Need-enum-known-node (ma
 mark-used-enum-known-node t c = search needs
 
 mark-used-mark-used-requires : (t : ℕ) → mark-used-lts.Need-mark-used-requires (mark-used-claims t) (mark-used-at t) mark-used.Post
-mark-used-mark-used-requires t c κs = let w = left-inside (c .before .before .before .before .before .before .pre .1 .0) (sym (c .before .before .before .before .node-at .ensures) ∙ c .before .before .node .given .1) in (omega (arith, c .before .before .before .before .before .before .pre .0, w .0), (w .1, c .before .before .before .before .before .before .pre .1 .1, c .before .before .before .before .before .before .pre .1 .2))
+mark-used-mark-used-requires t c κs =
+    let at-node-at = c .before .before .before .before in
+    let start = at-node-at .before .before in
+    let w = left-inside (start .pre .1 .0) (sym (at-node-at .node-at .ensures) ∙ c .before .before .node .given .1) in (omega (arith, start .pre .0, w .0), (w .1, start .pre .1 .1, start .pre .1 .2))
 
 mark-used-mark-used-requires-2 : (t : ℕ) → mark-used-lts.Need-mark-used-requires-2 (mark-used-claims t) (mark-used-at t) mark-used.Post
-mark-used-mark-used-requires-2 t c κs = let w = right-inside (c .before .before .before .before .before .before .before .before .pre .1 .0) (sym (c .before .before .before .before .before .before .node-at .ensures) ∙ c .before .before .before .before .node .given .1) in (omega (arith, c .before .before .before .before .before .before .before .before .pre .0, w .0), (w .1, c .before .before .before .before .before .before .before .before .pre .1 .1, c .before .mark-used .ensures .codes))
+mark-used-mark-used-requires-2 t c κs =
+    let at-node = c .before .before .before .before in
+    let at-node-at = at-node .before .before in
+    let start = at-node-at .before .before in
+    let w = right-inside (start .pre .1 .0) (sym (at-node-at .node-at .ensures) ∙ at-node .node .given .1) in (omega (arith, start .pre .0, w .0), (w .1, start .pre .1 .1, c .before .mark-used .ensures .codes))
 
 mark-used-enum-known-node-2 : (t : ℕ) → mark-used-lts.Need-enum-known-node-2 (mark-used-claims t) (mark-used-at t) mark-used.Post
 mark-used-enum-known-node-2 t c = search needs
 
 mark-used-mark-used-requires-3 : (t : ℕ) → mark-used-lts.Need-mark-used-requires-3 (mark-used-claims t) (mark-used-at t) mark-used.Post
-mark-used-mark-used-requires-3 t c κs = let w = child-inside (c .before .before .before .before .before .before .pre .1 .0) (sym (c .before .before .before .before .node-at .ensures) ∙ c .before .before .node2 .given .1) in (omega (arith, c .before .before .before .before .before .before .pre .0, w .0), (w .1, c .before .before .before .before .before .before .pre .1 .1, c .before .before .before .before .before .before .pre .1 .2))
+mark-used-mark-used-requires-3 t c κs =
+    let at-node-at = c .before .before .before .before in
+    let start = at-node-at .before .before in
+    let w = child-inside (start .pre .1 .0) (sym (at-node-at .node-at .ensures) ∙ c .before .before .node2 .given .1) in (omega (arith, start .pre .0, w .0), (w .1, start .pre .1 .1, start .pre .1 .2))
 
 mark-used-enum-told : (t : ℕ) → mark-used-lts.Need-enum-told (mark-used-claims t) (mark-used-at t) mark-used.Post
 mark-used-enum-told t c = search needs
@@ -59,19 +69,34 @@ mark-used-enum-known-node-3 : (t : ℕ) → mark-used-lts.Need-enum-known-node-3
 mark-used-enum-known-node-3 t c = search needs
 
 mark-used-mark-requires : (t : ℕ) → mark-used-lts.Need-mark-requires (mark-used-claims t) (mark-used-at t) mark-used.Post
-mark-used-mark-requires t c κs = (id-small (c .before .before .before .before .before .before .pre .1 .0) (sym (c .before .before .before .before .node-at .ensures) ∙ c .before .before .node3 .given .1), c .before .before .before .before .before .before .pre .1 .1, c .before .before .before .before .before .before .pre .1 .2)
+mark-used-mark-requires t c κs =
+    let at-node-at = c .before .before .before .before in
+    let start = at-node-at .before .before in
+    (id-small (start .pre .1 .0) (sym (at-node-at .node-at .ensures) ∙ c .before .before .node3 .given .1), start .pre .1 .1, start .pre .1 .2)
 
 mark-used-returns : (t : ℕ) → mark-used-lts.Need-returns (mark-used-claims t) (mark-used-at t) mark-used.Post
-mark-used-returns t c = used-infix (c .before .before .before .before .before .before .before .before .before .pre .1 .0) _ _ (sym (c .before .before .before .before .before .before .before .node-at .ensures) ∙ c .before .before .before .before .before .node .given .1) (c .before .before .mark-used .ensures) (c .mark-used2 .ensures)
+mark-used-returns t c =
+    let at-node = c .before .before .before .before .before in
+    let at-node-at = at-node .before .before in
+    let start = at-node-at .before .before in
+    used-infix (start .pre .1 .0) _ _ (sym (at-node-at .node-at .ensures) ∙ at-node .node .given .1) (c .before .before .mark-used .ensures) (c .mark-used2 .ensures)
 
 mark-used-returns-2 : (t : ℕ) → mark-used-lts.Need-returns-2 (mark-used-claims t) (mark-used-at t) mark-used.Post
-mark-used-returns-2 t c = used-negate (c .before .before .before .before .before .before .before .pre .1 .0) _ _ (sym (c .before .before .before .before .before .node-at .ensures) ∙ c .before .before .before .node2 .given .1) (c .mark-used3 .ensures)
+mark-used-returns-2 t c =
+    let at-node-at = c .before .before .before .before .before in
+    let start = at-node-at .before .before in
+    used-negate (start .pre .1 .0) _ _ (sym (at-node-at .node-at .ensures) ∙ c .before .before .before .node2 .given .1) (c .mark-used3 .ensures)
 
 mark-used-returns-3 : (t : ℕ) → mark-used-lts.Need-returns-3 (mark-used-claims t) (mark-used-at t) mark-used.Post
-mark-used-returns-3 t c = used-constant (c .before .before .before .before .pre .1 .0) _ _ (sym (c .before .before .node-at .ensures) ∙ c .enum-told .given .1) (c .before .before .before .before .pre .1 .2)
+mark-used-returns-3 t c =
+    let start = c .before .before .before .before in
+    used-constant (start .pre .1 .0) _ _ (sym (c .before .before .node-at .ensures) ∙ c .enum-told .given .1) (start .pre .1 .2)
 
 mark-used-returns-4 : (t : ℕ) → mark-used-lts.Need-returns-4 (mark-used-claims t) (mark-used-at t) mark-used.Post
-mark-used-returns-4 t c = used-variable (c .before .before .before .before .before .before .before .pre .1 .0) _ _ (sym (c .before .before .before .before .before .node-at .ensures) ∙ c .before .before .before .node3 .given .1) (c .mark .ensures)
+mark-used-returns-4 t c =
+    let at-node-at = c .before .before .before .before .before in
+    let start = at-node-at .before .before in
+    used-variable (start .pre .1 .0) _ _ (sym (at-node-at .node-at .ensures) ∙ c .before .before .before .node3 .given .1) (c .mark .ensures)
 
 pub +mark-used-spec : {M : Type 1} → statement M
 +mark-used-spec = close μ-mark-used λ t. mark-used-lts.spec (

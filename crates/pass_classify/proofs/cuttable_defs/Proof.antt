@@ -27,10 +27,16 @@ cast-id : tie.Need-cast-id Inv-loop μ-loop
 cast-id c = search needs
 
 cuttable-def-requires : tie.Need-cuttable-def-requires Inv-loop μ-loop
-cuttable-def-requires c κs = (definition-inside (c .before .before .before .before .before .before .pre .0) (c .before .before .before .loop .inv .0) (c .before .before .loop-test .taken) (c .before .definition-at .ensures), definition-small (c .before .before .before .before .before .before .pre .0) (c .before .before .before .loop .inv .0) (c .before .before .loop-test .taken) (c .before .definition-at .ensures))
+cuttable-def-requires c κs =
+    let start = c .before .before .before .before .before .before in
+    (definition-inside (start .pre .0) (c .before .before .before .loop .inv .0) (c .before .before .loop-test .taken) (c .before .definition-at .ensures), definition-small (start .pre .0) (c .before .before .before .loop .inv .0) (c .before .before .loop-test .taken) (c .before .definition-at .ensures))
 
 returns : tie.Need-returns Inv-loop μ-loop
-returns c = counted-fails (c .before .before .before .before .before .before .before .before .pre .0) (c .before .before .before .before .before .before .before .before .pre .1) (c .before .before .before .before .before .loop .inv .0) (c .before .before .before .before .loop-test .taken) (c .before .before .before .definition-at .ensures) (c .before .cuttable-def .ensures) (c .before .before .before .before .before .loop .inv .1) (not-true _ (c .if1 .taken))
+returns c =
+    let at-loop-test = c .before .before .before .before in
+    let at-loop = at-loop-test .before in
+    let start = at-loop .before .before .before in
+    counted-fails (start .pre .0) (start .pre .1) (at-loop .loop .inv .0) (at-loop-test .loop-test .taken) (c .before .before .before .definition-at .ensures) (c .before .cuttable-def .ensures) (at-loop .loop .inv .1) (not-true _ (c .if1 .taken))
 
 add-k : tie.Need-add-k Inv-loop μ-loop
 add-k c = search needs
@@ -39,7 +45,11 @@ loop-less : tie.Need-loop-less Inv-loop μ-loop
 loop-less c = search needs
 
 loop-again : tie.Need-loop-again Inv-loop μ-loop
-loop-again c = (record { count = c .before .before .before .before .before .loop .inv .0 .count; place = c .before .before .before .before .before .loop .inv .0 .place; trees = c .before .before .before .before .before .loop .inv .0 .trees; within = omega arith }, counted-turn (c .before .before .before .before .before .before .before .before .pre .0) (c .before .before .before .before .before .before .before .before .pre .1) (c .before .before .before .before .before .loop .inv .0) (c .before .before .before .before .loop-test .taken) (c .before .before .before .definition-at .ensures) (c .before .cuttable-def .ensures) (c .before .before .before .before .before .loop .inv .1) (not-false _ (c .if1 .left)))
+loop-again c =
+    let at-loop-test = c .before .before .before .before in
+    let at-loop = at-loop-test .before in
+    let start = at-loop .before .before .before in
+    (record { count = at-loop .loop .inv .0 .count; place = at-loop .loop .inv .0 .place; trees = at-loop .loop .inv .0 .trees; within = omega arith }, counted-turn (start .pre .0) (start .pre .1) (at-loop .loop .inv .0) (at-loop-test .loop-test .taken) (c .before .before .before .definition-at .ensures) (c .before .cuttable-def .ensures) (at-loop .loop .inv .1) (not-false _ (c .if1 .left)))
 
 returns-2 : tie.Need-returns-2 Inv-loop μ-loop
 returns-2 c = counted-end (c .before .loop .inv .0) (c .loop-test .left) (c .before .loop .inv .1)

@@ -28,7 +28,9 @@ cast-id : tie.Need-cast-id Inv-loop μ-loop
 cast-id c = search needs
 
 element-write-provers : tie.Need-element-write-provers Inv-loop μ-loop
-element-write-provers c = prover-small (c .before .before .before .before .before .pre .0) (c .before .before .loop .inv .0) (c .before .loop-test .taken) (c .prover-at .ensures)
+element-write-provers c =
+    let start = c .before .before .before .before .before in
+    prover-small (start .pre .0) (c .before .before .loop .inv .0) (c .before .loop-test .taken) (c .prover-at .ensures)
 
 add-k : tie.Need-add-k Inv-loop μ-loop
 add-k c = search needs
@@ -37,7 +39,9 @@ loop-less : tie.Need-loop-less Inv-loop μ-loop
 loop-less c = search needs
 
 loop-again : tie.Need-loop-again Inv-loop μ-loop
-loop-again c = (record { count = c .before .before .loop .inv .0 .count; place = c .before .before .loop .inv .0 .place; within = omega arith }, (codes-set _ 1 (c .before .before .loop .inv .1 .0) (prover-small (c .before .before .before .before .before .pre .0) (c .before .before .loop .inv .0) (c .before .loop-test .taken) (c .prover-at .ensures)) (omega arith), marked-turn _ _ (c .before .before .before .before .before .pre .0) (c .before .before .loop .inv .0) (c .before .loop-test .taken) (c .prover-at .ensures) (c .before .before .loop .inv .1 .0) (c .before .before .loop .inv .1 .1)))
+loop-again c =
+    let start = c .before .before .before .before .before in
+    (record { count = c .before .before .loop .inv .0 .count; place = c .before .before .loop .inv .0 .place; within = omega arith }, (codes-set _ 1 (c .before .before .loop .inv .1 .0) (prover-small (start .pre .0) (c .before .before .loop .inv .0) (c .before .loop-test .taken) (c .prover-at .ensures)) (omega arith), marked-turn _ _ (start .pre .0) (c .before .before .loop .inv .0) (c .before .loop-test .taken) (c .prover-at .ensures) (c .before .before .loop .inv .1 .0) (c .before .before .loop .inv .1 .1)))
 
 returns : tie.Need-returns Inv-loop μ-loop
 returns c = marked-end _ _ (c .before .loop .inv .0) (c .loop-test .left) (c .before .loop .inv .1 .1) (c .before .loop .inv .1 .0)

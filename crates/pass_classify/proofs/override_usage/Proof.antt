@@ -14,13 +14,17 @@ element-copy-out-if2 : tie.Need-element-copy-out-if2
 element-copy-out-if2 c = search needs
 
 returns-2 : tie.Need-returns-2
-returns-2 c = override-no _ _ _ (c .before .before .before .before .pre .1) (c .before .before .if1 .left) (c .if2 .taken)
+returns-2 c =
+    let start = c .before .before .before .before in
+    override-no _ _ _ (start .pre .1) (c .before .before .if1 .left) (c .if2 .taken)
 
 element-write-usage : tie.Need-element-write-usage
 element-write-usage c = search needs
 
 returns-3 : tie.Need-returns-3
-returns-3 c = override-yes _ _ _ (c .before .before .before .before .pre .1) (c .before .before .before .before .pre .0) (c .before .before .if1 .left) (c .if2 .left)
+returns-3 c =
+    let start = c .before .before .before .before in
+    override-yes _ _ _ (start .pre .1) (start .pre .0) (c .before .before .if1 .left) (c .if2 .left)
 
 pub override-usage-spec : {M : Type 1} → statement M
 override-usage-spec =

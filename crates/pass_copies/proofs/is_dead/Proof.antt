@@ -30,7 +30,9 @@ same-term-requires c κs = search needs
 
 returns-3 : tie.Need-returns-3
 unfolding deadRoots
-returns-3 c = c .same-term .ensures ∙ sym (ap₂ deadRoots (c .before .before .before .before .before .a .given .1) (c .before .before .b .given .1))
+returns-3 c =
+    let at-a = c .before .before .before .before .before in
+    c .same-term .ensures ∙ sym (ap₂ deadRoots (at-a .a .given .1) (c .before .before .b .given .1))
 
 pub is-dead-spec : {M : Type 1} → statement M
 is-dead-spec =

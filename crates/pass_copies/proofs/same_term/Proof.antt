@@ -26,7 +26,9 @@ enum-known-b-2 c = search needs
 
 returns : tie.Need-returns
 unfolding sameTerm
-returns c = sym (ap₂ sameTerm (c .before .before .before .before .a .given .1) (c .before .b .given .1))
+returns c =
+    let at-a = c .before .before .before .before in
+    sym (ap₂ sameTerm (at-a .a .given .1) (c .before .b .given .1))
 
 returns-2 : tie.Need-returns-2
 unfolding sameTerm
@@ -38,7 +40,9 @@ returns-3 c = sym (ap₂ sameTerm (c .before .before .before .a2 .given .1) (c .
 
 returns-4 : tie.Need-returns-4
 unfolding sameTerm
-returns-4 c = same-bits _ _ (record { sfits = c .before .before .before .known-told3 .given .0 .1 }) (record { sfits = c .known-told4 .given .0 .1 }) ∙ sym (ap₂ sameTerm (c .before .before .before .before .a2 .given .1) (c .before .b2 .given .1))
+returns-4 c =
+    let at-a2 = c .before .before .before .before in
+    same-bits _ _ (record { sfits = c .before .before .before .known-told3 .given .0 .1 }) (record { sfits = c .known-told4 .given .0 .1 }) ∙ sym (ap₂ sameTerm (at-a2 .a2 .given .1) (c .before .b2 .given .1))
 
 pub same-term-spec : {M : Type 1} → statement M
 same-term-spec =

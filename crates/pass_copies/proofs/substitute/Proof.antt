@@ -18,7 +18,9 @@ enum-told c = search needs
 
 returns : tie.Need-returns
 unfolding putDefinition
-returns c = put-tree (c .before .before .before .before .before .args .subs .now) (c .before .before .before .before .before .args .id) (sym (c .before .before .copy-expr .ensures) ∙ c .enum-told .given .1)
+returns c =
+    let start = c .before .before .before .before .before in
+    put-tree (start .args .subs .now) (start .args .id) (sym (c .before .before .copy-expr .ensures) ∙ c .enum-told .given .1)
 
 enum-known-term-2 : tie.Need-enum-known-term-2
 enum-known-term-2 c = search needs
@@ -37,15 +39,29 @@ put-substitution-requires-2 c κs = search needs
 
 returns-2 : tie.Need-returns-2
 unfolding putDefinition
-returns-2 c = put-variable (c .before .before .before .before .before .before .before .before .before .before .before .before .args .subs .now) (c .before .before .before .before .before .before .before .before .before .before .before .before .args .id) _ (sym (c .before .before .before .before .before .before .before .before .before .copy-expr .ensures) ∙ c .before .before .before .before .before .before .before .term .given .1 ∙ ap Copied.Leaf (c .before .before .before .before .term2 .given .1)) (c .before .before .if1 .taken) (c .put-substitution .ensures)
+returns-2 c =
+    let at-term2 = c .before .before .before .before in
+    let at-term = at-term2 .before .before .before in
+    let at-copy-expr = at-term .before .before in
+    let start = at-copy-expr .before .before .before in
+    put-variable (start .args .subs .now) (start .args .id) _ (sym (at-copy-expr .copy-expr .ensures) ∙ at-term .term .given .1 ∙ ap Copied.Leaf (at-term2 .term2 .given .1)) (c .before .before .if1 .taken) (c .put-substitution .ensures)
 
 returns-3 : tie.Need-returns-3
 unfolding putDefinition
-returns-3 c = put-itself (c .before .before .before .before .before .before .before .before .before .before .args .subs .now) (c .before .before .before .before .before .before .before .before .before .before .args .id) _ (sym (c .before .before .before .before .before .before .before .copy-expr .ensures) ∙ c .before .before .before .before .before .term .given .1 ∙ ap Copied.Leaf (c .before .before .term2 .given .1)) (c .if1 .left)
+returns-3 c =
+    let at-term = c .before .before .before .before .before in
+    let at-copy-expr = at-term .before .before in
+    let start = at-copy-expr .before .before .before in
+    put-itself (start .args .subs .now) (start .args .id) _ (sym (at-copy-expr .copy-expr .ensures) ∙ at-term .term .given .1 ∙ ap Copied.Leaf (c .before .before .term2 .given .1)) (c .if1 .left)
 
 returns-4 : tie.Need-returns-4
 unfolding putDefinition
-returns-4 c = put-constant (c .before .before .before .before .before .before .before .before .before .before .before .before .args .subs .now) (c .before .before .before .before .before .before .before .before .before .before .before .before .args .id) _ (sym (c .before .before .before .before .before .before .before .before .before .copy-expr .ensures) ∙ c .before .before .before .before .before .before .before .term .given .1 ∙ ap Copied.Leaf (c .before .before .before .before .term3 .given .1)) (record { sfits = c .before .before .before .known-told3 .given .0 .1 }) (c .before .unsigned .ensures) (c .put-substitution2 .ensures)
+returns-4 c =
+    let at-term3 = c .before .before .before .before in
+    let at-term = at-term3 .before .before .before in
+    let at-copy-expr = at-term .before .before in
+    let start = at-copy-expr .before .before .before in
+    put-constant (start .args .subs .now) (start .args .id) _ (sym (at-copy-expr .copy-expr .ensures) ∙ at-term .term .given .1 ∙ ap Copied.Leaf (at-term3 .term3 .given .1)) (record { sfits = c .before .before .before .known-told3 .given .0 .1 }) (c .before .unsigned .ensures) (c .put-substitution2 .ensures)
 
 pub substitute-spec : {M : Type 1} → statement M
 substitute-spec =

@@ -23,7 +23,9 @@ wide-requires : tie.Need-wide-requires Inv-loop μ-loop
 wide-requires c κs = search needs
 
 element-copy-out-one-where-used : tie.Need-element-copy-out-one-where-used Inv-loop μ-loop
-element-copy-out-one-where-used c = used-small _ (c .before .before .before .before .before .args .usage .now) (c .before .before .before .before .before .pre .0) (c .before .before .before .before .before .pre .1) (c .before .before .before .before .before .pre .2) (c .before .before .loop-test .taken) (c .before .definition-at .ensures) (c .wide .ensures .0)
+element-copy-out-one-where-used c =
+    let start = c .before .before .before .before .before in
+    used-small _ (start .args .usage .now) (start .pre .0) (start .pre .1) (start .pre .2) (c .before .before .loop-test .taken) (c .before .definition-at .ensures) (c .wide .ensures .0)
 
 one-where-used-requires : tie.Need-one-where-used-requires Inv-loop μ-loop
 one-where-used-requires c κs = search needs

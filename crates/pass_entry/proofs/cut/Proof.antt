@@ -19,13 +19,18 @@ enum-told : tie.Need-enum-told
 enum-told c = search needs
 
 passes-requires : tie.Need-passes-requires
-passes-requires c κs = record-passable (c .before .before .before .before .before .before .before .before .before .before .before .args .s .now) (sym (c .before .before .before .check-flat .ensures) ∙ c .before .enum-told .given .1)
+passes-requires c κs =
+    let start = c .before .before .before .before .before .before .before .before .before .before .before in
+    record-passable (start .args .s .now) (sym (c .before .before .before .check-flat .ensures) ∙ c .before .enum-told .given .1)
 
 same-length : tie.Need-same-length
 same-length c = search needs
 
 returns : tie.Need-returns
-returns c = let g = gives-as (c .before .before .before .before .before .before .before .before .before .before .before .args .out .now) _ _ (record-refused (c .before .before .before .before .before .before .before .before .before .before .before .args .s .now) _ (sym (c .before .before .before .check-flat .ensures) ∙ c .before .n .given .1)) (gives-refused (c .before .before .before .before .before .before .before .before .before .before .before .args .out .now) _) in (g .0, (g .1, c .before .before .before .before .before .before .clear .ensures))
+returns c =
+    let at-clear = c .before .before .before .before .before .before in
+    let start = at-clear .before .before .before .before .before in
+    let g = gives-as (start .args .out .now) _ _ (record-refused (start .args .s .now) _ (sym (c .before .before .before .check-flat .ensures) ∙ c .before .n .given .1)) (gives-refused (start .args .out .now) _) in (g .0, (g .1, at-clear .clear .ensures))
 
 same-length-2 : tie.Need-same-length-2
 same-length-2 c = search needs
@@ -34,7 +39,12 @@ same-length-3 : tie.Need-same-length-3
 same-length-3 c = search needs
 
 returns-2 : tie.Need-returns-2
-returns-2 c = let g = gives-as (c .before .before .before .before .before .before .before .before .before .before .before .before .before .before .args .out .now) _ _ (record-accepted (c .before .before .before .before .before .before .before .before .before .before .before .before .before .before .args .s .now) (sym (c .before .before .before .before .before .before .check-flat .ensures) ∙ c .before .before .before .before .enum-told .given .1)) (c .before .before .passes .ensures) in (g .0, (g .1, c .before .before .before .before .before .before .before .before .before .clear .ensures))
+returns-2 c =
+    let at-enum-told = c .before .before .before .before in
+    let at-check-flat = at-enum-told .before .before in
+    let at-clear = at-check-flat .before .before .before in
+    let start = at-clear .before .before .before .before .before in
+    let g = gives-as (start .args .out .now) _ _ (record-accepted (start .args .s .now) (sym (at-check-flat .check-flat .ensures) ∙ at-enum-told .enum-told .given .1)) (c .before .before .passes .ensures) in (g .0, (g .1, at-clear .clear .ensures))
 
 pub cut-spec : {M : Type 1} → statement M
 cut-spec =

@@ -39,12 +39,13 @@ loop-less c = search needs
 
 loop-again : tie.Need-loop-again Inv-loop μ-loop
 loop-again c =
+    let at-keep-def = c .before .before .before .before in
     let r = c .before .before .before .before .before .before .before .before in
     let l = r .before .before in
     let pre = l .before .before .before .before .pre .0 in
     let g = l .loop .inv in
     let o : OverDefinitions _ _ _ _ _ = record { count = pre .3; place = pre .2; trees = pre .4; within = g .within } in
-    going-turn _ _ _ _ _ _ _ g (pre .0) o (r .before .loop-test .taken) (r .definition-at .ensures) (c .before .before .before .before .keep-def .ensures)
+    going-turn _ _ _ _ _ _ _ g (pre .0) o (r .before .loop-test .taken) (r .definition-at .ensures) (at-keep-def .keep-def .ensures)
 
 same-length : tie.Need-same-length Inv-loop μ-loop
 same-length c = c .before .loop .inv .body-long
@@ -54,7 +55,9 @@ same-length-2 c = c .before .loop .inv .list-long
 
 returns : tie.Need-returns Inv-loop μ-loop
 unfolding counted countedOf usedOf proversOf classifyDefs
-returns c = let w = going-end _ _ _ _ _ _ _ (c .before .loop .inv) (c .before .before .before .before .before .pre .0 .3) (c .loop-test .left) in (w .body-is, (w .list-is, (w .answer-is, w .subs-are)))
+returns c =
+    let start = c .before .before .before .before .before in
+    let w = going-end _ _ _ _ _ _ _ (c .before .loop .inv) (start .pre .0 .3) (c .loop-test .left) in (w .body-is, (w .list-is, (w .answer-is, w .subs-are)))
 
 pub keep-defs-spec : {M : Type 1} → statement M
 keep-defs-spec =

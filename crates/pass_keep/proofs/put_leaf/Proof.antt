@@ -29,13 +29,20 @@ same-length : tie.Need-same-length
 same-length c = search needs
 
 returns : tie.Need-returns
-returns c = leaf-variable (c .before .before .before .before .before .before .before .before .args .list .now) (c .before .before .before .before .before .before .before .before .args .index) _ (c .before .before .before .before .before .term .given .1) (c .before .before .put-node .ensures)
+returns c =
+    let at-term = c .before .before .before .before .before in
+    let start = at-term .before .before .before in
+    leaf-variable (start .args .list .now) (start .args .index) _ (at-term .term .given .1) (c .before .before .put-node .ensures)
 
 same-length-2 : tie.Need-same-length-2
 same-length-2 c = search needs
 
 returns-2 : tie.Need-returns-2
-returns-2 c = leaf-constant (c .before .before .before .before .before .before .before .before .before .args .list .now) (c .before .before .before .before .before .before .before .before .before .args .index) _ _ (c .before .before .before .before .before .before .term2 .given .1) (record { sfits = c .before .before .before .before .before .known-told2 .given .0 .1 }) (c .before .before .before .unsigned .ensures) (c .before .before .put-node2 .ensures)
+returns-2 c =
+    let at-known-told2 = c .before .before .before .before .before in
+    let at-term2 = at-known-told2 .before in
+    let start = at-term2 .before .before .before in
+    leaf-constant (start .args .list .now) (start .args .index) _ _ (at-term2 .term2 .given .1) (record { sfits = at-known-told2 .known-told2 .given .0 .1 }) (c .before .before .before .unsigned .ensures) (c .before .before .put-node2 .ensures)
 
 pub put-leaf-spec : {M : Type 1} → statement M
 put-leaf-spec =

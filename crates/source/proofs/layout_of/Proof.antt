@@ -47,7 +47,9 @@ mul-t13 : tie.Need-mul-t13
 mul-t13 c = search needs
 
 returns : tie.Need-returns
-returns c = laid-out _ (c .before .before .before .before .count .ensures .0) (c .before .before .before .count2 .ensures .0) (c .before .before .count3 .ensures .0) (c .before .count4 .ensures .0) (c .count5 .ensures .0)
+returns c =
+    let at-count = c .before .before .before .before in
+    laid-out _ (at-count .count .ensures .0) (c .before .before .before .count2 .ensures .0) (c .before .before .count3 .ensures .0) (c .before .count4 .ensures .0) (c .count5 .ensures .0)
 
 pub layout-of-spec : {M : Type 1} → statement M
 layout-of-spec =

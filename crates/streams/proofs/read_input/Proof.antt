@@ -34,24 +34,27 @@ enum-known-step c = search needs
 
 add-done : tie.Need-add-done Inv-loop μ-loop
 add-done c =
+    let at-read-more = c .before .before .before .before .before in
     let turn = c .before .before .before .before .before .before .before in
-    let read = c .before .before .before .before .before .read-more in
+    let read = at-read-more .read-more in
     let step = c .before .step in
     let more = more-done _ _ _ _ (turn .before .loop .buf) (turn .before .loop .inv .1) (turn .loop-test .taken) (step .given .1) (read .ensures) in
     omega (arith, more .1)
 
 loop-less : tie.Need-loop-less Inv-loop μ-loop
 loop-less c =
+    let at-read-more = c .before .before .before .before .before in
     let turn = c .before .before .before .before .before .before .before in
-    let read = c .before .before .before .before .before .read-more in
+    let read = at-read-more .read-more in
     let step = c .before .step in
     let more = more-done _ _ _ _ (turn .before .loop .buf) (turn .before .loop .inv .1) (turn .loop-test .taken) (step .given .1) (read .ensures) in
     omega (arith, more)
 
 loop-again : tie.Need-loop-again Inv-loop μ-loop
 loop-again c =
+    let at-read-more = c .before .before .before .before .before in
     let turn = c .before .before .before .before .before .before .before in
-    let read = c .before .before .before .before .before .read-more in
+    let read = at-read-more .read-more in
     let step = c .before .step in
     let more = more-done _ _ _ _ (turn .before .loop .buf) (turn .before .loop .inv .1) (turn .loop-test .taken) (step .given .1) (read .ensures) in
     (more .1, search needs)

@@ -71,7 +71,9 @@ slice-relend-prefix-replay-group-3 : tie.Need-slice-relend-prefix-replay-group-3
 slice-relend-prefix-replay-group-3 c = search needs
 
 slice-aggregate-replay-group-3 : tie.Need-slice-aggregate-replay-group-3
-slice-aggregate-replay-group-3 c = counts _ _ (c .before .before .before .before .before .if3 .left) .1
+slice-aggregate-replay-group-3 c =
+    let at-if3 = c .before .before .before .before .before in
+    counts _ _ (at-if3 .if3 .left) .1
 
 replay-group-requires : tie.Need-replay-group-requires
 replay-group-requires c κs = search needs

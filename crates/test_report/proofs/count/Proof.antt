@@ -26,7 +26,9 @@ same-length : tie.Need-same-length
 same-length c = search needs
 
 returns : tie.Need-returns
-returns c = counted-more (c .before .before .before .before .args .counts .now) (c .before .before .before .before .args .k) (c .before .if2 .taken)
+returns c =
+    let start = c .before .before .before .before in
+    counted-more (start .args .counts .now) (start .args .k) (c .before .if2 .taken)
 
 returns-2 : tie.Need-returns-2
 returns-2 c = counted-many (c .before .before .before .args .counts .now) (c .before .before .before .args .k) (c .if2 .left)

@@ -32,7 +32,8 @@ same-length c = search needs
 
 returns : tie.Need-returns
 returns c =
-    let told = c .before .before .before .before .enum-told .given .1 in
+    let at-enum-told = c .before .before .before .before in
+    let told = at-enum-told .enum-told .given .1 in
     ended _ Part.Whole _ _ _ _ told (c .before .before .finish-broken .ensures)
 
 same-length-2 : tie.Need-same-length-2
@@ -49,11 +50,14 @@ same-length-3 c = search needs
 
 returns-3 : tie.Need-returns-3
 returns-3 c =
-    let told = c .before .before .before .before .enum-told3 .given .1 in
+    let at-enum-told3 = c .before .before .before .before in
+    let told = at-enum-told3 .enum-told3 .given .1 in
     ended _ Part.Broken _ _ _ _ told (c .before .before .finish-broken2 .ensures)
 
 returns-4 : tie.Need-returns-4
-returns-4 c = ended _ Part.Failed _ _ _ (c .before .before .before .before .args .different) (c .enum-told4 .given .1) (refl, refl)
+returns-4 c =
+    let start = c .before .before .before .before in
+    ended _ Part.Failed _ _ _ (start .args .different) (c .enum-told4 .given .1) (refl, refl)
 
 pub finish-spec : {M : Type 1} → statement M
 finish-spec =

@@ -36,7 +36,8 @@ equality-of-requires c κs = search needs
 
 returns : tie.Need-returns
 returns c =
-    let left = c .before .before .before .before .term-at .ensures in
+    let at-term-at = c .before .before .before .before in
+    let left = at-term-at .term-at .ensures in
     let number = c .before .before .before .word-at .ensures in
     equality-read _ _ _ left number (c .before .before .term-at2 .ensures) (c .before .term-at3 .ensures) (c .equality-of .ensures)
 

@@ -48,8 +48,10 @@ add-t13 c = search needs
 
 returns : tie.Need-returns
 returns c =
-    let publics = c .before .before .before .before .before .count .ensures .0 in
-    let provers = c .before .before .before .before .count2 .ensures .0 in
+    let at-count2 = c .before .before .before .before in
+    let at-count = at-count2 .before in
+    let publics = at-count .count .ensures .0 in
+    let provers = at-count2 .count2 .ensures .0 in
     let equalities = c .before .before .before .count3 .ensures .0 in
     laid-out _ (c .count6 .ensures .0) publics provers equalities (c .before .before .count4 .ensures .0) (c .before .count5 .ensures .0)
 

@@ -18,13 +18,18 @@ slice-aggregate-put-text : tie.Need-slice-aggregate-put-text
 slice-aggregate-put-text c = search needs
 
 put-text-requires : tie.Need-put-text-requires
-put-text-requires c κs = omega (arith, c .before .before .decimal .ensures .0 .1, few _ _ (c .before .before .before .before .before .fits .n .fits) (c .before .before .decimal .ensures .1 .0))
+put-text-requires c κs =
+    let at-fits = c .before .before .before .before .before in
+    omega (arith, c .before .before .decimal .ensures .0 .1, few _ _ (at-fits .fits .n .fits) (c .before .before .decimal .ensures .1 .0))
 
 same-length : tie.Need-same-length
 same-length c = search needs
 
 returns : tie.Need-returns
-returns c = (renamed _ _ _ _ _ _ (c .before .before .before .before .before .decimal .ensures .1 .1 ∙ decimal-digits _ _ (c .before .before .before .before .before .decimal .ensures .1 .0)) (c .before .before .put-text .ensures), omega (arith, c .before .before .put-text .ensures .0, c .before .before .before .before .before .decimal .ensures .0 .1, few _ _ (c .before .before .before .before .before .before .before .before .fits .n .fits) (c .before .before .before .before .before .decimal .ensures .1 .0)))
+returns c =
+    let at-decimal = c .before .before .before .before .before in
+    let at-fits = at-decimal .before .before .before in
+    (renamed _ _ _ _ _ _ (at-decimal .decimal .ensures .1 .1 ∙ decimal-digits _ _ (at-decimal .decimal .ensures .1 .0)) (c .before .before .put-text .ensures), omega (arith, c .before .before .put-text .ensures .0, at-decimal .decimal .ensures .0 .1, few _ _ (at-fits .fits .n .fits) (at-decimal .decimal .ensures .1 .0)))
 
 pub put-decimal-spec : {M : Type 1} → statement M
 put-decimal-spec =

@@ -17,7 +17,10 @@ put-byte-requires : tie.Need-put-byte-requires
 put-byte-requires c κs = search needs
 
 add-put-decimal : tie.Need-add-put-decimal
-add-put-decimal c = omega (arith, c .before .before .before .before .before .before .magnitude .ensures ∙ ap mag (toZ-ofZ (c .before .before .before .before .before .before .before .before .fits .z)), (c .before .before .before .before .before .before .before .before .fits .z .sfits))
+add-put-decimal c =
+    let at-magnitude = c .before .before .before .before .before .before in
+    let at-fits = at-magnitude .before .before in
+    omega (arith, at-magnitude .magnitude .ensures ∙ ap mag (toZ-ofZ (at-fits .fits .z)), (at-fits .fits .z .sfits))
 
 put-decimal-requires : tie.Need-put-decimal-requires
 put-decimal-requires c κs = search needs
@@ -26,7 +29,12 @@ same-length : tie.Need-same-length
 same-length c = search needs
 
 returns : tie.Need-returns
-returns c = (renamed _ _ _ _ _ _ (number-negative (c .before .before .before .before .before .before .before .before .before .before .before .args .z) (mag (c .before .before .before .before .before .before .before .before .before .before .before .args .z)) _ (negative (c .before .before .before .before .before .before .before .before .before .before .before .args .z) (c .before .before .before .before .before .before .before .before .before .before .before .fits .z) (c .before .before .before .before .before .before .before .before .if1 .taken)) (c .before .before .before .before .before .before .before .before .before .magnitude .ensures ∙ ap mag (toZ-ofZ (c .before .before .before .before .before .before .before .before .before .before .before .fits .z)))) (then _ _ _ _ _ _ _ _ (c .before .before .before .before .before .before .put-byte .ensures) (c .before .before .put-decimal .ensures .0)), omega (arith, c .before .before .before .before .before .before .put-byte .ensures .0, c .before .before .put-decimal .ensures .1))
+returns c =
+    let at-put-byte = c .before .before .before .before .before .before in
+    let at-if1 = at-put-byte .before .before in
+    let at-magnitude = at-if1 .before in
+    let start = at-magnitude .before .before in
+    (renamed _ _ _ _ _ _ (number-negative (start .args .z) (mag (start .args .z)) _ (negative (start .args .z) (start .fits .z) (at-if1 .if1 .taken)) (at-magnitude .magnitude .ensures ∙ ap mag (toZ-ofZ (start .fits .z)))) (then _ _ _ _ _ _ _ _ (at-put-byte .put-byte .ensures) (c .before .before .put-decimal .ensures .0)), omega (arith, at-put-byte .put-byte .ensures .0, c .before .before .put-decimal .ensures .1))
 
 put-decimal-requires-2 : tie.Need-put-decimal-requires-2
 put-decimal-requires-2 c κs = search needs
@@ -35,7 +43,11 @@ same-length-2 : tie.Need-same-length-2
 same-length-2 c = search needs
 
 returns-2 : tie.Need-returns-2
-returns-2 c = (renamed _ _ _ _ _ _ (number-positive (c .before .before .before .before .before .before .before .args .z) (mag (c .before .before .before .before .before .before .before .args .z)) _ (positive (c .before .before .before .before .before .before .before .args .z) (c .before .before .before .before .before .before .before .fits .z) (c .before .before .before .before .if1 .left)) (c .before .before .before .before .before .magnitude .ensures ∙ ap mag (toZ-ofZ (c .before .before .before .before .before .before .before .fits .z)))) (c .before .before .put-decimal2 .ensures .0), omega (arith, c .before .before .put-decimal2 .ensures .1))
+returns-2 c =
+    let at-if1 = c .before .before .before .before in
+    let at-magnitude = at-if1 .before in
+    let start = at-magnitude .before .before in
+    (renamed _ _ _ _ _ _ (number-positive (start .args .z) (mag (start .args .z)) _ (positive (start .args .z) (start .fits .z) (at-if1 .if1 .left)) (at-magnitude .magnitude .ensures ∙ ap mag (toZ-ofZ (start .fits .z)))) (c .before .before .put-decimal2 .ensures .0), omega (arith, c .before .before .put-decimal2 .ensures .1))
 
 pub put-number-spec : {M : Type 1} → statement M
 put-number-spec =

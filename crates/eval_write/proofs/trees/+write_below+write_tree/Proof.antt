@@ -80,22 +80,35 @@ write-tree-node-word-requires : (t : ℕ) → write-tree-lts.Need-node-word-requ
 write-tree-node-word-requires t c κs = search needs
 
 write-tree-write-below-requires : (t : ℕ) → write-tree-lts.Need-write-below-requires (write-tree-claims t) (write-tree-at t) write-tree.Post
-write-tree-write-below-requires t c κs = (omega (arith, c .before .before .before .before .before .pre .0), (c .before .before .before .before .before .pre .1 .0, c .before .before .before .before .before .pre .1 .1))
+write-tree-write-below-requires t c κs =
+    let start = c .before .before .before .before .before in
+    (omega (arith, start .pre .0), (start .pre .1 .0, start .pre .1 .1))
 
 write-tree-below-requires : (t : ℕ) → write-tree-lts.Need-below-requires (write-tree-claims t) (write-tree-at t) write-tree.Post
 write-tree-below-requires t c κs = search needs
 
 write-tree-add-node-requires : (t : ℕ) → write-tree-lts.Need-add-node-requires (write-tree-claims t) (write-tree-at t) write-tree.Post
-write-tree-add-node-requires t c κs = (c .before .before .before .before .before .before .before .before .pre .1 .0, c .before .before .write-below .ensures .1)
+write-tree-add-node-requires t c κs =
+    let start = c .before .before .before .before .before .before .before .before in
+    (start .pre .1 .0, c .before .before .write-below .ensures .1)
 
 write-tree-returns : (t : ℕ) → write-tree-lts.Need-returns (write-tree-claims t) (write-tree-at t) write-tree.Post
-write-tree-returns t c = (tree-negate _ _ _ _ _ _ (c .before .before .before .before .before .before .before .kind .ensures .0) (c .before .before .before .before .before .before .node-word .ensures) (c .before .before .before .before .before .if1 .taken) (c .before .before .before .write-below .ensures .0) (c .before .below .ensures) (c .add-node .ensures .0), c .add-node .ensures .1)
+write-tree-returns t c =
+    let at-if1 = c .before .before .before .before .before in
+    let at-node-word = at-if1 .before in
+    let at-kind = at-node-word .before in
+    (tree-negate _ _ _ _ _ _ (at-kind .kind .ensures .0) (at-node-word .node-word .ensures) (at-if1 .if1 .taken) (c .before .before .before .write-below .ensures .0) (c .before .below .ensures) (c .add-node .ensures .0), c .add-node .ensures .1)
 
 write-tree-add-node-requires-2 : (t : ℕ) → write-tree-lts.Need-add-node-requires-2 (write-tree-claims t) (write-tree-at t) write-tree.Post
-write-tree-add-node-requires-2 t c κs = (c .before .before .before .before .before .before .pre .1 .0, c .before .before .before .before .before .before .pre .1 .1)
+write-tree-add-node-requires-2 t c κs =
+    let start = c .before .before .before .before .before .before in
+    (start .pre .1 .0, start .pre .1 .1)
 
 write-tree-returns-2 : (t : ℕ) → write-tree-lts.Need-returns-2 (write-tree-claims t) (write-tree-at t) write-tree.Post
-write-tree-returns-2 t c = (tree-leaf _ _ _ _ _ _ (c .before .before .before .before .before .kind .ensures .0) (c .before .before .before .before .node-word .ensures) (c .before .before .before .if1 .left) (c .before .before .if2 .taken) (c .add-node2 .ensures .0), c .add-node2 .ensures .1)
+write-tree-returns-2 t c =
+    let at-node-word = c .before .before .before .before in
+    let at-kind = at-node-word .before in
+    (tree-leaf _ _ _ _ _ _ (at-kind .kind .ensures .0) (at-node-word .node-word .ensures) (c .before .before .before .if1 .left) (c .before .before .if2 .taken) (c .add-node2 .ensures .0), c .add-node2 .ensures .1)
 
 write-tree-node-word-requires-2 : (t : ℕ) → write-tree-lts.Need-node-word-requires-2 (write-tree-claims t) (write-tree-at t) write-tree.Post
 write-tree-node-word-requires-2 t c κs = search needs
@@ -104,10 +117,14 @@ write-tree-node-word-requires-3 : (t : ℕ) → write-tree-lts.Need-node-word-re
 write-tree-node-word-requires-3 t c κs = search needs
 
 write-tree-write-below-requires-2 : (t : ℕ) → write-tree-lts.Need-write-below-requires-2 (write-tree-claims t) (write-tree-at t) write-tree.Post
-write-tree-write-below-requires-2 t c κs = (omega (arith, c .before .before .before .before .before .before .before .before .pre .0), (c .before .before .before .before .before .before .before .before .pre .1 .0, c .before .before .before .before .before .before .before .before .pre .1 .1))
+write-tree-write-below-requires-2 t c κs =
+    let start = c .before .before .before .before .before .before .before .before in
+    (omega (arith, start .pre .0), (start .pre .1 .0, start .pre .1 .1))
 
 write-tree-write-below-requires-3 : (t : ℕ) → write-tree-lts.Need-write-below-requires-3 (write-tree-claims t) (write-tree-at t) write-tree.Post
-write-tree-write-below-requires-3 t c κs = (omega (arith, c .before .before .before .before .before .before .before .before .before .before .pre .0), (c .before .before .before .before .before .before .before .before .before .before .pre .1 .0, c .before .write-below2 .ensures .1))
+write-tree-write-below-requires-3 t c κs =
+    let start = c .before .before .before .before .before .before .before .before .before .before in
+    (omega (arith, start .pre .0), (start .pre .1 .0, c .before .write-below2 .ensures .1))
 
 write-tree-below-requires-2 : (t : ℕ) → write-tree-lts.Need-below-requires-2 (write-tree-claims t) (write-tree-at t) write-tree.Post
 write-tree-below-requires-2 t c κs = search needs
@@ -116,10 +133,21 @@ write-tree-below-requires-3 : (t : ℕ) → write-tree-lts.Need-below-requires-3
 write-tree-below-requires-3 t c κs = search needs
 
 write-tree-add-node-requires-3 : (t : ℕ) → write-tree-lts.Need-add-node-requires-3 (write-tree-claims t) (write-tree-at t) write-tree.Post
-write-tree-add-node-requires-3 t c κs = (c .before .before .before .before .before .before .before .before .before .before .before .before .before .before .pre .1 .0, c .before .before .before .write-below3 .ensures .1)
+write-tree-add-node-requires-3 t c κs =
+    let start = c .before .before .before .before .before .before .before .before .before .before .before .before .before .before in
+    (start .pre .1 .0, c .before .before .before .write-below3 .ensures .1)
 
 write-tree-returns-3 : (t : ℕ) → write-tree-lts.Need-returns-3 (write-tree-claims t) (write-tree-at t) write-tree.Post
-write-tree-returns-3 t c = (tree-infix _ _ _ _ _ _ (c .before .before .before .before .before .before .before .before .before .before .before .before .before .kind .ensures .0) (c .before .before .before .before .before .before .before .before .before .before .before .before .node-word .ensures) (c .before .before .before .before .before .before .before .before .before .before .before .if1 .left) (c .before .before .before .before .before .before .before .before .before .before .if2 .left) (c .before .before .before .before .before .before .before .before .before .node-word2 .ensures) (c .before .before .before .before .before .before .before .before .node-word3 .ensures) (c .before .before .before .before .before .before .write-below2 .ensures .0) (c .before .before .before .before .write-below3 .ensures .0) (c .before .before .below2 .ensures) (c .before .below3 .ensures) (c .add-node3 .ensures .0), c .add-node3 .ensures .1)
+write-tree-returns-3 t c =
+    let at-write-below3 = c .before .before .before .before in
+    let at-write-below2 = at-write-below3 .before .before in
+    let at-node-word3 = at-write-below2 .before .before in
+    let at-node-word2 = at-node-word3 .before in
+    let at-if2 = at-node-word2 .before in
+    let at-if1 = at-if2 .before in
+    let at-node-word = at-if1 .before in
+    let at-kind = at-node-word .before in
+    (tree-infix _ _ _ _ _ _ (at-kind .kind .ensures .0) (at-node-word .node-word .ensures) (at-if1 .if1 .left) (at-if2 .if2 .left) (at-node-word2 .node-word2 .ensures) (at-node-word3 .node-word3 .ensures) (at-write-below2 .write-below2 .ensures .0) (at-write-below3 .write-below3 .ensures .0) (c .before .before .below2 .ensures) (c .before .below3 .ensures) (c .add-node3 .ensures .0), c .add-node3 .ensures .1)
 
 pub +write-below+write-tree-spec : {M : Type 1} → statement M
 +write-below+write-tree-spec = close μ-write-below μ-write-tree (λ t. write-below-lts.spec (

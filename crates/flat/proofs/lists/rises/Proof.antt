@@ -46,7 +46,10 @@ count-requires-2 c κs = search needs
 
 returns-2 : tie.Need-returns-2 Inv-loop μ-loop
 unfolding rising
-returns-2 c = every-fails _ (c .before .before .before .before .loop .k) _ (c .before .before .before .loop-test .taken) (le-ltb (wordAt (c .before .before .before .before .before .before .before .args .s .now) (c .before .before .before .before .before .before .before .args .at + c .before .before .before .before .loop .k)) (wordAt (c .before .before .before .before .before .before .before .args .s .now) (c .before .before .before .before .before .before .before .args .at + c .before .before .before .before .loop .k + 1)) (omega arith))
+returns-2 c =
+    let at-loop = c .before .before .before .before in
+    let start = at-loop .before .before .before in
+    every-fails _ (at-loop .loop .k) _ (c .before .before .before .loop-test .taken) (le-ltb (wordAt (start .args .s .now) (start .args .at + at-loop .loop .k)) (wordAt (start .args .s .now) (start .args .at + at-loop .loop .k + 1)) (omega arith))
 
 add-k : tie.Need-add-k Inv-loop μ-loop
 add-k c = search needs
@@ -55,7 +58,10 @@ loop-less : tie.Need-loop-less Inv-loop μ-loop
 loop-less c = search needs
 
 loop-again : tie.Need-loop-again Inv-loop μ-loop
-loop-again c = (every-more _ _ (c .before .before .before .before .loop .inv .0) (lt-ltb (wordAt (c .before .before .before .before .before .before .before .args .s .now) (c .before .before .before .before .before .before .before .args .at + c .before .before .before .before .loop .k)) (wordAt (c .before .before .before .before .before .before .before .args .s .now) (c .before .before .before .before .before .before .before .args .at + c .before .before .before .before .loop .k + 1)) (omega arith)), omega arith)
+loop-again c =
+    let at-loop = c .before .before .before .before in
+    let start = at-loop .before .before .before in
+    (every-more _ _ (at-loop .loop .inv .0) (lt-ltb (wordAt (start .args .s .now) (start .args .at + at-loop .loop .k)) (wordAt (start .args .s .now) (start .args .at + at-loop .loop .k + 1)) (omega arith)), omega arith)
 
 returns-3 : tie.Need-returns-3 Inv-loop μ-loop
 unfolding rising

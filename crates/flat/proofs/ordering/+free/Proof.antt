@@ -47,15 +47,17 @@ free-free-requires t c κs =
 
 free-returns : (t : ℕ) → free-lts.Need-returns (free-claims t) (free-at t) free.Post
 free-returns t c =
+    let at-node-at = c .before .before .before .before .before in
     let s = c .before .before .before .before .before .before .before in
-    let e = sym (c .before .before .before .before .before .node-at .ensures) ∙ c .before .before .before .x .given .1 in
+    let e = sym (at-node-at .node-at .ensures) ∙ c .before .before .before .x .given .1 in
     let w = infix-below _ _ _ _ (s .pre .1 .0 .1) _ (s .pre .1 .0 .0) e in
     walk-infix-no _ _ _ _ e w (c .before .free .ensures) (not-true _ (c .if1 .taken))
 
 free-free-requires-2 : (t : ℕ) → free-lts.Need-free-requires-2 (free-claims t) (free-at t) free.Post
 free-free-requires-2 t c κs =
+    let at-node-at = c .before .before .before .before .before in
     let s = c .before .before .before .before .before .before .before in
-    let e = sym (c .before .before .before .before .before .node-at .ensures) ∙ c .before .before .before .x .given .1 in
+    let e = sym (at-node-at .node-at .ensures) ∙ c .before .before .before .x .given .1 in
     let w = infix-below _ _ _ _ (s .pre .1 .0 .1) _ (s .pre .1 .0 .0) e in
     (omega (arith, s .pre .0, w .1), ((omega (arith, w .1, s .pre .1 .0 .0), s .pre .1 .0 .1), s .pre .1 .1))
 
@@ -89,15 +91,18 @@ free-element-copy-out-result t c =
 
 free-returns-2 : (t : ℕ) → free-lts.Need-returns-2 (free-claims t) (free-at t) free.Post
 free-returns-2 t c =
+    let at-x = c .before .before .before .before in
+    let at-node-at = at-x .before .before in
     let s = c .before .before .before .before .before .before .before .before in
-    let e = sym (c .before .before .before .before .before .before .node-at .ensures) ∙ c .before .before .before .before .x .given .1 in
+    let e = sym (at-node-at .node-at .ensures) ∙ at-x .x .given .1 in
     let w = infix-below _ _ _ _ (s .pre .1 .0 .1) _ (s .pre .1 .0 .0) e in
     walk-infix _ _ _ _ e w (c .before .before .free .ensures) (not-false _ (c .before .if1 .left)) (c .free2 .ensures)
 
 free-returns-3 : (t : ℕ) → free-lts.Need-returns-3 (free-claims t) (free-at t) free.Post
 free-returns-3 t c =
+    let at-node-at = c .before .before .before .before in
     let s = c .before .before .before .before .before .before in
-    let e = sym (c .before .before .before .before .node-at .ensures) ∙ c .before .before .x2 .given .1 in
+    let e = sym (at-node-at .node-at .ensures) ∙ c .before .before .x2 .given .1 in
     let w = negate-below _ _ _ _ (s .pre .1 .0 .1) _ (s .pre .1 .0 .0) e in
     walk-negate _ _ _ _ e w (c .free3 .ensures)
 
@@ -105,7 +110,9 @@ free-returns-4 : (t : ℕ) → free-lts.Need-returns-4 (free-claims t) (free-at 
 free-returns-4 t c = walk-constant _ _ _ _ (sym (c .before .before .node-at .ensures) ∙ c .enum-told .given .1)
 
 free-returns-5 : (t : ℕ) → free-lts.Need-returns-5 (free-claims t) (free-at t) free.Post
-free-returns-5 t c = walk-variable _ _ _ _ (sym (c .before .before .before .before .node-at .ensures) ∙ c .before .before .v .given .1)
+free-returns-5 t c =
+    let at-node-at = c .before .before .before .before in
+    walk-variable _ _ _ _ (sym (at-node-at .node-at .ensures) ∙ c .before .before .v .given .1)
 
 pub +free-spec : {M : Type 1} → statement M
 +free-spec = close μ-free λ t. free-lts.spec (

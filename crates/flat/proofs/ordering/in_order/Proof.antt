@@ -40,8 +40,9 @@ mul-if1 c = search needs
 -- the definition that was read fits
 fits : (c : tie.After-definition-at Inv-loop μ-loop) → (c .definition-at .result .id < c .before .before .before .before .before .args .limit) × (c .definition-at .result .node < c .before .before .before .before .before .args .nodes)
 fits c =
+    let start = c .before .before .before .before .before in
     let read = c .definition-at .ensures in
-    definition-fits _ _ _ _ _ (c .before .before .loop .k - 1) _ _ (c .before .before .before .before .before .pre .0 .0) (omega arith) (id-is read) (node-is read)
+    definition-fits _ _ _ _ _ (c .before .before .loop .k - 1) _ _ (start .pre .0 .0) (omega arith) (id-is read) (node-is read)
 
 -- and its id is marked
 marked : (c : tie.After-definition-at Inv-loop μ-loop) → c .definition-at .result .id < length (c .before .before .loop .later)
@@ -65,8 +66,9 @@ array-write-later c = omega (arith, fits (c .before .before) .0)
 
 free-requires : tie.Need-free-requires Inv-loop μ-loop
 free-requires c κs =
+    let start = c .before .before .before .before .before .before .before .before in
     let w = fits (c .before .before .before) in
-    let p = c .before .before .before .before .before .before .before .before .pre in
+    let p = start .pre in
     ((w .1, p .0 .1), (p .1 .0, p .1 .1 .1))
 
 returns-2 : tie.Need-returns-2 Inv-loop μ-loop

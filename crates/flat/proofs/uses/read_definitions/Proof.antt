@@ -30,13 +30,16 @@ cast-fits c = search needs
 
 returns : tie.Need-returns Inv-loop μ-loop
 returns c =
+    let at-loop-test = c .before .before .before .before in
     let read = c .before .before .before .definition-at .ensures in
-    (defs-fail _ _ _ _ _ _ _ _ (c .before .before .before .before .loop-test .taken) (id-is read) (node-is read) (not-true _ (c .if1 .taken)), λ e. absurd (not-both refl e))
+    (defs-fail _ _ _ _ _ _ _ _ (at-loop-test .loop-test .taken) (id-is read) (node-is read) (not-true _ (c .if1 .taken)), λ e. absurd (not-both refl e))
 
 use-node-requires : tie.Need-use-node-requires Inv-loop μ-loop
 use-node-requires c κs =
-    let d = c .before .before .before .before .definition-at .result in
-    let args = c .before .before .before .before .before .before .before .before .args in
+    let at-definition-at = c .before .before .before .before in
+    let start = at-definition-at .before .before .before .before in
+    let d = at-definition-at .definition-at .result in
+    let args = start .args in
     omega (arith, both-below (d .id) (args .limit) (d .node) (args .nodes) (not-false _ (c .before .if1 .left)) .1)
 
 add-k : tie.Need-add-k Inv-loop μ-loop
@@ -47,8 +50,10 @@ loop-less c = search needs
 
 loop-again : tie.Need-loop-again Inv-loop μ-loop
 loop-again c =
-    let read = c .before .before .before .before .before .definition-at .ensures in
-    let inv = c .before .before .before .before .before .before .before .loop .inv .0 in
+    let at-definition-at = c .before .before .before .before .before in
+    let at-loop = at-definition-at .before .before in
+    let read = at-definition-at .definition-at .ensures in
+    let inv = at-loop .loop .inv .0 in
     (defs-more _ _ _ _ _ _ _ (inv .0) (inv .1) (id-is read) (node-is read) (not-false _ (c .before .before .if1 .left)) (c .use-node .ensures), omega arith)
 
 returns-2 : tie.Need-returns-2 Inv-loop μ-loop

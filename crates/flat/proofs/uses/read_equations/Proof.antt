@@ -27,19 +27,24 @@ equation-at-requires c κs = search needs
 
 returns : tie.Need-returns Inv-loop μ-loop
 returns c =
+    let at-loop-test = c .before .before .before .before in
     let read = c .before .before .before .equation-at .ensures in
-    (equations-fail _ _ _ _ _ _ _ (c .before .before .before .before .loop-test .taken) (left-is read) (right-is read) (not-true _ (c .if1 .taken)), λ e. absurd (not-both refl e))
+    (equations-fail _ _ _ _ _ _ _ (at-loop-test .loop-test .taken) (left-is read) (right-is read) (not-true _ (c .if1 .taken)), λ e. absurd (not-both refl e))
 
 use-node-requires : tie.Need-use-node-requires Inv-loop μ-loop
 use-node-requires c κs =
-    let e = c .before .before .before .before .equation-at .result in
-    let nodes = c .before .before .before .before .before .before .before .before .args .nodes in
+    let at-equation-at = c .before .before .before .before in
+    let start = at-equation-at .before .before .before .before in
+    let e = at-equation-at .equation-at .result in
+    let nodes = start .args .nodes in
     omega (arith, both-below (e .left) nodes (e .right) nodes (not-false _ (c .before .if1 .left)) .0)
 
 use-node-requires-2 : tie.Need-use-node-requires-2 Inv-loop μ-loop
 use-node-requires-2 c κs =
-    let e = c .before .before .before .before .before .before .equation-at .result in
-    let nodes = c .before .before .before .before .before .before .before .before .before .before .args .nodes in
+    let at-equation-at = c .before .before .before .before .before .before in
+    let start = at-equation-at .before .before .before .before in
+    let e = at-equation-at .equation-at .result in
+    let nodes = start .args .nodes in
     omega (arith, both-below (e .left) nodes (e .right) nodes (not-false _ (c .before .before .before .if1 .left)) .1)
 
 add-k : tie.Need-add-k Inv-loop μ-loop
@@ -50,9 +55,12 @@ loop-less c = search needs
 
 loop-again : tie.Need-loop-again Inv-loop μ-loop
 loop-again c =
-    let read = c .before .before .before .before .before .before .before .equation-at .ensures in
-    let inv = c .before .before .before .before .before .before .before .before .before .loop .inv .0 in
-    (equations-more _ _ _ _ _ _ (inv .0) (inv .1) (left-is read) (right-is read) (not-false _ (c .before .before .before .before .if1 .left)) (c .before .before .use-node .ensures) (c .use-node2 .ensures), omega arith)
+    let at-if1 = c .before .before .before .before in
+    let at-equation-at = at-if1 .before .before .before in
+    let at-loop = at-equation-at .before .before in
+    let read = at-equation-at .equation-at .ensures in
+    let inv = at-loop .loop .inv .0 in
+    (equations-more _ _ _ _ _ _ (inv .0) (inv .1) (left-is read) (right-is read) (not-false _ (at-if1 .if1 .left)) (c .before .before .use-node .ensures) (c .use-node2 .ensures), omega arith)
 
 returns-2 : tie.Need-returns-2 Inv-loop μ-loop
 returns-2 c = let e : c .before .loop .k ≡ c .before .before .before .args .n = omega (arith, c .loop-test .left) in (rw e at (sym (c .before .loop .inv .0 .0)), λ _. rw e at (c .before .loop .inv .0 .1))

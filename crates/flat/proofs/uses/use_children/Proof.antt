@@ -7,10 +7,14 @@ use-node-requires : tie.Need-use-node-requires
 use-node-requires c κs = c .before .before .pre .0 (c .before .if1 .taken) .0
 
 use-node-requires-2 : tie.Need-use-node-requires-2
-use-node-requires-2 c κs = c .before .before .before .before .pre .0 (c .before .before .before .if1 .taken) .1
+use-node-requires-2 c κs =
+    let start = c .before .before .before .before in
+    start .pre .0 (c .before .before .before .if1 .taken) .1
 
 returns : tie.Need-returns
-returns c = children-4 _ _ _ (c .before .before .before .before .if1 .taken) (c .before .before .use-node .ensures) (c .use-node2 .ensures)
+returns c =
+    let at-if1 = c .before .before .before .before in
+    children-4 _ _ _ (at-if1 .if1 .taken) (c .before .before .use-node .ensures) (c .use-node2 .ensures)
 
 use-node-requires-3 : tie.Need-use-node-requires-3
 use-node-requires-3 c κs = c .before .before .before .pre .1 (c .before .if2 .taken)

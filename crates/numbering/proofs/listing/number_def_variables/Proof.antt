@@ -12,13 +12,21 @@ use lib.ListN.{length, length-set}
 use Rattle.numbering.proofs.Listed.{def-first, def-second, def-way}
 
 number-expr-variables-requires : tie.Need-number-expr-variables-requires
-number-expr-variables-requires c κs = (def-first _ _ _ _ _ (c .before .before .before .before .before .before .pre .0), c .before .before .before .before .before .before .pre .1)
+number-expr-variables-requires c κs =
+    let start = c .before .before .before .before .before .before in
+    (def-first _ _ _ _ _ (start .pre .0), start .pre .1)
 
 number-pattern-variables-requires : tie.Need-number-pattern-variables-requires
-number-pattern-variables-requires c κs = (def-second _ _ _ _ _ (c .before .before .before .before .before .before .before .before .before .before .before .pre .0) _ (c .before .before .before .before .number-expr-variables .ensures .few), c .before .before .before .before .number-expr-variables .ensures .sizes)
+number-pattern-variables-requires c κs =
+    let at-number-expr-variables = c .before .before .before .before in
+    let start = at-number-expr-variables .before .before .before .before .before .before .before in
+    (def-second _ _ _ _ _ (start .pre .0) _ (at-number-expr-variables .number-expr-variables .ensures .few), at-number-expr-variables .number-expr-variables .ensures .sizes)
 
 returns : tie.Need-returns
-returns c = def-way _ _ _ _ _ (c .before .before .before .before .before .before .before .before .before .before .before .before .pre .0) (c .before .before .before .before .before .number-expr-variables .ensures) (c .number-pattern-variables .ensures)
+returns c =
+    let at-number-expr-variables = c .before .before .before .before .before in
+    let start = at-number-expr-variables .before .before .before .before .before .before .before in
+    def-way _ _ _ _ _ (start .pre .0) (at-number-expr-variables .number-expr-variables .ensures) (c .number-pattern-variables .ensures)
 
 pub number-def-variables-spec : {M : Type 1} → statement M
 number-def-variables-spec =

@@ -33,10 +33,14 @@ cast-v c = search needs
 
 number-def-variables-requires : tie.Need-number-def-variables-requires Inv-loop μ-loop
 number-def-variables-requires c κs =
-    let read = c .before .before .before .before .before .before .before .definition-at .ensures in
-    let turn = c .before .before .before .before .before .before .before .before .before .loop in
-    let fit = c .before .before .before .before .before .before .before .before .before .before .before .pre .0 .1 in
-    let less = c .before .before .before .before .before .before .before .before .loop-test .taken in
+    let at-definition-at = c .before .before .before .before .before .before .before in
+    let at-loop-test = at-definition-at .before in
+    let at-loop = at-loop-test .before in
+    let start = at-loop .before .before in
+    let read = at-definition-at .definition-at .ensures in
+    let turn = at-loop .loop in
+    let fit = start .pre .0 .1 in
+    let less = at-loop-test .loop-test .taken in
     (definitions-first _ _ _ _ _ _ (pattern-is read) (value-is read) fit less (turn .inv .0 .1), turn .inv .1 .0)
 
 add-i : tie.Need-add-i Inv-loop μ-loop
@@ -47,10 +51,13 @@ loop-less c = search needs
 
 loop-again : tie.Need-loop-again Inv-loop μ-loop
 loop-again c =
+    let at-definition-at = c .before .before .before .before .before .before .before .before in
+    let at-loop-test = at-definition-at .before in
+    let at-loop = at-loop-test .before in
     let v = c .number-def-variables .ensures in
-    let read = c .before .before .before .before .before .before .before .before .definition-at .ensures in
-    let less = c .before .before .before .before .before .before .before .before .before .loop-test .taken in
-    let inv = c .before .before .before .before .before .before .before .before .before .before .loop .inv in
+    let read = at-definition-at .definition-at .ensures in
+    let less = at-loop-test .loop-test .taken in
+    let inv = at-loop .loop .inv in
     let p = pattern-is read in
     let x = value-is read in (
       (omega arith, definitions-rest _ _ _ _ _ _ _ p x less (inv .0 .1) (v .few)),

@@ -29,10 +29,14 @@ cast-e c = search needs
 
 number-expr-variables-requires : tie.Need-number-expr-variables-requires Inv-loop μ-loop
 number-expr-variables-requires c κs =
-    let read = c .before .before .before .before .before .expression-at .ensures in
-    let turn = c .before .before .before .before .before .before .before .loop in
-    let fit = c .before .before .before .before .before .before .before .before .before .pre .0 .1 in
-    (expressions-first _ _ _ _ _ _ read fit (c .before .before .before .before .before .before .loop-test .taken) (turn .inv .0 .1), turn .inv .1 .0)
+    let at-expression-at = c .before .before .before .before .before in
+    let at-loop-test = at-expression-at .before in
+    let at-loop = at-loop-test .before in
+    let start = at-loop .before .before in
+    let read = at-expression-at .expression-at .ensures in
+    let turn = at-loop .loop in
+    let fit = start .pre .0 .1 in
+    (expressions-first _ _ _ _ _ _ read fit (at-loop-test .loop-test .taken) (turn .inv .0 .1), turn .inv .1 .0)
 
 add-i : tie.Need-add-i Inv-loop μ-loop
 add-i c = search needs
@@ -42,10 +46,13 @@ loop-less c = search needs
 
 loop-again : tie.Need-loop-again Inv-loop μ-loop
 loop-again c =
+    let at-expression-at = c .before .before .before .before .before .before in
+    let at-loop-test = at-expression-at .before in
+    let at-loop = at-loop-test .before in
     let v = c .number-expr-variables .ensures in
-    let read = c .before .before .before .before .before .before .expression-at .ensures in
-    let less = c .before .before .before .before .before .before .before .loop-test .taken in
-    let inv = c .before .before .before .before .before .before .before .before .loop .inv in (
+    let read = at-expression-at .expression-at .ensures in
+    let less = at-loop-test .loop-test .taken in
+    let inv = at-loop .loop .inv in (
       (omega arith, expressions-rest _ _ _ _ _ _ _ read less (inv .0 .1) (v .few)),
       ((v .sizes, v .row), λ r l g u o d w. inv .1 .1 r l g u o d (expressions-step _ _ _ _ _ _ read less (inv .0 .1) v w)),
     )

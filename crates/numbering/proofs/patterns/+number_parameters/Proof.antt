@@ -53,22 +53,46 @@ number-parameters-enum-known-item t c = search needs
 
 number-parameters-number-pattern-variables-requires :
     (t : ℕ) → number-parameters-lts.Need-number-pattern-variables-requires (number-parameters-claims t) (number-parameters-at t) number-parameters.Post
-number-parameters-number-pattern-variables-requires t c κs = (parameter-first _ _ _ _ (c .before .before .before .before .before .before .before .before .before .pre .1 .0) (sym (c .before .before .before .before .before .before .before .node-at .ensures) ∙ c .before .before .before .before .before .item .given .1) .1, (c .before .before .before .before .before .before .before .before .before .pre .1 .1))
+number-parameters-number-pattern-variables-requires t c κs =
+    let at-item = c .before .before .before .before .before in
+    let at-node-at = at-item .before .before in
+    let start = at-node-at .before .before in
+    (parameter-first _ _ _ _ (start .pre .1 .0) (sym (at-node-at .node-at .ensures) ∙ at-item .item .given .1) .1, (start .pre .1 .1))
 
 number-parameters-returns : (t : ℕ) → number-parameters-lts.Need-returns (number-parameters-claims t) (number-parameters-at t) number-parameters.Post
-number-parameters-returns t c = parameter-last-way _ _ _ _ (c .before .before .before .before .before .before .before .before .before .before .before .pre .1 .0) (sym (c .before .before .before .before .before .before .before .before .before .node-at .ensures) ∙ c .before .before .before .before .before .before .before .item .given .1) (c .if1 .taken) (c .before .number-pattern-variables .ensures)
+number-parameters-returns t c =
+    let at-item = c .before .before .before .before .before .before .before in
+    let at-node-at = at-item .before .before in
+    let start = at-node-at .before .before in
+    parameter-last-way _ _ _ _ (start .pre .1 .0) (sym (at-node-at .node-at .ensures) ∙ at-item .item .given .1) (c .if1 .taken) (c .before .number-pattern-variables .ensures)
 
 number-parameters-sub-number-parameters :
     (t : ℕ) → number-parameters-lts.Need-sub-number-parameters (number-parameters-claims t) (number-parameters-at t) number-parameters.Post
-number-parameters-sub-number-parameters t c = omega (arith, c .before .before .before .before .before .number-pattern-variables .ensures .more, parameter-room _ _ _ _ (c .before .before .before .before .before .before .before .before .before .before .before .before .before .before .before .pre .1 .0) (sym (c .before .before .before .before .before .before .before .before .before .before .before .before .before .node-at .ensures) ∙ c .before .before .before .before .before .before .before .before .before .before .before .item .given .1) _ (c .before .before .before .before .before .number-pattern-variables .ensures .more) (c .before .before .before .before .before .number-pattern-variables .ensures .few))
+number-parameters-sub-number-parameters t c =
+    let at-number-pattern-variables = c .before .before .before .before .before in
+    let at-item = at-number-pattern-variables .before .before .before .before .before .before in
+    let at-node-at = at-item .before .before in
+    let start = at-node-at .before .before in
+    omega (arith, at-number-pattern-variables .number-pattern-variables .ensures .more, parameter-room _ _ _ _ (start .pre .1 .0) (sym (at-node-at .node-at .ensures) ∙ at-item .item .given .1) _ (at-number-pattern-variables .number-pattern-variables .ensures .more) (at-number-pattern-variables .number-pattern-variables .ensures .few))
 
 number-parameters-add-number-parameters :
     (t : ℕ) → number-parameters-lts.Need-add-number-parameters (number-parameters-claims t) (number-parameters-at t) number-parameters.Post
-number-parameters-add-number-parameters t c = omega (arith, c .before .before .before .before .before .number-pattern-variables .ensures .more, parameter-room _ _ _ _ (c .before .before .before .before .before .before .before .before .before .before .before .before .before .before .before .pre .1 .0) (sym (c .before .before .before .before .before .before .before .before .before .before .before .before .before .node-at .ensures) ∙ c .before .before .before .before .before .before .before .before .before .before .before .item .given .1) _ (c .before .before .before .before .before .number-pattern-variables .ensures .more) (c .before .before .before .before .before .number-pattern-variables .ensures .few))
+number-parameters-add-number-parameters t c =
+    let at-number-pattern-variables = c .before .before .before .before .before in
+    let at-item = at-number-pattern-variables .before .before .before .before .before .before in
+    let at-node-at = at-item .before .before in
+    let start = at-node-at .before .before in
+    omega (arith, at-number-pattern-variables .number-pattern-variables .ensures .more, parameter-room _ _ _ _ (start .pre .1 .0) (sym (at-node-at .node-at .ensures) ∙ at-item .item .given .1) _ (at-number-pattern-variables .number-pattern-variables .ensures .more) (at-number-pattern-variables .number-pattern-variables .ensures .few))
 
 number-parameters-number-parameters-requires :
     (t : ℕ) → number-parameters-lts.Need-number-parameters-requires (number-parameters-claims t) (number-parameters-at t) number-parameters.Post
-number-parameters-number-parameters-requires t c κs = let w = parameter-rest _ _ _ _ (c .before .before .before .before .before .before .before .before .before .before .before .before .before .before .before .pre .1 .0) (sym (c .before .before .before .before .before .before .before .before .before .before .before .before .before .node-at .ensures) ∙ c .before .before .before .before .before .before .before .before .before .before .before .item .given .1) _ (c .before .before .before .before .if1 .left) (c .before .before .before .before .before .number-pattern-variables .ensures .more) (c .before .before .before .before .before .number-pattern-variables .ensures .few) in (omega (arith, c .before .before .before .before .before .before .before .before .before .before .before .before .before .before .before .pre .0, w .0), (w .1, c .before .before .before .before .before .number-pattern-variables .ensures .sizes))
+number-parameters-number-parameters-requires t c κs =
+    let at-if1 = c .before .before .before .before in
+    let at-number-pattern-variables = at-if1 .before in
+    let at-item = at-number-pattern-variables .before .before .before .before .before .before in
+    let at-node-at = at-item .before .before in
+    let start = at-node-at .before .before in
+    let w = parameter-rest _ _ _ _ (start .pre .1 .0) (sym (at-node-at .node-at .ensures) ∙ at-item .item .given .1) _ (at-if1 .if1 .left) (at-number-pattern-variables .number-pattern-variables .ensures .more) (at-number-pattern-variables .number-pattern-variables .ensures .few) in (omega (arith, start .pre .0, w .0), (w .1, at-number-pattern-variables .number-pattern-variables .ensures .sizes))
 
 number-parameters-enum-told : (t : ℕ) → number-parameters-lts.Need-enum-told (number-parameters-claims t) (number-parameters-at t) number-parameters.Post
 number-parameters-enum-told t c = search needs
@@ -80,16 +104,28 @@ number-parameters-enum-told-3 : (t : ℕ) → number-parameters-lts.Need-enum-to
 number-parameters-enum-told-3 t c = search needs
 
 number-parameters-returns-2 : (t : ℕ) → number-parameters-lts.Need-returns-2 (number-parameters-claims t) (number-parameters-at t) number-parameters.Post
-number-parameters-returns-2 t c = parameter-more-way _ _ _ _ (c .before .before .before .before .before .before .before .before .before .before .before .before .before .before .before .before .pre .1 .0) (sym (c .before .before .before .before .before .before .before .before .before .before .before .before .before .before .node-at .ensures) ∙ c .before .before .before .before .before .before .before .before .before .before .before .before .item .given .1) (c .before .before .before .before .before .if1 .left) (c .before .before .before .before .before .before .number-pattern-variables .ensures) (c .number-parameters .ensures)
+number-parameters-returns-2 t c =
+    let at-if1 = c .before .before .before .before .before in
+    let at-number-pattern-variables = at-if1 .before in
+    let at-item = at-number-pattern-variables .before .before .before .before .before .before in
+    let at-node-at = at-item .before .before in
+    let start = at-node-at .before .before in
+    parameter-more-way _ _ _ _ (start .pre .1 .0) (sym (at-node-at .node-at .ensures) ∙ at-item .item .given .1) (at-if1 .if1 .left) (at-number-pattern-variables .number-pattern-variables .ensures) (c .number-parameters .ensures)
 
 number-parameters-returns-3 : (t : ℕ) → number-parameters-lts.Need-returns-3 (number-parameters-claims t) (number-parameters-at t) number-parameters.Post
-number-parameters-returns-3 t c = absurd (no-chain-expression _ _ _ _ (c .before .before .before .before .pre .1 .0 .chained) (sym (c .before .before .node-at .ensures) ∙ c .enum-told .given .1))
+number-parameters-returns-3 t c =
+    let start = c .before .before .before .before in
+    absurd (no-chain-expression _ _ _ _ (start .pre .1 .0 .chained) (sym (c .before .before .node-at .ensures) ∙ c .enum-told .given .1))
 
 number-parameters-returns-4 : (t : ℕ) → number-parameters-lts.Need-returns-4 (number-parameters-claims t) (number-parameters-at t) number-parameters.Post
-number-parameters-returns-4 t c = absurd (no-chain-pattern _ _ _ _ (c .before .before .before .before .pre .1 .0 .chained) (sym (c .before .before .node-at .ensures) ∙ c .enum-told2 .given .1))
+number-parameters-returns-4 t c =
+    let start = c .before .before .before .before in
+    absurd (no-chain-pattern _ _ _ _ (start .pre .1 .0 .chained) (sym (c .before .before .node-at .ensures) ∙ c .enum-told2 .given .1))
 
 number-parameters-returns-5 : (t : ℕ) → number-parameters-lts.Need-returns-5 (number-parameters-claims t) (number-parameters-at t) number-parameters.Post
-number-parameters-returns-5 t c = absurd (no-chain-bad _ _ _ _ (c .before .before .before .before .pre .1 .0 .chained) (sym (c .before .before .node-at .ensures) ∙ c .enum-told3 .given .1))
+number-parameters-returns-5 t c =
+    let start = c .before .before .before .before in
+    absurd (no-chain-bad _ _ _ _ (start .pre .1 .0 .chained) (sym (c .before .before .node-at .ensures) ∙ c .enum-told3 .given .1))
 
 pub +number-parameters-spec : {M : Type 1} → statement M
 +number-parameters-spec = close μ-number-parameters λ t. number-parameters-lts.spec (

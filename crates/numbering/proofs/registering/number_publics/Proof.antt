@@ -51,10 +51,12 @@ loop-less c = search needs
 
 loop-again : tie.Need-loop-again Inv-loop μ-loop
 loop-again c =
+    let at-loop = c .before .before .before .before in
+    let start = at-loop .before .before in
     let v = c .number-variable .ensures in
-    let turn = c .before .before .before .before .loop in
+    let turn = at-loop .loop in
     let inv = turn .inv in
-    let few = c .before .before .before .before .before .before .pre .1 .0 .1 in
+    let few = start .pre .1 .0 .1 in
     let less = c .before .before .before .loop-test .taken in
     let room : turn .i < length (turn .publics) = omega (arith, inv .1 .0 .1, less, few) in (
       (omega arith, (omega (arith, v .more, inv .0 .1 .0), omega (arith, v .few, inv .0 .1 .1))),

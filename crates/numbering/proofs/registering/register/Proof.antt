@@ -33,8 +33,9 @@ name-inside : (c : tie.After-name-at Inv-loop μ-loop) →
     let name = c .name-at .result in
     args .text + name .offset + name .size ≤ length (args .s .now)
 name-inside c =
+    let start = c .before .before .before .before .before in
     let read = c .name-at .ensures in
-    text-fits _ _ _ _ (c .before .before .before .before .before .pre .0 .0) (c .before .loop-test .taken) (offset-is read) (size-is read)
+    text-fits _ _ _ _ (start .pre .0 .0) (c .before .loop-test .taken) (offset-is read) (size-is read)
 
 cast-same-text : tie.Need-cast-same-text Inv-loop μ-loop
 cast-same-text c = search needs
@@ -59,11 +60,14 @@ element-write-globals c = search needs
 
 returns : tie.Need-returns Inv-loop μ-loop
 returns c =
+    let at-name-at = c .before .before .before .before in
+    let at-loop-test = at-name-at .before in
+    let at-loop = at-loop-test .before in
     let start = c .before .before .before .before .before .before .before .before .before in
     let args = start .args in
-    let turn = c .before .before .before .before .before .before .loop in
-    let less = c .before .before .before .before .before .loop-test .taken in
-    let read = c .before .before .before .before .name-at .ensures in
+    let turn = at-loop .loop in
+    let less = at-loop-test .loop-test .taken in
+    let read = at-name-at .name-at .ensures in
     let is = text-at _ _ _ _ (offset-is read) (size-is read) (c .before .same-text .ensures) in
     let few = start .pre .1 .0 in
     rw (turn .inv .1 .1)
@@ -77,16 +81,22 @@ loop-less c = search needs
 
 loop-again : tie.Need-loop-again Inv-loop μ-loop
 loop-again c =
-    let args = c .before .before .before .before .before .before .before .before .before .args in
-    let turn = c .before .before .before .before .before .before .loop in
-    let less = c .before .before .before .before .before .loop-test .taken in
-    let read = c .before .before .before .before .name-at .ensures in
+    let at-name-at = c .before .before .before .before in
+    let at-loop-test = at-name-at .before in
+    let at-loop = at-loop-test .before in
+    let start = at-loop .before .before .before in
+    let args = start .args in
+    let turn = at-loop .loop in
+    let less = at-loop-test .loop-test .taken in
+    let read = at-name-at .name-at .ensures in
     let is = text-at _ _ _ _ (offset-is read) (size-is read) (c .before .same-text .ensures) in
     let rest = found-no (args .s .now) (args .t .now) (args .text) (args .count) (args .id) _ less is (c .if1 .left) (turn .inv .0) in
     (rest, (omega arith, turn .inv .1 .1))
 
 returns-2 : tie.Need-returns-2 Inv-loop μ-loop
-returns-2 c = rw (c .before .loop .inv .1 .1) (found-none (c .before .before .before .before .args .s .now) (c .before .before .before .before .args .t .now) (c .before .before .before .before .args .text) (c .before .before .before .before .args .count) (c .before .before .before .before .args .id) _ (c .loop-test .left) (c .before .before .before .before .pre .1 .0 .1) (c .before .loop .inv .0))
+returns-2 c =
+    let start = c .before .before .before .before in
+    rw (c .before .loop .inv .1 .1) (found-none (start .args .s .now) (start .args .t .now) (start .args .text) (start .args .count) (start .args .id) _ (c .loop-test .left) (start .pre .1 .0 .1) (c .before .loop .inv .0))
 
 pub register-spec : {M : Type 1} → statement M
 register-spec =

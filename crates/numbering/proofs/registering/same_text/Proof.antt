@@ -33,7 +33,11 @@ shared-slice-read-if2-2 : tie.Need-shared-slice-read-if2-2 Inv-loop μ-loop
 shared-slice-read-if2-2 c = search needs
 
 returns-2 : tie.Need-returns-2 Inv-loop μ-loop
-returns-2 c = text-differs (c .before .before .before .before .before .before .args .s .now) (c .before .before .before .before .before .before .args .t .now) (c .before .before .before .before .before .before .args .from) (c .before .before .before .before .before .before .args .n) (c .before .before .before .before .before .before .pre) (c .before .before .before .before .before .if1 .left) _ (c .before .before .before .loop-test .taken) (c .if2 .taken) (c .before .before .before .before .loop .inv .0)
+returns-2 c =
+    let at-loop = c .before .before .before .before in
+    let at-if1 = at-loop .before in
+    let start = at-if1 .before in
+    text-differs (start .args .s .now) (start .args .t .now) (start .args .from) (start .args .n) (start .pre) (at-if1 .if1 .left) _ (c .before .before .before .loop-test .taken) (c .if2 .taken) (at-loop .loop .inv .0)
 
 add-i : tie.Need-add-i Inv-loop μ-loop
 add-i c = search needs
@@ -42,7 +46,11 @@ loop-less : tie.Need-loop-less Inv-loop μ-loop
 loop-less c = search needs
 
 loop-again : tie.Need-loop-again Inv-loop μ-loop
-loop-again c = (text-more (c .before .before .before .before .before .before .args .s .now) (c .before .before .before .before .before .before .args .t .now) (c .before .before .before .before .before .before .args .from) (c .before .before .before .before .before .before .args .n) (c .before .before .before .before .before .before .pre) (c .before .before .before .before .before .if1 .left) _ (c .before .before .before .loop-test .taken) (c .if2 .left) (c .before .before .before .before .loop .inv .0), omega arith)
+loop-again c =
+    let at-loop = c .before .before .before .before in
+    let at-if1 = at-loop .before in
+    let start = at-if1 .before in
+    (text-more (start .args .s .now) (start .args .t .now) (start .args .from) (start .args .n) (start .pre) (at-if1 .if1 .left) _ (c .before .before .before .loop-test .taken) (c .if2 .left) (at-loop .loop .inv .0), omega arith)
 
 returns-3 : tie.Need-returns-3 Inv-loop μ-loop
 returns-3 c = text-same (c .before .before .before .args .s .now) (c .before .before .before .args .t .now) (c .before .before .before .args .from) (c .before .before .before .args .n) (c .before .before .before .pre) (c .before .before .if1 .left) _ (c .loop-test .left) (c .before .loop .inv .1) (c .before .loop .inv .0)

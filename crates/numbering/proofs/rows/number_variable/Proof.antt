@@ -32,7 +32,9 @@ sub-t15 : tie.Need-sub-t15
 sub-t15 c = search needs
 
 returns-2 : tie.Need-returns-2
-returns-2 c = variable-global _ _ _ _ (c .before .before .before .before .pre .0) (c .before .before .before .before .pre .1 .1) (c .before .before .if1 .left) (c .if2 .taken)
+returns-2 c =
+    let start = c .before .before .before .before in
+    variable-global _ _ _ _ (start .pre .0) (start .pre .1 .1) (c .before .before .if1 .left) (c .if2 .taken)
 
 add-globals : tie.Need-add-globals
 add-globals c = search needs
@@ -47,7 +49,9 @@ add-t10 : tie.Need-add-t10
 add-t10 c = search needs
 
 returns-3 : tie.Need-returns-3
-returns-3 c = variable-new _ _ _ _ (c .before .before .before .before .pre .0) (c .before .before .before .before .pre .1 .1) (c .before .before .if1 .left) (c .if2 .left)
+returns-3 c =
+    let start = c .before .before .before .before in
+    variable-new _ _ _ _ (start .pre .0) (start .pre .1 .1) (c .before .before .if1 .left) (c .if2 .left)
 
 pub number-variable-spec : {M : Type 1} → statement M
 number-variable-spec =

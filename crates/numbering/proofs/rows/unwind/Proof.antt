@@ -44,10 +44,14 @@ element-copy-out-locals : tie.Need-element-copy-out-locals Inv-loop μ-loop
 element-copy-out-locals c = search needs
 
 mul-locals-2 : tie.Need-mul-locals-2 Inv-loop μ-loop
-mul-locals-2 c = omega (arith, c .before .before .before .before .pre .1 (c .before .before .before .loop .i - 1) (omega arith) (omega arith))
+mul-locals-2 c =
+    let start = c .before .before .before .before in
+    omega (arith, start .pre .1 (c .before .before .before .loop .i - 1) (omega arith) (omega arith))
 
 element-write-locals : tie.Need-element-write-locals Inv-loop μ-loop
-element-write-locals c = omega (arith, c .before .before .before .before .pre .1 (c .before .before .before .loop .i - 1) (omega arith) (omega arith))
+element-write-locals c =
+    let start = c .before .before .before .before in
+    omega (arith, start .pre .1 (c .before .before .before .loop .i - 1) (omega arith) (omega arith))
 
 loop-less : tie.Need-loop-less Inv-loop μ-loop
 loop-less c = search needs

@@ -16,43 +16,107 @@ layout-of-requires : tie.Need-layout-of-requires
 layout-of-requires c κs = search needs
 
 put-publics-requires : tie.Need-put-publics-requires
-put-publics-requires c κs = (omega (arith, (c .before .before .before .before .before .pre .0 .0) .long, layout-publics (c .before .before .before .before .before .args .s .now) (c .before .layout-of .ensures)), omega (arith, (c .before .before .before .before .before .pre .0 .0) .publics-few, layout-publics (c .before .before .before .before .before .args .s .now) (c .before .layout-of .ensures), (c .before .before .before .before .before .pre .1 .0)))
+put-publics-requires c κs =
+    let start = c .before .before .before .before .before in
+    (omega (arith, (start .pre .0 .0) .long, layout-publics (start .args .s .now) (c .before .layout-of .ensures)), omega (arith, (start .pre .0 .0) .publics-few, layout-publics (start .args .s .now) (c .before .layout-of .ensures), (start .pre .1 .0)))
 
 put-provers-requires : tie.Need-put-provers-requires
-put-provers-requires c κs = (omega (arith, (c .before .before .before .before .before .before .before .before .before .pre .0 .0) .next-small, layout-next (c .before .before .before .before .before .before .before .before .before .args .s .now) (c .before .before .before .before .before .layout-of .ensures)), omega (arith, (c .before .before .before .before .before .before .before .before .before .pre .0 .0) .next-small, (c .before .before .before .before .before .before .before .before .before .pre .0 .0) .publics-few, layout-publics (c .before .before .before .before .before .before .before .before .before .args .s .now) (c .before .before .before .before .before .layout-of .ensures), layout-next (c .before .before .before .before .before .before .before .before .before .args .s .now) (c .before .before .before .before .before .layout-of .ensures), (c .before .before .before .before .before .before .before .before .before .pre .1 .0), ap length (c .before .before .before .put-publics .ensures) ∙ length-setWords _ _ _))
+put-provers-requires c κs =
+    let at-layout-of = c .before .before .before .before .before in
+    let start = at-layout-of .before .before .before .before in
+    (omega (arith, (start .pre .0 .0) .next-small, layout-next (start .args .s .now) (at-layout-of .layout-of .ensures)), omega (arith, (start .pre .0 .0) .next-small, (start .pre .0 .0) .publics-few, layout-publics (start .args .s .now) (at-layout-of .layout-of .ensures), layout-next (start .args .s .now) (at-layout-of .layout-of .ensures), (start .pre .1 .0), ap length (c .before .before .before .put-publics .ensures) ∙ length-setWords _ _ _))
 
 used-definitions-requires : tie.Need-used-definitions-requires
-used-definitions-requires c κs = ((c .before .before .before .before .before .before .before .before .before .before .before .before .pre .0 .0), layout-definitions-at (c .before .before .before .before .before .before .before .before .before .before .before .before .args .s .now) (c .before .before .before .before .before .before .before .before .layout-of .ensures), layout-definitions (c .before .before .before .before .before .before .before .before .before .before .before .before .args .s .now) (c .before .before .before .before .before .before .before .before .layout-of .ensures))
+used-definitions-requires c κs =
+    let at-layout-of = c .before .before .before .before .before .before .before .before in
+    let start = at-layout-of .before .before .before .before in
+    ((start .pre .0 .0), layout-definitions-at (start .args .s .now) (at-layout-of .layout-of .ensures), layout-definitions (start .args .s .now) (at-layout-of .layout-of .ensures))
 
 no-substitutions-requires : tie.Need-no-substitutions-requires
 no-substitutions-requires c κs = search needs
 
 cast-flatten-defs : tie.Need-cast-flatten-defs
-cast-flatten-defs c = record { fits = omega (arith, (c .before .before .before .before .before .before .before .before .before .before .before .before .before .before .before .before .pre .0 .0) .next-small, layout-next (c .before .before .before .before .before .before .before .before .before .before .before .before .before .before .before .before .args .s .now) (c .before .before .before .before .before .before .before .before .before .before .before .before .layout-of .ensures)) }
+cast-flatten-defs c =
+    let at-layout-of = c .before .before .before .before .before .before .before .before .before .before .before .before in
+    let start = at-layout-of .before .before .before .before in
+    record { fits = omega (arith, (start .pre .0 .0) .next-small, layout-next (start .args .s .now) (at-layout-of .layout-of .ensures)) }
 
 flatten-defs-requires : tie.Need-flatten-defs-requires
-flatten-defs-requires c κs = (((c .before .before .before .before .before .before .before .before .before .before .before .before .before .before .before .before .pre .0 .0), (c .before .before .before .before .before .before .before .before .before .before .before .before .before .before .before .before .pre .0 .2), layout-definitions-at (c .before .before .before .before .before .before .before .before .before .before .before .before .before .before .before .before .args .s .now) (c .before .before .before .before .before .before .before .before .before .before .before .before .layout-of .ensures), layout-definitions (c .before .before .before .before .before .before .before .before .before .before .before .before .before .before .before .before .args .s .now) (c .before .before .before .before .before .before .before .before .before .before .before .before .layout-of .ensures), layout-nodes-at (c .before .before .before .before .before .before .before .before .before .before .before .before .before .before .before .before .args .s .now) (c .before .before .before .before .before .before .before .before .before .before .before .before .layout-of .ensures)), (ap length (c .before .before .no-substitutions .ensures) ∙ none-length, room-definitions (c .before .before .before .before .before .before .before .before .before .before .before .before .before .before .before .before .pre .0 .0) (c .before .before .before .before .before .before .before .before .before .before .before .before .before .before .before .before .pre .0 .2) (c .before .before .before .before .before .before .before .before .before .before .before .before .before .before .before .before .pre .0 .1) (c .before .before .before .before .before .before .before .before .before .before .before .before .before .before .before .before .pre .1 .0) (lists-made (c .before .before .before .before .before .before .before .before .before .before .before .before .before .before .before .before .args .s .now) _ (c .before .before .before .before .before .before .before .before .before .before .before .before .before .before .before .before .args .body .now) (layout-publics (c .before .before .before .before .before .before .before .before .before .before .before .before .before .before .before .before .args .s .now) (c .before .before .before .before .before .before .before .before .before .before .before .before .layout-of .ensures)) (layout-next (c .before .before .before .before .before .before .before .before .before .before .before .before .before .before .before .before .args .s .now) (c .before .before .before .before .before .before .before .before .before .before .before .before .layout-of .ensures)) (c .before .before .before .before .before .before .before .before .before .before .put-publics .ensures) (c .before .before .before .before .before .before .put-provers .ensures)) (c .before .before .before .used-definitions .result) _ (layout-next (c .before .before .before .before .before .before .before .before .before .before .before .before .before .before .before .before .args .s .now) (c .before .before .before .before .before .before .before .before .before .before .before .before .layout-of .ensures))))
+flatten-defs-requires c κs =
+    let at-put-provers = c .before .before .before .before .before .before in
+    let at-put-publics = at-put-provers .before .before .before .before in
+    let at-layout-of = at-put-publics .before .before in
+    let start = at-layout-of .before .before .before .before in
+    (((start .pre .0 .0), (start .pre .0 .2), layout-definitions-at (start .args .s .now) (at-layout-of .layout-of .ensures), layout-definitions (start .args .s .now) (at-layout-of .layout-of .ensures), layout-nodes-at (start .args .s .now) (at-layout-of .layout-of .ensures)), (ap length (c .before .before .no-substitutions .ensures) ∙ none-length, room-definitions (start .pre .0 .0) (start .pre .0 .2) (start .pre .0 .1) (start .pre .1 .0) (lists-made (start .args .s .now) _ (start .args .body .now) (layout-publics (start .args .s .now) (at-layout-of .layout-of .ensures)) (layout-next (start .args .s .now) (at-layout-of .layout-of .ensures)) (at-put-publics .put-publics .ensures) (at-put-provers .put-provers .ensures)) (c .before .before .before .used-definitions .result) _ (layout-next (start .args .s .now) (at-layout-of .layout-of .ensures))))
 
 flatten-equations-requires : tie.Need-flatten-equations-requires
-flatten-equations-requires c κs = ((c .before .before .before .before .before .before .before .before .before .before .before .before .before .before .before .before .before .before .before .before .before .pre .0 .0), layout-equations-at (c .before .before .before .before .before .before .before .before .before .before .before .before .before .before .before .before .before .before .before .before .before .args .s .now) (c .before .before .before .before .before .before .before .before .before .before .before .before .before .before .before .before .before .layout-of .ensures), layout-equations (c .before .before .before .before .before .before .before .before .before .before .before .before .before .before .before .before .before .before .before .before .before .args .s .now) (c .before .before .before .before .before .before .before .before .before .before .before .before .before .before .before .before .before .layout-of .ensures), layout-nodes-at (c .before .before .before .before .before .before .before .before .before .before .before .before .before .before .before .before .before .before .before .before .before .args .s .now) (c .before .before .before .before .before .before .before .before .before .before .before .before .before .before .before .before .before .layout-of .ensures), room-of-equations (c .before .before .before .before .before .before .before .before .before .before .before .before .before .before .before .before .before .before .before .before .before .pre .0 .0) (c .before .before .before .before .before .before .before .before .before .before .before .before .before .before .before .before .before .before .before .before .before .pre .0 .2) (c .before .before .before .before .before .before .before .before .before .before .before .before .before .before .before .before .before .before .before .before .before .pre .0 .1) (c .before .before .before .before .before .before .before .before .before .before .before .before .before .before .before .before .before .before .before .before .before .pre .1 .0) (lists-made (c .before .before .before .before .before .before .before .before .before .before .before .before .before .before .before .before .before .before .before .before .before .args .s .now) _ (c .before .before .before .before .before .before .before .before .before .before .before .before .before .before .before .before .before .before .before .before .before .args .body .now) (layout-publics (c .before .before .before .before .before .before .before .before .before .before .before .before .before .before .before .before .before .before .before .before .before .args .s .now) (c .before .before .before .before .before .before .before .before .before .before .before .before .before .before .before .before .before .layout-of .ensures)) (layout-next (c .before .before .before .before .before .before .before .before .before .before .before .before .before .before .before .before .before .before .before .before .before .args .s .now) (c .before .before .before .before .before .before .before .before .before .before .before .before .before .before .before .before .before .layout-of .ensures)) (c .before .before .before .before .before .before .before .before .before .before .before .before .before .before .before .put-publics .ensures) (c .before .before .before .before .before .before .before .before .before .before .before .put-provers .ensures)) (c .before .before .before .before .before .before .before .before .used-definitions .result) _ (layout-next (c .before .before .before .before .before .before .before .before .before .before .before .before .before .before .before .before .before .before .before .before .before .args .s .now) (c .before .before .before .before .before .before .before .before .before .before .before .before .before .before .before .before .before .layout-of .ensures)) _ _ (c .before .before .before .before .before .before .before .no-substitutions .ensures) _ _ (c .before .before .before .before .flatten-defs .ensures))
+flatten-equations-requires c κs =
+    let at-flatten-defs = c .before .before .before .before in
+    let at-no-substitutions = at-flatten-defs .before .before .before in
+    let at-used-definitions = at-no-substitutions .before in
+    let at-put-provers = at-used-definitions .before .before .before in
+    let at-put-publics = at-put-provers .before .before .before .before in
+    let at-layout-of = at-put-publics .before .before in
+    let start = at-layout-of .before .before .before .before in
+    ((start .pre .0 .0), layout-equations-at (start .args .s .now) (at-layout-of .layout-of .ensures), layout-equations (start .args .s .now) (at-layout-of .layout-of .ensures), layout-nodes-at (start .args .s .now) (at-layout-of .layout-of .ensures), room-of-equations (start .pre .0 .0) (start .pre .0 .2) (start .pre .0 .1) (start .pre .1 .0) (lists-made (start .args .s .now) _ (start .args .body .now) (layout-publics (start .args .s .now) (at-layout-of .layout-of .ensures)) (layout-next (start .args .s .now) (at-layout-of .layout-of .ensures)) (at-put-publics .put-publics .ensures) (at-put-provers .put-provers .ensures)) (at-used-definitions .used-definitions .result) _ (layout-next (start .args .s .now) (at-layout-of .layout-of .ensures)) _ _ (at-no-substitutions .no-substitutions .ensures) _ _ (at-flatten-defs .flatten-defs .ensures))
 
 slice-aggregate-clear-substitutions : tie.Need-slice-aggregate-clear-substitutions
-slice-aggregate-clear-substitutions c = sym (second-words (c .before .before .before .before .before .before .before .before .before .before .before .before .before .before .before .before .before .before .before .before .before .before .before .before .before .pre .0 .0) (c .before .before .before .before .before .before .before .before .before .before .before .before .before .before .before .before .before .before .before .before .before .before .before .before .before .pre .0 .2) (c .before .before .before .before .before .before .before .before .before .before .before .before .before .before .before .before .before .before .before .before .before .before .before .before .before .pre .0 .1) (c .before .before .before .before .before .before .before .before .before .before .before .before .before .before .before .before .before .before .before .before .before .before .before .before .before .pre .1 .0) (lists-made (c .before .before .before .before .before .before .before .before .before .before .before .before .before .before .before .before .before .before .before .before .before .before .before .before .before .args .s .now) _ (c .before .before .before .before .before .before .before .before .before .before .before .before .before .before .before .before .before .before .before .before .before .before .before .before .before .args .body .now) (layout-publics (c .before .before .before .before .before .before .before .before .before .before .before .before .before .before .before .before .before .before .before .before .before .before .before .before .before .args .s .now) (c .before .before .before .before .before .before .before .before .before .before .before .before .before .before .before .before .before .before .before .before .before .layout-of .ensures)) (layout-next (c .before .before .before .before .before .before .before .before .before .before .before .before .before .before .before .before .before .before .before .before .before .before .before .before .before .args .s .now) (c .before .before .before .before .before .before .before .before .before .before .before .before .before .before .before .before .before .before .before .before .before .layout-of .ensures)) (c .before .before .before .before .before .before .before .before .before .before .before .before .before .before .before .before .before .before .before .put-publics .ensures) (c .before .before .before .before .before .before .before .before .before .before .before .before .before .before .before .put-provers .ensures)) (c .before .before .before .before .before .before .before .before .before .before .before .before .used-definitions .result) _ (layout-next (c .before .before .before .before .before .before .before .before .before .before .before .before .before .before .before .before .before .before .before .before .before .before .before .before .before .args .s .now) (c .before .before .before .before .before .before .before .before .before .before .before .before .before .before .before .before .before .before .before .before .before .layout-of .ensures)) _ _ (c .before .before .before .before .before .before .before .before .before .before .before .no-substitutions .ensures) _ _ (c .before .before .before .before .before .before .before .before .flatten-defs .ensures))
+slice-aggregate-clear-substitutions c =
+    let at-flatten-defs = c .before .before .before .before .before .before .before .before in
+    let at-no-substitutions = at-flatten-defs .before .before .before in
+    let at-used-definitions = at-no-substitutions .before in
+    let at-put-provers = at-used-definitions .before .before .before in
+    let at-put-publics = at-put-provers .before .before .before .before in
+    let at-layout-of = at-put-publics .before .before in
+    let start = at-layout-of .before .before .before .before in
+    sym (second-words (start .pre .0 .0) (start .pre .0 .2) (start .pre .0 .1) (start .pre .1 .0) (lists-made (start .args .s .now) _ (start .args .body .now) (layout-publics (start .args .s .now) (at-layout-of .layout-of .ensures)) (layout-next (start .args .s .now) (at-layout-of .layout-of .ensures)) (at-put-publics .put-publics .ensures) (at-put-provers .put-provers .ensures)) (at-used-definitions .used-definitions .result) _ (layout-next (start .args .s .now) (at-layout-of .layout-of .ensures)) _ _ (at-no-substitutions .no-substitutions .ensures) _ _ (at-flatten-defs .flatten-defs .ensures))
 
 clear-substitutions-requires : tie.Need-clear-substitutions-requires
 clear-substitutions-requires c κs = search needs
 
 keep-defs-requires : tie.Need-keep-defs-requires
-keep-defs-requires c κs = (((c .before .before .before .before .before .before .before .before .before .before .before .before .before .before .before .before .before .before .before .before .before .before .before .before .before .before .before .before .before .before .pre .0 .0), (c .before .before .before .before .before .before .before .before .before .before .before .before .before .before .before .before .before .before .before .before .before .before .before .before .before .before .before .before .before .before .pre .0 .2), layout-definitions-at (c .before .before .before .before .before .before .before .before .before .before .before .before .before .before .before .before .before .before .before .before .before .before .before .before .before .before .before .before .before .before .args .s .now) (c .before .before .before .before .before .before .before .before .before .before .before .before .before .before .before .before .before .before .before .before .before .before .before .before .before .before .layout-of .ensures), layout-definitions (c .before .before .before .before .before .before .before .before .before .before .before .before .before .before .before .before .before .before .before .before .before .before .before .before .before .before .before .before .before .before .args .s .now) (c .before .before .before .before .before .before .before .before .before .before .before .before .before .before .before .before .before .before .before .before .before .before .before .before .before .before .layout-of .ensures), layout-nodes-at (c .before .before .before .before .before .before .before .before .before .before .before .before .before .before .before .before .before .before .before .before .before .before .before .before .before .before .before .before .before .before .args .s .now) (c .before .before .before .before .before .before .before .before .before .before .before .before .before .before .before .before .before .before .before .before .before .before .before .before .before .before .layout-of .ensures)), (cleared-words (c .before .before .before .before .before .before .before .before .before .before .before .before .before .before .before .before .before .before .before .before .before .before .before .before .before .before .before .before .before .before .pre .0 .0) (c .before .before .before .before .before .before .before .before .before .before .before .before .before .before .before .before .before .before .before .before .before .before .before .before .before .before .before .before .before .before .pre .0 .2) (c .before .before .before .before .before .before .before .before .before .before .before .before .before .before .before .before .before .before .before .before .before .before .before .before .before .before .before .before .before .before .pre .0 .1) (c .before .before .before .before .before .before .before .before .before .before .before .before .before .before .before .before .before .before .before .before .before .before .before .before .before .before .before .before .before .before .pre .1 .0) (lists-made (c .before .before .before .before .before .before .before .before .before .before .before .before .before .before .before .before .before .before .before .before .before .before .before .before .before .before .before .before .before .before .args .s .now) _ (c .before .before .before .before .before .before .before .before .before .before .before .before .before .before .before .before .before .before .before .before .before .before .before .before .before .before .before .before .before .before .args .body .now) (layout-publics (c .before .before .before .before .before .before .before .before .before .before .before .before .before .before .before .before .before .before .before .before .before .before .before .before .before .before .before .before .before .before .args .s .now) (c .before .before .before .before .before .before .before .before .before .before .before .before .before .before .before .before .before .before .before .before .before .before .before .before .before .before .layout-of .ensures)) (layout-next (c .before .before .before .before .before .before .before .before .before .before .before .before .before .before .before .before .before .before .before .before .before .before .before .before .before .before .before .before .before .before .args .s .now) (c .before .before .before .before .before .before .before .before .before .before .before .before .before .before .before .before .before .before .before .before .before .before .before .before .before .before .layout-of .ensures)) (c .before .before .before .before .before .before .before .before .before .before .before .before .before .before .before .before .before .before .before .before .before .before .before .before .put-publics .ensures) (c .before .before .before .before .before .before .before .before .before .before .before .before .before .before .before .before .before .before .before .before .put-provers .ensures)) (c .before .before .before .before .before .before .before .before .before .before .before .before .before .before .before .before .before .used-definitions .result) _ (layout-next (c .before .before .before .before .before .before .before .before .before .before .before .before .before .before .before .before .before .before .before .before .before .before .before .before .before .before .before .before .before .before .args .s .now) (c .before .before .before .before .before .before .before .before .before .before .before .before .before .before .before .before .before .before .before .before .before .before .before .before .before .before .layout-of .ensures)) _ _ (c .before .before .before .before .before .before .before .before .before .before .before .before .before .before .before .before .no-substitutions .ensures) _ _ (c .before .before .before .before .before .before .before .before .before .before .before .before .before .flatten-defs .ensures) _ (c .before .before .before .before .clear-substitutions .ensures), room-of-kept (c .before .before .before .before .before .before .before .before .before .before .before .before .before .before .before .before .before .before .before .before .before .before .before .before .before .before .before .before .before .before .pre .0 .0) (c .before .before .before .before .before .before .before .before .before .before .before .before .before .before .before .before .before .before .before .before .before .before .before .before .before .before .before .before .before .before .pre .0 .2) (c .before .before .before .before .before .before .before .before .before .before .before .before .before .before .before .before .before .before .before .before .before .before .before .before .before .before .before .before .before .before .pre .0 .1) (c .before .before .before .before .before .before .before .before .before .before .before .before .before .before .before .before .before .before .before .before .before .before .before .before .before .before .before .before .before .before .pre .1 .0) (lists-made (c .before .before .before .before .before .before .before .before .before .before .before .before .before .before .before .before .before .before .before .before .before .before .before .before .before .before .before .before .before .before .args .s .now) _ (c .before .before .before .before .before .before .before .before .before .before .before .before .before .before .before .before .before .before .before .before .before .before .before .before .before .before .before .before .before .before .args .body .now) (layout-publics (c .before .before .before .before .before .before .before .before .before .before .before .before .before .before .before .before .before .before .before .before .before .before .before .before .before .before .before .before .before .before .args .s .now) (c .before .before .before .before .before .before .before .before .before .before .before .before .before .before .before .before .before .before .before .before .before .before .before .before .before .before .layout-of .ensures)) (layout-next (c .before .before .before .before .before .before .before .before .before .before .before .before .before .before .before .before .before .before .before .before .before .before .before .before .before .before .before .before .before .before .args .s .now) (c .before .before .before .before .before .before .before .before .before .before .before .before .before .before .before .before .before .before .before .before .before .before .before .before .before .before .layout-of .ensures)) (c .before .before .before .before .before .before .before .before .before .before .before .before .before .before .before .before .before .before .before .before .before .before .before .before .put-publics .ensures) (c .before .before .before .before .before .before .before .before .before .before .before .before .before .before .before .before .before .before .before .before .put-provers .ensures)) (c .before .before .before .before .before .before .before .before .before .before .before .before .before .before .before .before .before .used-definitions .result) _ (layout-next (c .before .before .before .before .before .before .before .before .before .before .before .before .before .before .before .before .before .before .before .before .before .before .before .before .before .before .before .before .before .before .args .s .now) (c .before .before .before .before .before .before .before .before .before .before .before .before .before .before .before .before .before .before .before .before .before .before .before .before .before .before .layout-of .ensures)) _ _ (c .before .before .before .before .before .before .before .before .before .before .before .before .before .before .before .before .no-substitutions .ensures) _ _ (c .before .before .before .before .before .before .before .before .before .before .before .before .before .flatten-defs .ensures) _ _ (c .before .before .before .before .before .before .before .before .flatten-equations .ensures) (layout-definitions (c .before .before .before .before .before .before .before .before .before .before .before .before .before .before .before .before .before .before .before .before .before .before .before .before .before .before .before .before .before .before .args .s .now) (c .before .before .before .before .before .before .before .before .before .before .before .before .before .before .before .before .before .before .before .before .before .before .before .before .before .before .layout-of .ensures)), room-of-nodes (c .before .before .before .before .before .before .before .before .before .before .before .before .before .before .before .before .before .before .before .before .before .before .before .before .before .before .before .before .before .before .pre .0 .0) (c .before .before .before .before .before .before .before .before .before .before .before .before .before .before .before .before .before .before .before .before .before .before .before .before .before .before .before .before .before .before .pre .0 .2) (c .before .before .before .before .before .before .before .before .before .before .before .before .before .before .before .before .before .before .before .before .before .before .before .before .before .before .before .before .before .before .pre .0 .1) (c .before .before .before .before .before .before .before .before .before .before .before .before .before .before .before .before .before .before .before .before .before .before .before .before .before .before .before .before .before .before .pre .1 .0) (lists-made (c .before .before .before .before .before .before .before .before .before .before .before .before .before .before .before .before .before .before .before .before .before .before .before .before .before .before .before .before .before .before .args .s .now) _ (c .before .before .before .before .before .before .before .before .before .before .before .before .before .before .before .before .before .before .before .before .before .before .before .before .before .before .before .before .before .before .args .body .now) (layout-publics (c .before .before .before .before .before .before .before .before .before .before .before .before .before .before .before .before .before .before .before .before .before .before .before .before .before .before .before .before .before .before .args .s .now) (c .before .before .before .before .before .before .before .before .before .before .before .before .before .before .before .before .before .before .before .before .before .before .before .before .before .before .layout-of .ensures)) (layout-next (c .before .before .before .before .before .before .before .before .before .before .before .before .before .before .before .before .before .before .before .before .before .before .before .before .before .before .before .before .before .before .args .s .now) (c .before .before .before .before .before .before .before .before .before .before .before .before .before .before .before .before .before .before .before .before .before .before .before .before .before .before .layout-of .ensures)) (c .before .before .before .before .before .before .before .before .before .before .before .before .before .before .before .before .before .before .before .before .before .before .before .before .put-publics .ensures) (c .before .before .before .before .before .before .before .before .before .before .before .before .before .before .before .before .before .before .before .before .put-provers .ensures)) (c .before .before .before .before .before .before .before .before .before .before .before .before .before .before .before .before .before .used-definitions .result) _ (layout-next (c .before .before .before .before .before .before .before .before .before .before .before .before .before .before .before .before .before .before .before .before .before .before .before .before .before .before .before .before .before .before .args .s .now) (c .before .before .before .before .before .before .before .before .before .before .before .before .before .before .before .before .before .before .before .before .before .before .before .before .before .before .layout-of .ensures)) _ _ (c .before .before .before .before .before .before .before .before .before .before .before .before .before .before .before .before .no-substitutions .ensures) _ _ (c .before .before .before .before .before .before .before .before .before .before .before .before .before .flatten-defs .ensures) _ _ (c .before .before .before .before .before .before .before .before .flatten-equations .ensures) (c .before .before .before .before .before .before .before .before .before .before .before .before .before .before .before .before .before .before .before .before .before .before .before .before .before .before .before .before .before .before .pre .1 .1)))
+keep-defs-requires c κs =
+    let at-clear-substitutions = c .before .before .before .before in
+    let at-flatten-equations = at-clear-substitutions .before .before .before .before in
+    let at-flatten-defs = at-flatten-equations .before .before .before .before .before in
+    let at-no-substitutions = at-flatten-defs .before .before .before in
+    let at-used-definitions = at-no-substitutions .before in
+    let at-put-provers = at-used-definitions .before .before .before in
+    let at-put-publics = at-put-provers .before .before .before .before in
+    let at-layout-of = at-put-publics .before .before in
+    let start = at-layout-of .before .before .before .before in
+    (((start .pre .0 .0), (start .pre .0 .2), layout-definitions-at (start .args .s .now) (at-layout-of .layout-of .ensures), layout-definitions (start .args .s .now) (at-layout-of .layout-of .ensures), layout-nodes-at (start .args .s .now) (at-layout-of .layout-of .ensures)), (cleared-words (start .pre .0 .0) (start .pre .0 .2) (start .pre .0 .1) (start .pre .1 .0) (lists-made (start .args .s .now) _ (start .args .body .now) (layout-publics (start .args .s .now) (at-layout-of .layout-of .ensures)) (layout-next (start .args .s .now) (at-layout-of .layout-of .ensures)) (at-put-publics .put-publics .ensures) (at-put-provers .put-provers .ensures)) (at-used-definitions .used-definitions .result) _ (layout-next (start .args .s .now) (at-layout-of .layout-of .ensures)) _ _ (at-no-substitutions .no-substitutions .ensures) _ _ (at-flatten-defs .flatten-defs .ensures) _ (at-clear-substitutions .clear-substitutions .ensures), room-of-kept (start .pre .0 .0) (start .pre .0 .2) (start .pre .0 .1) (start .pre .1 .0) (lists-made (start .args .s .now) _ (start .args .body .now) (layout-publics (start .args .s .now) (at-layout-of .layout-of .ensures)) (layout-next (start .args .s .now) (at-layout-of .layout-of .ensures)) (at-put-publics .put-publics .ensures) (at-put-provers .put-provers .ensures)) (at-used-definitions .used-definitions .result) _ (layout-next (start .args .s .now) (at-layout-of .layout-of .ensures)) _ _ (at-no-substitutions .no-substitutions .ensures) _ _ (at-flatten-defs .flatten-defs .ensures) _ _ (at-flatten-equations .flatten-equations .ensures) (layout-definitions (start .args .s .now) (at-layout-of .layout-of .ensures)), room-of-nodes (start .pre .0 .0) (start .pre .0 .2) (start .pre .0 .1) (start .pre .1 .0) (lists-made (start .args .s .now) _ (start .args .body .now) (layout-publics (start .args .s .now) (at-layout-of .layout-of .ensures)) (layout-next (start .args .s .now) (at-layout-of .layout-of .ensures)) (at-put-publics .put-publics .ensures) (at-put-provers .put-provers .ensures)) (at-used-definitions .used-definitions .result) _ (layout-next (start .args .s .now) (at-layout-of .layout-of .ensures)) _ _ (at-no-substitutions .no-substitutions .ensures) _ _ (at-flatten-defs .flatten-defs .ensures) _ _ (at-flatten-equations .flatten-equations .ensures) (start .pre .1 .1)))
 
 same-length : tie.Need-same-length
-same-length c = body-same (c .before .before .before .before .before .before .before .before .before .before .before .before .before .before .before .before .before .before .before .before .before .before .before .before .before .before .before .before .before .before .before .before .before .before .before .pre .0 .0) (c .before .before .before .before .before .before .before .before .before .before .before .before .before .before .before .before .before .before .before .before .before .before .before .before .before .before .before .before .before .before .before .before .before .before .before .pre .0 .2) (c .before .before .before .before .before .before .before .before .before .before .before .before .before .before .before .before .before .before .before .before .before .before .before .before .before .before .before .before .before .before .before .before .before .before .before .pre .0 .1) (c .before .before .before .before .before .before .before .before .before .before .before .before .before .before .before .before .before .before .before .before .before .before .before .before .before .before .before .before .before .before .before .before .before .before .before .pre .1 .0) (lists-made (c .before .before .before .before .before .before .before .before .before .before .before .before .before .before .before .before .before .before .before .before .before .before .before .before .before .before .before .before .before .before .before .before .before .before .before .args .s .now) _ (c .before .before .before .before .before .before .before .before .before .before .before .before .before .before .before .before .before .before .before .before .before .before .before .before .before .before .before .before .before .before .before .before .before .before .before .args .body .now) (layout-publics (c .before .before .before .before .before .before .before .before .before .before .before .before .before .before .before .before .before .before .before .before .before .before .before .before .before .before .before .before .before .before .before .before .before .before .before .args .s .now) (c .before .before .before .before .before .before .before .before .before .before .before .before .before .before .before .before .before .before .before .before .before .before .before .before .before .before .before .before .before .before .before .layout-of .ensures)) (layout-next (c .before .before .before .before .before .before .before .before .before .before .before .before .before .before .before .before .before .before .before .before .before .before .before .before .before .before .before .before .before .before .before .before .before .before .before .args .s .now) (c .before .before .before .before .before .before .before .before .before .before .before .before .before .before .before .before .before .before .before .before .before .before .before .before .before .before .before .before .before .before .before .layout-of .ensures)) (c .before .before .before .before .before .before .before .before .before .before .before .before .before .before .before .before .before .before .before .before .before .before .before .before .before .before .before .before .before .put-publics .ensures) (c .before .before .before .before .before .before .before .before .before .before .before .before .before .before .before .before .before .before .before .before .before .before .before .before .before .put-provers .ensures)) (c .before .before .before .before .before .before .before .before .before .before .before .before .before .before .before .before .before .before .before .before .before .before .used-definitions .result) _ (layout-next (c .before .before .before .before .before .before .before .before .before .before .before .before .before .before .before .before .before .before .before .before .before .before .before .before .before .before .before .before .before .before .before .before .before .before .before .args .s .now) (c .before .before .before .before .before .before .before .before .before .before .before .before .before .before .before .before .before .before .before .before .before .before .before .before .before .before .before .before .before .before .before .layout-of .ensures)) _ _ (c .before .before .before .before .before .before .before .before .before .before .before .before .before .before .before .before .before .before .before .before .before .no-substitutions .ensures) _ _ (c .before .before .before .before .before .before .before .before .before .before .before .before .before .before .before .before .before .before .flatten-defs .ensures) _ _ (c .before .before .before .before .before .before .before .before .before .before .before .before .before .flatten-equations .ensures) _ _ _ _ _ (c .before .before .before .before .before .before .before .before .before .clear-substitutions .ensures) _ (c .before .before .before .before .keep-defs .ensures)
+same-length c =
+    let at-keep-defs = c .before .before .before .before in
+    let at-clear-substitutions = at-keep-defs .before .before .before .before .before in
+    let at-flatten-equations = at-clear-substitutions .before .before .before .before in
+    let at-flatten-defs = at-flatten-equations .before .before .before .before .before in
+    let at-no-substitutions = at-flatten-defs .before .before .before in
+    let at-used-definitions = at-no-substitutions .before in
+    let at-put-provers = at-used-definitions .before .before .before in
+    let at-put-publics = at-put-provers .before .before .before .before in
+    let at-layout-of = at-put-publics .before .before in
+    let start = at-layout-of .before .before .before .before in
+    body-same (start .pre .0 .0) (start .pre .0 .2) (start .pre .0 .1) (start .pre .1 .0) (lists-made (start .args .s .now) _ (start .args .body .now) (layout-publics (start .args .s .now) (at-layout-of .layout-of .ensures)) (layout-next (start .args .s .now) (at-layout-of .layout-of .ensures)) (at-put-publics .put-publics .ensures) (at-put-provers .put-provers .ensures)) (at-used-definitions .used-definitions .result) _ (layout-next (start .args .s .now) (at-layout-of .layout-of .ensures)) _ _ (at-no-substitutions .no-substitutions .ensures) _ _ (at-flatten-defs .flatten-defs .ensures) _ _ (at-flatten-equations .flatten-equations .ensures) _ _ _ _ _ (at-clear-substitutions .clear-substitutions .ensures) _ (at-keep-defs .keep-defs .ensures)
 
 same-length-2 : tie.Need-same-length-2
 same-length-2 c = search needs
 
 returns : tie.Need-returns
-returns c = rw (by-parts (c .before .before .before .before .before .before .before .before .before .before .before .before .before .before .before .before .before .before .before .before .before .before .before .before .before .before .before .before .before .before .before .before .before .before .before .args .s .now) (c .before .before .before .before .before .before .before .before .before .before .before .before .before .before .before .before .before .before .before .before .before .before .used-definitions .result) (c .before .before .before .before .before .before .before .before .before .before .before .before .before .before .before .before .before .before .before .before .before .before .used-definitions .ensures ∙ ap length (sym (classified-definitions (c .before .before .before .before .before .before .before .before .before .before .before .before .before .before .before .before .before .before .before .before .before .before .before .before .before .before .before .before .before .before .before .before .before .before .before .pre .0 .2))))) (built (c .before .before .before .before .before .before .before .before .before .before .before .before .before .before .before .before .before .before .before .before .before .before .before .before .before .before .before .before .before .before .before .before .before .before .before .pre .0 .0) (c .before .before .before .before .before .before .before .before .before .before .before .before .before .before .before .before .before .before .before .before .before .before .before .before .before .before .before .before .before .before .before .before .before .before .before .pre .0 .2) (c .before .before .before .before .before .before .before .before .before .before .before .before .before .before .before .before .before .before .before .before .before .before .before .before .before .before .before .before .before .before .before .before .before .before .before .pre .0 .1) (c .before .before .before .before .before .before .before .before .before .before .before .before .before .before .before .before .before .before .before .before .before .before .before .before .before .before .before .before .before .before .before .before .before .before .before .pre .1 .0) (lists-made (c .before .before .before .before .before .before .before .before .before .before .before .before .before .before .before .before .before .before .before .before .before .before .before .before .before .before .before .before .before .before .before .before .before .before .before .args .s .now) _ (c .before .before .before .before .before .before .before .before .before .before .before .before .before .before .before .before .before .before .before .before .before .before .before .before .before .before .before .before .before .before .before .before .before .before .before .args .body .now) (layout-publics (c .before .before .before .before .before .before .before .before .before .before .before .before .before .before .before .before .before .before .before .before .before .before .before .before .before .before .before .before .before .before .before .before .before .before .before .args .s .now) (c .before .before .before .before .before .before .before .before .before .before .before .before .before .before .before .before .before .before .before .before .before .before .before .before .before .before .before .before .before .before .before .layout-of .ensures)) (layout-next (c .before .before .before .before .before .before .before .before .before .before .before .before .before .before .before .before .before .before .before .before .before .before .before .before .before .before .before .before .before .before .before .before .before .before .before .args .s .now) (c .before .before .before .before .before .before .before .before .before .before .before .before .before .before .before .before .before .before .before .before .before .before .before .before .before .before .before .before .before .before .before .layout-of .ensures)) (c .before .before .before .before .before .before .before .before .before .before .before .before .before .before .before .before .before .before .before .before .before .before .before .before .before .before .before .before .before .put-publics .ensures) (c .before .before .before .before .before .before .before .before .before .before .before .before .before .before .before .before .before .before .before .before .before .before .before .before .before .put-provers .ensures)) (c .before .before .before .before .before .before .before .before .before .before .before .before .before .before .before .before .before .before .before .before .before .before .used-definitions .result) _ (layout-next (c .before .before .before .before .before .before .before .before .before .before .before .before .before .before .before .before .before .before .before .before .before .before .before .before .before .before .before .before .before .before .before .before .before .before .before .args .s .now) (c .before .before .before .before .before .before .before .before .before .before .before .before .before .before .before .before .before .before .before .before .before .before .before .before .before .before .before .before .before .before .before .layout-of .ensures)) _ _ (c .before .before .before .before .before .before .before .before .before .before .before .before .before .before .before .before .before .before .before .before .before .no-substitutions .ensures) _ _ (c .before .before .before .before .before .before .before .before .before .before .before .before .before .before .before .before .before .before .flatten-defs .ensures) _ _ (c .before .before .before .before .before .before .before .before .before .before .before .before .before .flatten-equations .ensures) _ _ _ _ _ (c .before .before .before .before .before .before .before .before .before .clear-substitutions .ensures) _ (c .before .before .before .before .keep-defs .ensures))
+returns c =
+    let at-keep-defs = c .before .before .before .before in
+    let at-clear-substitutions = at-keep-defs .before .before .before .before .before in
+    let at-flatten-equations = at-clear-substitutions .before .before .before .before in
+    let at-flatten-defs = at-flatten-equations .before .before .before .before .before in
+    let at-no-substitutions = at-flatten-defs .before .before .before in
+    let at-used-definitions = at-no-substitutions .before in
+    let at-put-provers = at-used-definitions .before .before .before in
+    let at-put-publics = at-put-provers .before .before .before .before in
+    let at-layout-of = at-put-publics .before .before in
+    let start = at-layout-of .before .before .before .before in
+    rw (by-parts (start .args .s .now) (at-used-definitions .used-definitions .result) (at-used-definitions .used-definitions .ensures ∙ ap length (sym (classified-definitions (start .pre .0 .2))))) (built (start .pre .0 .0) (start .pre .0 .2) (start .pre .0 .1) (start .pre .1 .0) (lists-made (start .args .s .now) _ (start .args .body .now) (layout-publics (start .args .s .now) (at-layout-of .layout-of .ensures)) (layout-next (start .args .s .now) (at-layout-of .layout-of .ensures)) (at-put-publics .put-publics .ensures) (at-put-provers .put-provers .ensures)) (at-used-definitions .used-definitions .result) _ (layout-next (start .args .s .now) (at-layout-of .layout-of .ensures)) _ _ (at-no-substitutions .no-substitutions .ensures) _ _ (at-flatten-defs .flatten-defs .ensures) _ _ (at-flatten-equations .flatten-equations .ensures) _ _ _ _ _ (at-clear-substitutions .clear-substitutions .ensures) _ (at-keep-defs .keep-defs .ensures))
 
 pub build-spec : {M : Type 1} → statement M
 build-spec =

@@ -18,8 +18,9 @@ classify-defs-requires c κs = search needs
 
 cuttable-requires : tie.Need-cuttable-requires
 cuttable-requires c κs =
+    let start = c .before .before .before .before .before .before .before .before .before .before in
     let classes = c .before .before .classify-defs .ensures in
-    let readable = c .before .before .before .before .before .before .before .before .before .before .pre .0 .0 in
+    let readable = start .pre .0 .0 in
     (readable, classified-of readable (classes .0) (classes .1))
 
 returns : tie.Need-returns

@@ -25,7 +25,10 @@ same-length : tie.Need-same-length
 same-length c = search needs
 
 returns-2 : tie.Need-returns-2
-returns-2 c = let w = kept-written (c .before .before .before .before .before .before .before .args .body .now) (c .before .before .before .before .before .before .before .args .at) (c .before .before .before .before .before .before .before .args .v) _ (id-kept (c .before .before .before .before .before .before .before .args .provers .now) (c .before .before .before .before .before .before .before .args .v) (c .before .before .before .before .if1 .left)) in (c .before .before .put-word .ensures ∙ w .0, w .1)
+returns-2 c =
+    let at-if1 = c .before .before .before .before in
+    let start = at-if1 .before .before .before in
+    let w = kept-written (start .args .body .now) (start .args .at) (start .args .v) _ (id-kept (start .args .provers .now) (start .args .v) (at-if1 .if1 .left)) in (c .before .before .put-word .ensures ∙ w .0, w .1)
 
 pub put-prover-spec : {M : Type 1} → statement M
 put-prover-spec =

@@ -23,10 +23,14 @@ loop-holds : tie.Need-loop-holds Inv-loop μ-loop
 loop-holds c = ((let z : c .before .before .args .n - 0 ≡ c .before .before .args .n = omega arith in ap (λ (m : ℕ). setWords (c .before .before .args .body .now) 0 (rows m 0 (publicAt (c .before .before .args .s .now)))) z, omega arith), refl)
 
 public-at-requires : tie.Need-public-at-requires Inv-loop μ-loop
-public-at-requires c κs = omega (arith, c .before .before .before .before .before .pre .0)
+public-at-requires c κs =
+    let start = c .before .before .before .before .before in
+    omega (arith, start .pre .0)
 
 put-word-requires : tie.Need-put-word-requires Inv-loop μ-loop
-put-word-requires c κs = omega (arith, c .before .before .before .before .before .before .pre .1, c .before .before .before .loop .inv .1)
+put-word-requires c κs =
+    let start = c .before .before .before .before .before .before in
+    omega (arith, start .pre .1, c .before .before .before .loop .inv .1)
 
 add-k : tie.Need-add-k Inv-loop μ-loop
 add-k c = search needs
@@ -50,7 +54,9 @@ same-length : tie.Need-same-length Inv-loop μ-loop
 same-length c = c .before .loop .inv .1
 
 returns : tie.Need-returns Inv-loop μ-loop
-returns c = row-end (c .before .loop .body) (c .before .before .before .before .args .n) (c .before .loop .k) _ (omega (arith, c .loop-test .left)) (c .before .loop .inv .0 .0)
+returns c =
+    let start = c .before .before .before .before in
+    row-end (c .before .loop .body) (start .args .n) (c .before .loop .k) _ (omega (arith, c .loop-test .left)) (c .before .loop .inv .0 .0)
 
 pub put-publics-spec : {M : Type 1} → statement M
 put-publics-spec =

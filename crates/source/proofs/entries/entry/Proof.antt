@@ -122,11 +122,15 @@ blank-requires-32 c κs = search needs
 
 returns : tie.Need-returns
 unfolding entryFor pick
-returns c = c .blank3 .ensures ∙ ap (unused (c .before .before .before .before .args .a)) (c .before .blank2 .ensures ∙ ap (unused (c .before .before .before .before .args .b)) (c .before .before .blank .ensures)) ∙ ap (λ (k : ℕ). entryFor k (c .before .before .before .before .args .a) (c .before .before .before .before .args .b) (c .before .before .before .before .args .c)) (sym (c .before .before .before .match .keys1))
+returns c =
+    let start = c .before .before .before .before in
+    c .blank3 .ensures ∙ ap (unused (start .args .a)) (c .before .blank2 .ensures ∙ ap (unused (start .args .b)) (c .before .before .blank .ensures)) ∙ ap (λ (k : ℕ). entryFor k (start .args .a) (start .args .b) (start .args .c)) (sym (c .before .before .before .match .keys1))
 
 returns-2 : tie.Need-returns-2
 unfolding entryFor pick
-returns-2 c = c .blank6 .ensures ∙ ap (unused (c .before .before .before .before .args .a)) (c .before .blank5 .ensures ∙ ap (unused (c .before .before .before .before .args .b)) (c .before .before .blank4 .ensures)) ∙ ap (λ (k : ℕ). entryFor k (c .before .before .before .before .args .a) (c .before .before .before .before .args .b) (c .before .before .before .before .args .c)) (sym (c .before .before .before .match .keys2))
+returns-2 c =
+    let start = c .before .before .before .before in
+    c .blank6 .ensures ∙ ap (unused (start .args .a)) (c .before .blank5 .ensures ∙ ap (unused (start .args .b)) (c .before .before .blank4 .ensures)) ∙ ap (λ (k : ℕ). entryFor k (start .args .a) (start .args .b) (start .args .c)) (sym (c .before .before .before .match .keys2))
 
 returns-3 : tie.Need-returns-3
 unfolding entryFor pick
@@ -150,7 +154,9 @@ returns-7 c = c .blank11 .ensures ∙ ap (λ (k : ℕ). entryFor k (c .before .b
 
 returns-8 : tie.Need-returns-8
 unfolding entryFor pick
-returns-8 c = c .blank13 .ensures ∙ ap (unused (c .before .before .before .before .args .b)) (c .before .blank12 .ensures ∙ ap (unused (c .before .before .before .before .args .c)) (ap (λ (n : ℤ). Entry.Expression (Form.Constant n)) (toZ-ofZ w64 _ (record { sfits = c .before .before .number .ok }) ∙ c .before .before .number .ensures))) ∙ ap (λ (k : ℕ). entryFor k (c .before .before .before .before .args .a) (c .before .before .before .before .args .b) (c .before .before .before .before .args .c)) (sym (c .before .before .before .match .keys8))
+returns-8 c =
+    let start = c .before .before .before .before in
+    c .blank13 .ensures ∙ ap (unused (start .args .b)) (c .before .blank12 .ensures ∙ ap (unused (start .args .c)) (ap (λ (n : ℤ). Entry.Expression (Form.Constant n)) (toZ-ofZ w64 _ (record { sfits = c .before .before .number .ok }) ∙ c .before .before .number .ensures))) ∙ ap (λ (k : ℕ). entryFor k (start .args .a) (start .args .b) (start .args .c)) (sym (c .before .before .before .match .keys8))
 
 returns-9 : tie.Need-returns-9
 unfolding entryFor pick
@@ -178,11 +184,15 @@ returns-14 c = ap (λ (k : ℕ). entryFor k (c .before .args .a) (c .before .arg
 
 returns-15 : tie.Need-returns-15
 unfolding entryFor pick
-returns-15 c = c .blank22 .ensures ∙ ap (unused (c .before .before .before .before .args .a)) (c .before .blank21 .ensures ∙ ap (unused (c .before .before .before .before .args .b)) (c .before .before .blank20 .ensures)) ∙ ap (λ (k : ℕ). entryFor k (c .before .before .before .before .args .a) (c .before .before .before .before .args .b) (c .before .before .before .before .args .c)) (sym (c .before .before .before .match .keys15))
+returns-15 c =
+    let start = c .before .before .before .before in
+    c .blank22 .ensures ∙ ap (unused (start .args .a)) (c .before .blank21 .ensures ∙ ap (unused (start .args .b)) (c .before .before .blank20 .ensures)) ∙ ap (λ (k : ℕ). entryFor k (start .args .a) (start .args .b) (start .args .c)) (sym (c .before .before .before .match .keys15))
 
 returns-16 : tie.Need-returns-16
 unfolding entryFor pick
-returns-16 c = c .blank25 .ensures ∙ ap (unused (c .before .before .before .before .args .a)) (c .before .blank24 .ensures ∙ ap (unused (c .before .before .before .before .args .b)) (c .before .before .blank23 .ensures)) ∙ ap (λ (k : ℕ). entryFor k (c .before .before .before .before .args .a) (c .before .before .before .before .args .b) (c .before .before .before .before .args .c)) (sym (c .before .before .before .match .keys16))
+returns-16 c =
+    let start = c .before .before .before .before in
+    c .blank25 .ensures ∙ ap (unused (start .args .a)) (c .before .blank24 .ensures ∙ ap (unused (start .args .b)) (c .before .before .blank23 .ensures)) ∙ ap (λ (k : ℕ). entryFor k (start .args .a) (start .args .b) (start .args .c)) (sym (c .before .before .before .match .keys16))
 
 returns-17 : tie.Need-returns-17
 unfolding entryFor pick
@@ -202,7 +212,9 @@ returns-20 c = c .blank30 .ensures ∙ ap (unused (c .before .before .before .ar
 
 returns-21 : tie.Need-returns-21
 unfolding entryFor pick
-returns-21 c = c .blank32 .ensures ∙ ap (unused (c .before .before .before .before .args .b)) (c .before .blank31 .ensures ∙ ap (unused (c .before .before .before .before .args .c)) (ap (λ (n : ℤ). Entry.Pattern (Shape.Constant n)) (toZ-ofZ w64 _ (record { sfits = c .before .before .number2 .ok }) ∙ c .before .before .number2 .ensures))) ∙ ap (λ (k : ℕ). entryFor k (c .before .before .before .before .args .a) (c .before .before .before .before .args .b) (c .before .before .before .before .args .c)) (sym (c .before .before .before .match .keys21))
+returns-21 c =
+    let start = c .before .before .before .before in
+    c .blank32 .ensures ∙ ap (unused (start .args .b)) (c .before .blank31 .ensures ∙ ap (unused (start .args .c)) (ap (λ (n : ℤ). Entry.Pattern (Shape.Constant n)) (toZ-ofZ w64 _ (record { sfits = c .before .before .number2 .ok }) ∙ c .before .before .number2 .ensures))) ∙ ap (λ (k : ℕ). entryFor k (start .args .a) (start .args .b) (start .args .c)) (sym (c .before .before .before .match .keys21))
 
 returns-22 : tie.Need-returns-22
 unfolding entryFor

@@ -36,7 +36,9 @@ loop-less : tie.Need-loop-less Inv-loop μ-loop
 loop-less c = search needs
 
 loop-again : tie.Need-loop-again Inv-loop μ-loop
-loop-again c = (print-more (c .before .before .before .before .args .s .now) _ _ (c .before .before .loop .inv .0) (c .byte .ensures .0), omega arith)
+loop-again c =
+    let start = c .before .before .before .before in
+    (print-more (start .args .s .now) _ _ (c .before .before .loop .inv .0) (c .byte .ensures .0), omega arith)
 
 returns : tie.Need-returns Inv-loop μ-loop
 returns c = c .before .loop .inv .0 ∙ ap (λ (m : ℕ). fingerprintOf (c .before .before .before .args .s .now) (c .before .before .before .args .from) m) (omega (arith, c .loop-test .left))

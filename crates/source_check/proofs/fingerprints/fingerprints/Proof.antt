@@ -61,10 +61,12 @@ loop-less c = search needs
 
 loop-again : tie.Need-loop-again Inv-loop μ-loop
 loop-again c =
+    let at-loop-test = c .before .before .before .before in
+    let at-loop = at-loop-test .before in
     let start = c .before .before .before .before .before .before .before in
-    let turn = c .before .before .before .before .before .loop in
+    let turn = at-loop .loop in
     let read = c .before .before .before .name-at .ensures in
-    let room : turn .k < length (turn .r) = omega (arith, turn .inv .1 .0, c .before .before .before .before .loop-test .taken, start .pre .1) in (
+    let room : turn .k < length (turn .r) = omega (arith, turn .inv .1 .0, at-loop-test .loop-test .taken, start .pre .1) in (
       print-set (start .args .s .now) _ _ (turn .r) room (turn .inv .0) (offset-is read) (size-is read) (c .fingerprint .ensures),
       (simp length-set (turn .inv .1 .0), omega arith),
     )

@@ -21,14 +21,16 @@ cast-n c = search needs
 
 returns-2 : tie.Need-returns-2
 returns-2 c =
+    let at-name-at = c .before .before .before .before in
     let start = c .before .before .before .before .before .before in
-    let read = c .before .before .before .before .name-at .ensures in
+    let read = at-name-at .name-at .ensures in
     name-empty (start .args .s .now) _ _ (offset-is read) (start .pre .1 .1) (c .before .before .if1 .left) (size-is read) (c .if2 .taken)
 
 returns-3 : tie.Need-returns-3
 returns-3 c =
+    let at-name-at = c .before .before .before .before .before in
     let start = c .before .before .before .before .before .before .before in
-    let read = c .before .before .before .before .before .name-at .ensures in
+    let read = at-name-at .name-at .ensures in
     name-long (start .args .s .now) _ _ (offset-is read) (start .pre .1 .1) (c .before .before .before .if1 .left) (size-is read)
     (c .before .if2 .left)
     (c .if3 .taken)
@@ -41,9 +43,11 @@ add-if4-2 c = search needs
 
 returns-4 : tie.Need-returns-4
 returns-4 c =
+    let at-if1 = c .before .before .before .before in
+    let at-name-at = at-if1 .before .before in
     let start = c .before .before .before .before .before .before .before .before in
-    let read = c .before .before .before .before .before .before .name-at .ensures in
-    name-sized (start .args .s .now) _ _ (offset-is read) (start .pre .1 .1) (c .before .before .before .before .if1 .left) (size-is read)
+    let read = at-name-at .name-at .ensures in
+    name-sized (start .args .s .now) _ _ (offset-is read) (start .pre .1 .1) (at-if1 .if1 .left) (size-is read)
     (c .before .before .if2 .left)
     (c .before .if3 .left)
     (printed-past (start .args .s .now) _ _ (c .before .before .if2 .left) (c .if4 .taken))
@@ -56,9 +60,11 @@ prints-requires c κs = search needs
 
 returns-5 : tie.Need-returns-5
 returns-5 c =
+    let at-if1 = c .before .before .before .before .before in
+    let at-name-at = at-if1 .before .before in
     let start = c .before .before .before .before .before .before .before .before .before in
-    let read = c .before .before .before .before .before .before .before .name-at .ensures in
-    name-sized (start .args .s .now) _ _ (offset-is read) (start .pre .1 .1) (c .before .before .before .before .before .if1 .left) (size-is read)
+    let read = at-name-at .name-at .ensures in
+    name-sized (start .args .s .now) _ _ (offset-is read) (start .pre .1 .1) (at-if1 .if1 .left) (size-is read)
     (c .before .before .before .if2 .left)
     (c .before .before .if3 .left)
     (c .prints .ensures)

@@ -24,7 +24,9 @@ same-found-requires : tie.Need-same-found-requires Inv-loop μ-loop
 same-found-requires c κs = (c .before .before .before .pre .0, ((omega (arith, c .before .before .before .pre .1 .0), c .before .before .before .pre .1 .0), c .before .before .before .pre .1 .1))
 
 returns : tie.Need-returns Inv-loop μ-loop
-returns c = new-fails (c .before .before .before .before .before .args .s .now) _ _ (c .before .before .before .loop .j) (c .before .before .loop-test .taken) (c .before .same-found .ensures) (c .if1 .taken)
+returns c =
+    let start = c .before .before .before .before .before in
+    new-fails (start .args .s .now) _ _ (c .before .before .before .loop .j) (c .before .before .loop-test .taken) (c .before .same-found .ensures) (c .if1 .taken)
 
 add-j : tie.Need-add-j Inv-loop μ-loop
 add-j c = search needs
@@ -33,7 +35,9 @@ loop-less : tie.Need-loop-less Inv-loop μ-loop
 loop-less c = search needs
 
 loop-again : tie.Need-loop-again Inv-loop μ-loop
-loop-again c = (new-more (c .before .before .before .before .before .args .s .now) _ _ _ (c .before .before .before .loop .inv .0) (c .before .same-found .ensures) (c .if1 .left), omega arith)
+loop-again c =
+    let start = c .before .before .before .before .before in
+    (new-more (start .args .s .now) _ _ _ (c .before .before .before .loop .inv .0) (c .before .same-found .ensures) (c .if1 .left), omega arith)
 
 returns-2 : tie.Need-returns-2 Inv-loop μ-loop
 returns-2 c = new-all (c .before .before .before .args .s .now) _ _ _ (c .before .loop .inv .0) (omega (arith, c .loop-test .left))

@@ -25,10 +25,15 @@ loop-holds : tie.Need-loop-holds Inv-loop μ-loop
 loop-holds c = (every-none _, omega arith)
 
 name-new-requires : tie.Need-name-new-requires Inv-loop μ-loop
-name-new-requires c κs = (c .before .before .before .before .before .pre .0, (c .before .loop-test .taken, (c .before .before .before .before .before .pre .1, c .before .before .before .fingerprints .ensures .1)))
+name-new-requires c κs =
+    let start = c .before .before .before .before .before in
+    (start .pre .0, (c .before .loop-test .taken, (start .pre .1, c .before .before .before .fingerprints .ensures .1)))
 
 returns : tie.Need-returns Inv-loop μ-loop
-returns c = differ-fails (c .before .before .before .before .before .before .before .args .s .now) _ _ (c .before .before .before .before .loop .k) (c .before .before .before .loop-test .taken) (c .before .name-new .ensures) (not-true _ (c .if1 .taken))
+returns c =
+    let at-loop = c .before .before .before .before in
+    let start = at-loop .before .before .before in
+    differ-fails (start .args .s .now) _ _ (at-loop .loop .k) (c .before .before .before .loop-test .taken) (c .before .name-new .ensures) (not-true _ (c .if1 .taken))
 
 add-k : tie.Need-add-k Inv-loop μ-loop
 add-k c = search needs
@@ -37,10 +42,14 @@ loop-less : tie.Need-loop-less Inv-loop μ-loop
 loop-less c = search needs
 
 loop-again : tie.Need-loop-again Inv-loop μ-loop
-loop-again c = (every-more _ _ (c .before .before .before .before .loop .inv .0) (sym (c .before .name-new .ensures) ∙ not-false _ (c .if1 .left)), omega arith)
+loop-again c =
+    let at-loop = c .before .before .before .before in
+    (every-more _ _ (at-loop .loop .inv .0) (sym (c .before .name-new .ensures) ∙ not-false _ (c .if1 .left)), omega arith)
 
 returns-2 : tie.Need-returns-2 Inv-loop μ-loop
-returns-2 c = differ-all (c .before .before .before .before .args .s .now) _ _ _ (c .before .loop .inv .0) (omega (arith, c .loop-test .left))
+returns-2 c =
+    let start = c .before .before .before .before in
+    differ-all (start .args .s .now) _ _ _ (c .before .loop .inv .0) (omega (arith, c .loop-test .left))
 
 pub names-differ-spec : {M : Type 1} → statement M
 names-differ-spec =

@@ -26,7 +26,9 @@ name-fits-requires : tie.Need-name-fits-requires Inv-loop μ-loop
 name-fits-requires c κs = (omega (arith, c .before .before .before .pre .0), (c .before .before .before .pre .1, c .before .loop .inv .0 .1))
 
 returns : tie.Need-returns Inv-loop μ-loop
-returns c = names-fail (c .before .before .before .before .before .args .s .now) _ _ (c .before .before .before .loop .k) (c .before .before .loop-test .taken) (c .before .name-fits .ensures) (not-true _ (c .if1 .taken))
+returns c =
+    let start = c .before .before .before .before .before in
+    names-fail (start .args .s .now) _ _ (c .before .before .before .loop .k) (c .before .before .loop-test .taken) (c .before .name-fits .ensures) (not-true _ (c .if1 .taken))
 
 name-at-requires : tie.Need-name-at-requires Inv-loop μ-loop
 name-at-requires c κs = search needs
@@ -48,10 +50,13 @@ loop-less c = search needs
 
 loop-again : tie.Need-loop-again Inv-loop μ-loop
 loop-again c =
-    let b = c .before .before .before .before .before .before .before .before .args .s .now in
-    let turn = c .before .before .before .before .before .before .loop in
+    let at-name-fits = c .before .before .before .before in
+    let at-loop = at-name-fits .before .before in
+    let start = at-loop .before .before in
+    let b = start .args .s .now in
+    let turn = at-loop .loop in
     let read = c .before .before .name-at .ensures in
-    let fits = sym (c .before .before .before .before .name-fits .ensures) ∙ not-false _ (c .before .before .before .if1 .left) in
+    let fits = sym (at-name-fits .name-fits .ensures) ∙ not-false _ (c .before .before .before .if1 .left) in
     ((every-more _ _ (turn .inv .0 .0) fits, end-more b _ (offset-is read) (size-is read)), (omega arith, search needs))
 
 add-result : tie.Need-add-result Inv-loop μ-loop

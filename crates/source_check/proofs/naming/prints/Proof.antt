@@ -26,7 +26,9 @@ shared-slice-read-c : tie.Need-shared-slice-read-c Inv-loop μ-loop
 shared-slice-read-c c = search needs
 
 returns : tie.Need-returns Inv-loop μ-loop
-returns c = printed-fails (c .before .before .before .before .args .s .now) _ _ (c .before .before .before .loop .i) (c .before .before .loop-test .taken) (not-true _ (c .if1 .taken))
+returns c =
+    let start = c .before .before .before .before in
+    printed-fails (start .args .s .now) _ _ (c .before .before .before .loop .i) (c .before .before .loop-test .taken) (not-true _ (c .if1 .taken))
 
 add-i : tie.Need-add-i Inv-loop μ-loop
 add-i c = search needs
@@ -35,7 +37,9 @@ loop-less : tie.Need-loop-less Inv-loop μ-loop
 loop-less c = search needs
 
 loop-again : tie.Need-loop-again Inv-loop μ-loop
-loop-again c = (printed-more (c .before .before .before .before .args .s .now) _ _ (c .before .before .before .loop .inv .0) (not-false _ (c .if1 .left)), omega arith)
+loop-again c =
+    let start = c .before .before .before .before in
+    (printed-more (start .args .s .now) _ _ (c .before .before .before .loop .inv .0) (not-false _ (c .if1 .left)), omega arith)
 
 returns-2 : tie.Need-returns-2 Inv-loop μ-loop
 returns-2 c = sym (c .before .loop .inv .0) ∙ ap (λ (m : ℕ). printed (c .before .before .args .s .now) (c .before .before .args .from) m) (omega (arith, c .loop-test .left))

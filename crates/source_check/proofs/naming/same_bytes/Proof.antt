@@ -31,7 +31,10 @@ shared-slice-read-if1-2 : tie.Need-shared-slice-read-if1-2 Inv-loop μ-loop
 shared-slice-read-if1-2 c = search needs
 
 returns : tie.Need-returns Inv-loop μ-loop
-returns c = same-fails (c .before .before .before .before .before .args .s .now) _ _ _ (c .before .before .before .before .loop .i) (c .before .before .before .loop-test .taken) (c .if1 .taken)
+returns c =
+    let at-loop = c .before .before .before .before in
+    let start = at-loop .before in
+    same-fails (start .args .s .now) _ _ _ (at-loop .loop .i) (c .before .before .before .loop-test .taken) (c .if1 .taken)
 
 add-i : tie.Need-add-i Inv-loop μ-loop
 add-i c = search needs
@@ -40,7 +43,10 @@ loop-less : tie.Need-loop-less Inv-loop μ-loop
 loop-less c = search needs
 
 loop-again : tie.Need-loop-again Inv-loop μ-loop
-loop-again c = (same-more (c .before .before .before .before .before .args .s .now) _ _ _ (c .before .before .before .before .loop .inv .0) (c .if1 .left), omega arith)
+loop-again c =
+    let at-loop = c .before .before .before .before in
+    let start = at-loop .before in
+    (same-more (start .args .s .now) _ _ _ (at-loop .loop .inv .0) (c .if1 .left), omega arith)
 
 returns-2 : tie.Need-returns-2 Inv-loop μ-loop
 returns-2 c = sym (c .before .loop .inv .0) ∙ ap (λ (m : ℕ). sameBytes (c .before .before .args .s .now) (c .before .before .args .from) (c .before .before .args .to) m) (omega (arith, c .loop-test .left))

@@ -17,7 +17,9 @@ element-copy-out-if1-2 : tie.Need-element-copy-out-if1-2
 element-copy-out-if1-2 c = search needs
 
 returns : tie.Need-returns
-returns c = prints-differ (c .before .before .before .before .args .s .now) _ _ _ _ (c .before .before .before .before .args .prints .now) (c .before .before .before .before .pre .1 .1 .1) (c .before .before .before .before .pre .1 .0 .0) (c .before .before .before .before .pre .1 .0 .1) (c .if1 .taken)
+returns c =
+    let start = c .before .before .before .before in
+    prints-differ (start .args .s .now) _ _ _ _ (start .args .prints .now) (start .pre .1 .1 .1) (start .pre .1 .0 .0) (start .pre .1 .0 .1) (c .if1 .taken)
 
 same-name-requires : tie.Need-same-name-requires
 same-name-requires c κs = search needs

@@ -17,9 +17,11 @@ name-at-requires-2 c κs = search needs
 
 returns : tie.Need-returns
 returns c =
-    let one = c .before .before .before .before .name-at .ensures in
+    let at-name-at = c .before .before .before .before in
+    let start = at-name-at .before .before in
+    let one = at-name-at .name-at .ensures in
     let other = c .before .before .before .name-at2 .ensures in
-    same-length-no (c .before .before .before .before .before .before .args .s .now) _ _ _ (size-is one) (size-is other) (c .if1 .taken)
+    same-length-no (start .args .s .now) _ _ _ (size-is one) (size-is other) (c .if1 .taken)
 
 -- the bytes of the two names that were read lie in the file
 one-inside : (c : tie.After-name-at2) →
@@ -47,13 +49,17 @@ cast-from : tie.Need-cast-from
 cast-from c = search needs
 
 add-from : tie.Need-add-from
-add-from c = omega (arith, one-inside (c .before .before .before .before))
+add-from c =
+    let before-4 = c .before .before .before .before in
+    omega (arith, one-inside (before-4))
 
 cast-to : tie.Need-cast-to
 cast-to c = search needs
 
 add-to : tie.Need-add-to
-add-to c = omega (arith, other-inside (c .before .before .before .before .before) (c .before .before .if1 .left))
+add-to c =
+    let before-5 = c .before .before .before .before .before in
+    omega (arith, other-inside (before-5) (c .before .before .if1 .left))
 
 cast-same-bytes : tie.Need-cast-same-bytes
 cast-same-bytes c = search needs
@@ -65,10 +71,14 @@ same-bytes-requires c κs =
 
 returns-2 : tie.Need-returns-2
 returns-2 c =
-    let b = c .before .before .before .before .before .before .before .before .before .before .args .s .now in
-    let one = c .before .before .before .before .before .before .before .before .name-at .ensures in
-    let other = c .before .before .before .before .before .before .before .name-at2 .ensures in
-    let same = c .before .before .before .before .if1 .left in
+    let at-if1 = c .before .before .before .before in
+    let at-name-at2 = at-if1 .before .before .before in
+    let at-name-at = at-name-at2 .before in
+    let start = at-name-at .before .before in
+    let b = start .args .s .now in
+    let one = at-name-at .name-at .ensures in
+    let other = at-name-at2 .name-at2 .ensures in
+    let same = at-if1 .if1 .left in
     same-length-on b _ _ _ (size-is one) (size-is other) same (offset-is one) (offset-is other) (c .same-bytes .ensures)
 
 pub same-name-spec : {M : Type 1} → statement M

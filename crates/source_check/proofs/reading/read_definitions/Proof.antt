@@ -39,10 +39,14 @@ enum-told-2 c = search needs
 
 returns : tie.Need-returns Inv-loop μ-loop
 returns c =
-    let args = c .before .before .before .before .before .before .before .before .before .args in
-    let k = c .before .before .before .before .before .before .before .loop .k in
-    let less = c .before .before .before .before .before .before .loop-test .taken in
-    let read = c .before .before .before .before .before .definition-at .ensures in
+    let at-definition-at = c .before .before .before .before .before in
+    let at-loop-test = at-definition-at .before in
+    let at-loop = at-loop-test .before in
+    let start = at-loop .before .before in
+    let args = start .args in
+    let k = at-loop .loop .k in
+    let less = at-loop-test .loop-test .taken in
+    let read = at-definition-at .definition-at .ensures in
     let used = c .before .before .use-pattern .ensures .0 in
     let no = c .enum-told2 .given .1 in
     let fails = definitions-pattern (args .s .now) (args .at) (args .nodes) (args .list) k (pattern-is read) used _ less no in
@@ -62,12 +66,18 @@ enum-told-4 c = search needs
 
 returns-2 : tie.Need-returns-2 Inv-loop μ-loop
 returns-2 c =
-    let args = c .before .before .before .before .before .before .before .before .before .before .before .before .before .before .args in
-    let k = c .before .before .before .before .before .before .before .before .before .before .before .before .loop .k in
-    let less = c .before .before .before .before .before .before .before .before .before .before .before .loop-test .taken in
-    let read = c .before .before .before .before .before .before .before .before .before .before .definition-at .ensures in
-    let first = c .before .before .before .before .before .before .before .use-pattern .ensures .0 in
-    let yes = c .before .before .before .before .before .enum-told .given .1 in
+    let at-enum-told = c .before .before .before .before .before in
+    let at-use-pattern = at-enum-told .before .before in
+    let at-definition-at = at-use-pattern .before .before .before in
+    let at-loop-test = at-definition-at .before in
+    let at-loop = at-loop-test .before in
+    let start = at-loop .before .before in
+    let args = start .args in
+    let k = at-loop .loop .k in
+    let less = at-loop-test .loop-test .taken in
+    let read = at-definition-at .definition-at .ensures in
+    let first = at-use-pattern .use-pattern .ensures .0 in
+    let yes = at-enum-told .enum-told .given .1 in
     let second = c .before .before .use-expression .ensures .0 in
     let no = c .enum-told4 .given .1 in
     let fails = definitions-value (args .s .now) (args .at) (args .nodes) (args .list) k (pattern-is read) first yes (value-is read) second _ less no in
@@ -81,11 +91,16 @@ loop-less c = search needs
 
 loop-again : tie.Need-loop-again Inv-loop μ-loop
 loop-again c =
-    let args = c .before .before .before .before .before .before .before .before .before .before .before .before .before .before .args in
-    let turn = c .before .before .before .before .before .before .before .before .before .before .before .before .loop in
-    let read = c .before .before .before .before .before .before .before .before .before .before .definition-at .ensures in
-    let first = c .before .before .before .before .before .before .before .use-pattern .ensures in
-    let one = c .before .before .before .before .before .enum-told .given .1 in
+    let at-enum-told = c .before .before .before .before .before in
+    let at-use-pattern = at-enum-told .before .before in
+    let at-definition-at = at-use-pattern .before .before .before in
+    let at-loop = at-definition-at .before .before in
+    let start = at-loop .before .before in
+    let args = start .args in
+    let turn = at-loop .loop in
+    let read = at-definition-at .definition-at .ensures in
+    let first = at-use-pattern .use-pattern .ensures in
+    let one = at-enum-told .enum-told .given .1 in
     let second = c .before .before .use-expression .ensures in
     let two = c .enum-told3 .given .1 in (
       definitions-more (args .s .now) (args .at) (args .nodes) (args .list) (turn .k) (pattern-is read) (first .0) one (value-is read) (second .0)

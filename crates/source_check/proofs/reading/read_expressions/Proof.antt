@@ -38,10 +38,14 @@ enum-told-2 c = search needs
 
 returns : tie.Need-returns Inv-loop μ-loop
 returns c =
-    let args = c .before .before .before .before .before .before .before .before .args in
-    let k = c .before .before .before .before .before .before .loop .k in
-    let less = c .before .before .before .before .before .loop-test .taken in
-    let read = c .before .before .before .before .expression-at .ensures in
+    let at-expression-at = c .before .before .before .before in
+    let at-loop-test = at-expression-at .before in
+    let at-loop = at-loop-test .before in
+    let start = at-loop .before .before in
+    let args = start .args in
+    let k = at-loop .loop .k in
+    let less = at-loop-test .loop-test .taken in
+    let read = at-expression-at .expression-at .ensures in
     let used = c .before .before .use-expression .ensures .0 in
     let no = c .enum-told2 .given .1 in
     (refuses 5 _ (expressions-fail (args .s .now) (args .at) (args .nodes) (args .list) k read used _ less no), λ e. not-accepted e)
@@ -54,9 +58,12 @@ loop-less c = search needs
 
 loop-again : tie.Need-loop-again Inv-loop μ-loop
 loop-again c =
-    let args = c .before .before .before .before .before .before .before .before .args in
-    let turn = c .before .before .before .before .before .before .loop in
-    let read = c .before .before .before .before .expression-at .ensures in
+    let at-expression-at = c .before .before .before .before in
+    let at-loop = at-expression-at .before .before in
+    let start = at-loop .before .before in
+    let args = start .args in
+    let turn = at-loop .loop in
+    let read = at-expression-at .expression-at .ensures in
     let used = c .before .before .use-expression .ensures in
     let yes = c .enum-told .given .1 in (
       expressions-more (args .s .now) (args .at) (args .nodes) (args .list) (turn .k) read (used .0) (turn .inv .0 .0) (turn .inv .0 .1) yes (used .1 yes),

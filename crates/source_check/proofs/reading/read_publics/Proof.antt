@@ -27,7 +27,8 @@ cast-if1 c = search needs
 
 returns : tie.Need-returns Inv-loop μ-loop
 returns c =
-    let b = c .before .before .before .before .before .args .s .now in
+    let start = c .before .before .before .before .before in
+    let b = start .args .s .now in
     let read = c .before .public-at .ensures in
     refuses 5 _ (publics-fail b _ _ _ (c .before .before .before .loop .k) (c .before .before .loop-test .taken) read (c .if1 .taken))
 
@@ -39,7 +40,8 @@ loop-less c = search needs
 
 loop-again : tie.Need-loop-again Inv-loop μ-loop
 loop-again c =
-    let b = c .before .before .before .before .before .args .s .now in
+    let start = c .before .before .before .before .before in
+    let b = start .args .s .now in
     (publics-more b _ _ _ (c .before .before .before .loop .inv .0) (c .before .public-at .ensures) (c .if1 .left), omega arith)
 
 returns-2 : tie.Need-returns-2 Inv-loop μ-loop

@@ -26,7 +26,9 @@ enum-known-item : tie.Need-enum-known-item Inv-loop μ-loop
 enum-known-item c = search needs
 
 returns : tie.Need-returns Inv-loop μ-loop
-returns c = (refuses 5 _ (way-other (c .before .before .before .before .before .args .s .now) (c .before .before .before .before .before .args .at) (c .before .before .before .before .before .args .chain) (c .before .before .before .before .before .args .k) (c .before .before .before .before .before .args .first) (c .before .before .before .loop .above) (c .before .before .before .loop .link) (c .before .before .before .loop .inv .0 .0) (c .before .before .loop-test .taken) (c .before .node-at .ensures) (c .match .keys2)), λ e. not-accepted e)
+returns c =
+    let start = c .before .before .before .before .before in
+    (refuses 5 _ (way-other (start .args .s .now) (start .args .at) (start .args .chain) (start .args .k) (start .args .first) (c .before .before .before .loop .above) (c .before .before .before .loop .link) (c .before .before .before .loop .inv .0 .0) (c .before .before .loop-test .taken) (c .before .node-at .ensures) (c .match .keys2)), λ e. not-accepted e)
 
 use-node-requires : tie.Need-use-node-requires Inv-loop μ-loop
 use-node-requires c κs = search needs
@@ -41,7 +43,13 @@ enum-told-2 : tie.Need-enum-told-2 Inv-loop μ-loop
 enum-told-2 c = search needs
 
 returns-2 : tie.Need-returns-2 Inv-loop μ-loop
-returns-2 c = (refuses 5 _ (way-item (c .before .before .before .before .before .before .before .before .before .before .before .before .before .args .s .now) (c .before .before .before .before .before .before .before .before .before .before .before .before .before .args .at) (c .before .before .before .before .before .before .before .before .before .before .before .before .before .args .chain) (c .before .before .before .before .before .before .before .before .before .before .before .before .before .args .k) (c .before .before .before .before .before .before .before .before .before .before .before .before .before .args .first) (c .before .before .before .before .before .before .before .before .before .before .before .loop .above) (c .before .before .before .before .before .before .before .before .before .before .before .loop .link) (c .before .before .before .before .before .before .before .before .before .before .before .loop .inv .0 .0) (c .before .before .before .before .before .before .before .before .before .before .loop-test .taken) (c .before .before .before .before .before .before .before .before .before .node-at .ensures) (c .before .before .before .before .before .before .before .item .given .1) (c .before .before .use-item .ensures .0) (c .enum-told2 .given .1)), λ e. not-accepted e)
+returns-2 c =
+    let at-item = c .before .before .before .before .before .before .before in
+    let at-node-at = at-item .before .before in
+    let at-loop-test = at-node-at .before in
+    let at-loop = at-loop-test .before in
+    let start = at-loop .before .before in
+    (refuses 5 _ (way-item (start .args .s .now) (start .args .at) (start .args .chain) (start .args .k) (start .args .first) (at-loop .loop .above) (at-loop .loop .link) (at-loop .loop .inv .0 .0) (at-loop-test .loop-test .taken) (at-node-at .node-at .ensures) (at-item .item .given .1) (c .before .before .use-item .ensures .0) (c .enum-told2 .given .1)), λ e. not-accepted e)
 
 use-result-requires : tie.Need-use-result-requires Inv-loop μ-loop
 use-result-requires c κs = search needs
@@ -53,16 +61,42 @@ enum-told-4 : tie.Need-enum-told-4 Inv-loop μ-loop
 enum-told-4 c = search needs
 
 returns-3 : tie.Need-returns-3 Inv-loop μ-loop
-returns-3 c = (refuses 5 _ (way-result (c .before .before .before .before .before .before .before .before .before .before .before .before .before .before .before .before .before .args .s .now) (c .before .before .before .before .before .before .before .before .before .before .before .before .before .before .before .before .before .args .at) (c .before .before .before .before .before .before .before .before .before .before .before .before .before .before .before .before .before .args .chain) (c .before .before .before .before .before .before .before .before .before .before .before .before .before .before .before .before .before .args .k) (c .before .before .before .before .before .before .before .before .before .before .before .before .before .before .before .before .before .args .first) (c .before .before .before .before .before .before .before .before .before .before .before .before .before .before .before .loop .above) (c .before .before .before .before .before .before .before .before .before .before .before .before .before .before .before .loop .link) (c .before .before .before .before .before .before .before .before .before .before .before .before .before .before .before .loop .inv .0 .0) (c .before .before .before .before .before .before .before .before .before .before .before .before .before .before .loop-test .taken) (c .before .before .before .before .before .before .before .before .before .before .before .before .before .node-at .ensures) (c .before .before .before .before .before .before .before .before .before .before .before .item .given .1) (c .before .before .before .before .before .before .use-item .ensures .0) (c .before .before .before .before .enum-told .given .1) (c .before .before .use-result .ensures .0) (c .enum-told4 .given .1)), λ e. not-accepted e)
+returns-3 c =
+    let at-enum-told = c .before .before .before .before in
+    let at-use-item = at-enum-told .before .before in
+    let at-item = at-use-item .before .before .before .before .before in
+    let at-node-at = at-item .before .before in
+    let at-loop-test = at-node-at .before in
+    let at-loop = at-loop-test .before in
+    let start = at-loop .before .before in
+    (refuses 5 _ (way-result (start .args .s .now) (start .args .at) (start .args .chain) (start .args .k) (start .args .first) (at-loop .loop .above) (at-loop .loop .link) (at-loop .loop .inv .0 .0) (at-loop-test .loop-test .taken) (at-node-at .node-at .ensures) (at-item .item .given .1) (at-use-item .use-item .ensures .0) (at-enum-told .enum-told .given .1) (c .before .before .use-result .ensures .0) (c .enum-told4 .given .1)), λ e. not-accepted e)
 
 returns-4 : tie.Need-returns-4 Inv-loop μ-loop
-returns-4 c = let w = way-end (c .before .before .before .before .before .before .before .before .before .before .before .before .before .before .before .before .before .before .args .s .now) (c .before .before .before .before .before .before .before .before .before .before .before .before .before .before .before .before .before .before .args .at) (c .before .before .before .before .before .before .before .before .before .before .before .before .before .before .before .before .before .before .args .chain) (c .before .before .before .before .before .before .before .before .before .before .before .before .before .before .before .before .before .before .args .k) (c .before .before .before .before .before .before .before .before .before .before .before .before .before .before .before .before .before .before .args .first) (c .before .before .before .before .before .before .before .before .before .before .before .before .before .before .before .before .loop .above) (c .before .before .before .before .before .before .before .before .before .before .before .before .before .before .before .before .loop .link) (c .before .before .before .before .before .before .before .before .before .before .before .before .before .before .before .before .loop .inv .0 .0) (c .before .before .before .before .before .before .before .before .before .before .before .before .before .before .before .loop-test .taken) (c .before .before .before .before .before .before .before .before .before .before .before .before .before .before .node-at .ensures) (c .before .before .before .before .before .before .before .before .before .before .before .before .item .given .1) (c .before .before .before .before .before .before .before .use-item .ensures .0) (c .before .before .before .before .before .enum-told .given .1) (c .before .before .before .use-result .ensures .0) (c .before .enum-told3 .given .1) (c .before .before .before .before .before .before .before .before .before .before .before .before .before .before .before .before .loop .inv .0 .1) (c .before .before .before .before .before .before .before .before .before .use-node .ensures) (c .before .before .before .before .before .before .before .use-item .ensures .1 (c .before .before .before .before .before .enum-told .given .1)) (c .before .before .before .use-result .ensures .1 (c .before .enum-told3 .given .1)) (c .if1 .taken) in (accepts 5 _ (w .0), λ _. w .1)
+returns-4 c =
+    let at-enum-told = c .before .before .before .before .before in
+    let at-use-item = at-enum-told .before .before in
+    let at-use-node = at-use-item .before .before in
+    let at-item = at-use-node .before .before .before in
+    let at-node-at = at-item .before .before in
+    let at-loop-test = at-node-at .before in
+    let at-loop = at-loop-test .before in
+    let start = at-loop .before .before in
+    let w = way-end (start .args .s .now) (start .args .at) (start .args .chain) (start .args .k) (start .args .first) (at-loop .loop .above) (at-loop .loop .link) (at-loop .loop .inv .0 .0) (at-loop-test .loop-test .taken) (at-node-at .node-at .ensures) (at-item .item .given .1) (at-use-item .use-item .ensures .0) (at-enum-told .enum-told .given .1) (c .before .before .before .use-result .ensures .0) (c .before .enum-told3 .given .1) (at-loop .loop .inv .0 .1) (at-use-node .use-node .ensures) (at-use-item .use-item .ensures .1 (at-enum-told .enum-told .given .1)) (c .before .before .before .use-result .ensures .1 (c .before .enum-told3 .given .1)) (c .if1 .taken) in (accepts 5 _ (w .0), λ _. w .1)
 
 loop-less : tie.Need-loop-less Inv-loop μ-loop
 loop-less c = search needs
 
 loop-again : tie.Need-loop-again Inv-loop μ-loop
-loop-again c = (way-on (c .before .before .before .before .before .before .before .before .before .before .before .before .before .before .before .before .before .before .args .s .now) (c .before .before .before .before .before .before .before .before .before .before .before .before .before .before .before .before .before .before .args .at) (c .before .before .before .before .before .before .before .before .before .before .before .before .before .before .before .before .before .before .args .chain) (c .before .before .before .before .before .before .before .before .before .before .before .before .before .before .before .before .before .before .args .k) (c .before .before .before .before .before .before .before .before .before .before .before .before .before .before .before .before .before .before .args .first) (c .before .before .before .before .before .before .before .before .before .before .before .before .before .before .before .before .loop .above) (c .before .before .before .before .before .before .before .before .before .before .before .before .before .before .before .before .loop .link) (c .before .before .before .before .before .before .before .before .before .before .before .before .before .before .before .before .loop .inv .0 .0) (c .before .before .before .before .before .before .before .before .before .before .before .before .before .before .before .loop-test .taken) (c .before .before .before .before .before .before .before .before .before .before .before .before .before .before .node-at .ensures) (c .before .before .before .before .before .before .before .before .before .before .before .before .item .given .1) (c .before .before .before .before .before .before .before .use-item .ensures .0) (c .before .before .before .before .before .enum-told .given .1) (c .before .before .before .use-result .ensures .0) (c .before .enum-told3 .given .1) (c .before .before .before .before .before .before .before .before .before .before .before .before .before .before .before .before .loop .inv .0 .1) (c .before .before .before .before .before .before .before .before .before .use-node .ensures) (c .before .before .before .before .before .before .before .use-item .ensures .1 (c .before .before .before .before .before .enum-told .given .1)) (c .before .before .before .use-result .ensures .1 (c .before .enum-told3 .given .1)) (c .if1 .left), omega arith)
+loop-again c =
+    let at-enum-told = c .before .before .before .before .before in
+    let at-use-item = at-enum-told .before .before in
+    let at-use-node = at-use-item .before .before in
+    let at-item = at-use-node .before .before .before in
+    let at-node-at = at-item .before .before in
+    let at-loop-test = at-node-at .before in
+    let at-loop = at-loop-test .before in
+    let start = at-loop .before .before in
+    (way-on (start .args .s .now) (start .args .at) (start .args .chain) (start .args .k) (start .args .first) (at-loop .loop .above) (at-loop .loop .link) (at-loop .loop .inv .0 .0) (at-loop-test .loop-test .taken) (at-node-at .node-at .ensures) (at-item .item .given .1) (at-use-item .use-item .ensures .0) (at-enum-told .enum-told .given .1) (c .before .before .before .use-result .ensures .0) (c .before .enum-told3 .given .1) (at-loop .loop .inv .0 .1) (at-use-node .use-node .ensures) (at-use-item .use-item .ensures .1 (at-enum-told .enum-told .given .1)) (c .before .before .before .use-result .ensures .1 (c .before .enum-told3 .given .1)) (c .if1 .left), omega arith)
 
 returns-5 : tie.Need-returns-5 Inv-loop μ-loop
 returns-5 c = (refuses 5 _ (way-late (c .before .before .before .args .s .now) (c .before .before .before .args .at) (c .before .before .before .args .chain) (c .before .before .before .args .k) (c .before .before .before .args .first) (c .before .loop .above) (c .before .loop .link) (c .before .loop .inv .0 .0) (c .loop-test .left)), λ e. not-accepted e)

@@ -15,13 +15,19 @@ enum-told : tie.Need-enum-told
 enum-told c = search needs
 
 returns-2 : tie.Need-returns-2
-returns-2 c = (refuses 5 _ (expression-not (c .before .before .before .before .args .s .now) _ _ _ _ (c .before .node-at .ensures) (c .match .keys2)), λ e. not-accepted e)
+returns-2 c =
+    let start = c .before .before .before .before in
+    (refuses 5 _ (expression-not (start .args .s .now) _ _ _ _ (c .before .node-at .ensures) (c .match .keys2)), λ e. not-accepted e)
 
 use-node-requires : tie.Need-use-node-requires
 use-node-requires c κs = search needs
 
 returns-3 : tie.Need-returns-3
-returns-3 c = (accepts 5 _ (expression-is (c .before .before .before .before .before .before .before .args .s .now) _ _ _ (c .before .before .before .before .before .if1 .left) (c .before .before .before .before .node-at .ensures) (c .before .before .enum-told .given .1)), λ _. adds-use _ (c .use-node .ensures))
+returns-3 c =
+    let at-node-at = c .before .before .before .before in
+    let at-if1 = at-node-at .before in
+    let start = at-if1 .before .before in
+    (accepts 5 _ (expression-is (start .args .s .now) _ _ _ (at-if1 .if1 .left) (at-node-at .node-at .ensures) (c .before .before .enum-told .given .1)), λ _. adds-use _ (c .use-node .ensures))
 
 pub use-expression-spec : {M : Type 1} → statement M
 use-expression-spec =

@@ -23,7 +23,8 @@ same-length c = search needs
 
 returns : tie.Need-returns
 returns c =
-    let digits = c .before .before .before .before .before .decimal .ensures .1 in
+    let at-decimal = c .before .before .before .before .before in
+    let digits = at-decimal .decimal .ensures .1 in
     renamed _ _ _ _ _ _ (digits .1 ∙ decimal-digits _ _ (digits .0)) (c .before .before .put-text .ensures)
 
 pub put-decimal-spec : {M : Type 1} → statement M
