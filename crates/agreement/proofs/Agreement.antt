@@ -56,7 +56,10 @@ module _ (m : Module) (f : FlatModule) (w : PlainFlat m f) where
       let g : Inputs f (Given f) = inputs-given f (w .well-formed) in
       record {
         equations =
-            all-map (λ e h. (every-map known (e .left) (every-both _ _ (e .left) (h .0 .0) (h .1 .0)), every-map known (e .right) (every-both _ _ (e .right) (h .0 .1) (h .1 .1)))) (f .equations)
+            all-map (λ e h. (
+              every-map known (e .left) (every-both _ _ (e .left) (h .0 .0) (h .1 .0)),
+              every-map known (e .right) (every-both _ _ (e .right) (h .0 .1) (h .1 .1)),
+            )) (f .equations)
             (all-both _ _ (f .equations) (g .equations) (w .equations-known));
         definitions =
             all-map (λ d h. every-map known (d .right) (every-both _ _ (d .right) (h .0) (h .1))) (counted f)
@@ -106,7 +109,8 @@ by-id-gives m ρ =
     pointwise-map (λ x i e. ap (named-or ρ) (falling-named _ _ (s .grown .well .falling) x i e)) (inputs m) (inputIds (numbered m)) (s .free)
 
 -- for an evaluated plain module
-module _ (m : Module) (plain : isPlainBody m ≡ true) (capacity : ℕ) (f : FlatModule) (e : evaluated capacity (numbered m) ≡ flat f) (c : ConstraintModule) (is-cut : cutOf f ≡ cut c) (ρ : ℕ → ℤ) (elements : (x : ℕ) → elem P (ρ x) ≡ ρ x) (no-zero : NoDivisorZero m ρ) where
+module _ (m : Module) (plain : isPlainBody m ≡ true) (capacity : ℕ) (f : FlatModule) (e : evaluated capacity (numbered m) ≡ flat f) (c : ConstraintModule)
+    (is-cut : cutOf f ≡ cut c) (ρ : ℕ → ℤ) (elements : (x : ℕ) → elem P (ρ x) ≡ ρ x) (no-zero : NoDivisorZero m ρ) where
   υ : Assignment
   υ = by-id m ρ
 
@@ -119,7 +123,9 @@ module _ (m : Module) (plain : isPlainBody m ≡ true) (capacity : ℕ) (f : Fla
 
   keeps : KeepsMeaning f c (IsInput m) υ (workedOut (f .definitions) υ)
   unfolding counted classifyDefs
-  keeps = cut-keeps-meaning-at f c (shape .well-formed) is-cut (IsInput m) (has-inputs m f shape) υ (workedOut (f .definitions) υ) (says .elements) (says .inputs-kept) (all-those _ _ _ (all-those _ _ (f .definitions) (says .definitions-hold)))
+  keeps =
+      cut-keeps-meaning-at f c (shape .well-formed) is-cut (IsInput m) (has-inputs m f shape) υ (workedOut (f .definitions) υ) (says .elements)
+      (says .inputs-kept) (all-those _ _ _ (all-those _ _ (f .definitions) (says .definitions-hold)))
 
   by-ids : (σ : Assignment) → Solves m c ρ σ → Constraints.Solution (IsInput m) c υ σ
   unfolding υ

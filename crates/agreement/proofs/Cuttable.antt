@@ -5,7 +5,8 @@ use mathlib.Core.List.{List, [], _∷_}
 use Prim.Native.Nat.{ℕ}
 use Rattle.field.specs.declared.InfixOp.{InfixOp}
 use Rattle.field.specs.declared.InfixOp.the-variants.{Divide, DivideZ, Multiply, Add, Subtract, Equal, Exponentiate, IntDivide, Modulo}
-use Rattle.source.specs.Trees.{Pat, unitP, nilP, asP, productP, consP, variableP, constantP, Expr, unit, nil, sequence, product, cons, binary, negate, application, constant, variable, function, intrinsic, letting, matching, Module}
+use Rattle.source.specs.Trees.{Pat, unitP, nilP, asP, productP, consP, variableP, constantP, Expr, unit, nil, sequence, product}
+use Rattle.source.specs.Trees.{cons, binary, negate, application, constant, variable, function, intrinsic, letting, matching, Module}
 use Rattle.source.specs.Record.{moduleOf}
 use Rattle.flat.specs.Trees.{Flat, Definition, Equation, FlatModule}
 use Rattle.flat.specs.Rules.{All}
@@ -61,16 +62,19 @@ unfolding cuttableEquations
 cuttable-equations [] h = refl
 cuttable-equations (e ∷ es) h = and-true _ _ (h .0 .0) (and-true _ _ (h .0 .1) (cuttable-equations es (h .1)))
 
-pub not-22 : (m : Module) → NarrowModule m → (capacity : ℕ) (f : FlatModule) → evaluated capacity (numbered m) ≡ flat f → flattenedOf capacity m ≡ fitting (passes f)
+pub not-22 : (m : Module) → NarrowModule m → (capacity : ℕ) (f : FlatModule) → evaluated capacity (numbered m) ≡ flat f
+    → flattenedOf capacity m ≡ fitting (passes f)
 unfolding flattenedOf passed cutOf unless counted classifyDefs
 not-22 m h capacity f e =
     let w = evaluated-cuttable m h capacity f e in
     ap passed e
     ∙ ap (λ (b : Bool). unless b 22 (fitting (passes f)))
-    (and-true _ _ (cuttable-definitions (counted f) (all-those _ _ _ (all-those _ _ (f .definitions) (w .definitions)))) (cuttable-equations (f .equations) (w .equations)))
+    (and-true _ _ (cuttable-definitions (counted f) (all-those _ _ _ (all-those _ _ (f .definitions) (w .definitions))))
+    (cuttable-equations (f .equations) (w .equations)))
 
 -- of a module that is read from a record, whatever the bytes are
-pub record-not-22 : (b : List ℕ) (capacity : ℕ) (f : FlatModule) → evaluated capacity (numbered (moduleOf b)) ≡ flat f → flattenedOf capacity (moduleOf b) ≡ fitting (passes f)
+pub record-not-22 : (b : List ℕ) (capacity : ℕ) (f : FlatModule) → evaluated capacity (numbered (moduleOf b)) ≡ flat f
+    → flattenedOf capacity (moduleOf b) ≡ fitting (passes f)
 record-not-22 b = not-22 (moduleOf b) (read-narrow b)
 
 -- of a plain module, whatever its constants are: it has no constant pattern

@@ -38,7 +38,13 @@ equalities = record {
 }
 
 is-cut : flattenedOf 65535 source ≡ cut equalities
-unfolding answerOf flattenedOf passed update Passes.member Passes.keepIf Passes.those Passes.most Passes.isNever Passes.isWitness Passes.markUsed Passes.usedIn Passes.override Passes.classifyDef Passes.classified Passes.usage Passes.idsFrom Passes.classifyDefs Passes.follow Passes.walk Passes.toExpr Passes.copyPropagateExpr Passes.substituting Passes.copyPropagateDef Passes.afterDef Passes.copyPropagateDefs Passes.afterDefs Passes.copyPropagateEquations Passes.copyPropagate Passes.sameNumber Passes.dead Passes.alive Passes.eliminateDeadEqualities Passes.isOne Passes.isZero Passes.when Passes.infixOp Passes.orVariable Passes.pushConstraintDef Passes.copied Passes.flattenExprTo3ac Passes.cutsOf Passes.joined Passes.flattenDefTo3ac Passes.flattenDefs Passes.sides Passes.flattenSides Passes.flattenEquations Passes.flattenLists Passes.flattenModuleTo3ac Passes.passes Passes.cuttable Passes.cuttableExpr Passes.cuttableDefs Passes.cuttableEquations Passes.counted Passes.unless Passes.fitting Passes.cutOf
+unfolding answerOf flattenedOf passed update Passes.member Passes.keepIf Passes.those Passes.most Passes.isNever Passes.isWitness Passes.markUsed
+    Passes.usedIn Passes.override Passes.classifyDef Passes.classified Passes.usage Passes.idsFrom Passes.classifyDefs Passes.follow Passes.walk
+    Passes.toExpr Passes.copyPropagateExpr Passes.substituting Passes.copyPropagateDef Passes.afterDef Passes.copyPropagateDefs Passes.afterDefs
+    Passes.copyPropagateEquations Passes.copyPropagate Passes.sameNumber Passes.dead Passes.alive Passes.eliminateDeadEqualities Passes.isOne
+    Passes.isZero Passes.when Passes.infixOp Passes.orVariable Passes.pushConstraintDef Passes.copied Passes.flattenExprTo3ac Passes.cutsOf Passes.joined
+    Passes.flattenDefTo3ac Passes.flattenDefs Passes.sides Passes.flattenSides Passes.flattenEquations Passes.flattenLists Passes.flattenModuleTo3ac
+    Passes.passes Passes.cuttable Passes.cuttableExpr Passes.cuttableDefs Passes.cuttableEquations Passes.counted Passes.unless Passes.fitting Passes.cutOf
 is-cut = refl
 
 -- the one divisor is x

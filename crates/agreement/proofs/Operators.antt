@@ -1,5 +1,5 @@
--- The theorem is not empty: a plain module with each operator, a negative power, `|` by 0, a name used before its definition, a let that hides a name, a public name that is defined, and an
--- unused definition. It is accepted; some inputs fulfil it, and some do not.
+-- The theorem is not empty: a plain module with each operator, a negative power, `|` by 0, a name used before its definition, a let that hides a name, a
+-- public name that is defined, and an unused definition. It is accepted; some inputs fulfil it, and some do not.
 -- pub c; def u = z; def z = a + b; def c = (let a = a - b; a * a); def w = 1 / a; and the equations below
 use mathlib.Core.Path.{_≡_, refl}
 use mathlib.Core.Bool.{Bool, true, false, cond}
@@ -17,7 +17,8 @@ use Rattle.numbering.specs.Numbering.{found, sameText, named, registered}
 use Rattle.pass_trees.specs.Passes
 use Rattle.pass_trees.specs.Passes.{Outcome, cut, refused}
 use Rattle.eval_trees.proofs.Compute.{answerOf}
-use Rattle.plain.specs.Plain.{isArithmetic, isFree, isPlainName, isPlainPattern, isPlainExpr, isEqual, isPlainEquation, arePlainPublics, arePlainDefinitions, arePlainEquations, isPlainBody, isPlain}
+use Rattle.plain.specs.Plain.{isArithmetic, isFree, isPlainName, isPlainPattern, isPlainExpr, isEqual, isPlainEquation}
+use Rattle.plain.specs.Plain.{arePlainPublics, arePlainDefinitions, arePlainEquations, isPlainBody, isPlain}
 use Rattle.plain.specs.Meaning.{write, through, valueOf, sidesOf, sides, start, Holds, NoDivisorZero}
 use Rattle.plain.specs.Meaning
 use Rattle.agreement.specs.Flattened.{passed, flattenedOf}
@@ -59,7 +60,8 @@ operators = record {
 }
 
 pub is-plain : isPlain operators ≡ true
-unfolding isPlain isPlainBody isArithmetic isFree isPlainName isPlainPattern isPlainExpr isEqual isPlainEquation arePlainPublics arePlainDefinitions arePlainEquations found sameText named registered
+unfolding isPlain isPlainBody isArithmetic isFree isPlainName isPlainPattern isPlainExpr isEqual isPlainEquation arePlainPublics arePlainDefinitions
+    arePlainEquations found sameText named registered
 is-plain = refl
 
 -- it is accepted
@@ -68,7 +70,13 @@ isCut (cut c) = true
 isCut (refused n) = false
 
 pub is-accepted : isCut (flattenedOf 65535 operators) ≡ true
-unfolding answerOf flattenedOf passed update Passes.member Passes.keepIf Passes.those Passes.most Passes.isNever Passes.isWitness Passes.markUsed Passes.usedIn Passes.override Passes.classifyDef Passes.classified Passes.usage Passes.idsFrom Passes.classifyDefs Passes.follow Passes.walk Passes.toExpr Passes.copyPropagateExpr Passes.substituting Passes.copyPropagateDef Passes.afterDef Passes.copyPropagateDefs Passes.afterDefs Passes.copyPropagateEquations Passes.copyPropagate Passes.sameNumber Passes.dead Passes.alive Passes.eliminateDeadEqualities Passes.isOne Passes.isZero Passes.when Passes.infixOp Passes.orVariable Passes.pushConstraintDef Passes.copied Passes.flattenExprTo3ac Passes.cutsOf Passes.joined Passes.flattenDefTo3ac Passes.flattenDefs Passes.sides Passes.flattenSides Passes.flattenEquations Passes.flattenLists Passes.flattenModuleTo3ac Passes.passes Passes.cuttable Passes.cuttableExpr Passes.cuttableDefs Passes.cuttableEquations Passes.counted Passes.unless Passes.fitting Passes.cutOf
+unfolding answerOf flattenedOf passed update Passes.member Passes.keepIf Passes.those Passes.most Passes.isNever Passes.isWitness Passes.markUsed
+    Passes.usedIn Passes.override Passes.classifyDef Passes.classified Passes.usage Passes.idsFrom Passes.classifyDefs Passes.follow Passes.walk
+    Passes.toExpr Passes.copyPropagateExpr Passes.substituting Passes.copyPropagateDef Passes.afterDef Passes.copyPropagateDefs Passes.afterDefs
+    Passes.copyPropagateEquations Passes.copyPropagate Passes.sameNumber Passes.dead Passes.alive Passes.eliminateDeadEqualities Passes.isOne
+    Passes.isZero Passes.when Passes.infixOp Passes.orVariable Passes.pushConstraintDef Passes.copied Passes.flattenExprTo3ac Passes.cutsOf Passes.joined
+    Passes.flattenDefTo3ac Passes.flattenDefs Passes.sides Passes.flattenSides Passes.flattenEquations Passes.flattenLists Passes.flattenModuleTo3ac
+    Passes.passes Passes.cuttable Passes.cuttableExpr Passes.cuttableDefs Passes.cuttableEquations Passes.counted Passes.unless Passes.fitting Passes.cutOf
 is-accepted = refl
 
 -- a is 7, b is 2, and z, before its definition, 4; or a is 8
@@ -81,7 +89,8 @@ worked x = sides (Meaning.defined (start (inputs x)) (operators .definitions)) (
 abbrev twice : ℤ → Answer × Answer
 twice x = (Value x, Value x)
 
-sides-at-seven : worked (pos 7) ≡ twice (pos 7) ∷ twice (pos 0) ∷ twice (pos 14) ∷ twice (pos 9) ∷ twice (pos 5) ∷ twice (pos 49) ∷ twice (pos 1) ∷ twice (pos 3) ∷ twice (pos 1) ∷ twice (pos 4) ∷ twice (pos 25) ∷ twice (negsuc 6) ∷ []
+sides-at-seven : worked (pos 7) ≡ twice (pos 7) ∷ twice (pos 0) ∷ twice (pos 14) ∷ twice (pos 9) ∷ twice (pos 5) ∷ twice (pos 49) ∷ twice (pos 1)
+    ∷ twice (pos 3) ∷ twice (pos 1) ∷ twice (pos 4) ∷ twice (pos 25) ∷ twice (negsuc 6) ∷ []
 unfolding answerOf inputs update onValues negated write through valueOf Meaning.defined sidesOf sides
 sides-at-seven = refl
 
@@ -89,7 +98,22 @@ pub fulfilled : Holds operators (inputs (pos 7))
 unfolding answerOf inputs update onValues negated write through valueOf Meaning.defined sidesOf sides
 fulfilled = (
   (pos 7, refl, refl),
-  ((pos 0, refl, refl), ((pos 14, refl, refl), ((pos 9, refl, refl), ((pos 5, refl, refl), ((pos 49, refl, refl), ((pos 1, refl, refl), ((pos 3, refl, refl), ((pos 1, refl, refl), ((pos 4, refl, refl), ((pos 25, refl, refl), ((negsuc 6, refl, refl), tt))))))))))),
+  (
+    (pos 0, refl, refl),
+    (
+      (pos 14, refl, refl),
+      (
+        (pos 9, refl, refl),
+        (
+          (pos 5, refl, refl),
+          (
+            (pos 49, refl, refl),
+            ((pos 1, refl, refl), ((pos 3, refl, refl), ((pos 1, refl, refl), ((pos 4, refl, refl), ((pos 25, refl, refl), ((negsuc 6, refl, refl), tt)))))),
+          ),
+        ),
+      ),
+    ),
+  ),
 )
 
 -- 8 * 2 is not 14

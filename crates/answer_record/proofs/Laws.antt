@@ -70,7 +70,8 @@ module _ (text : List ℕ) (value k : ℕ) (so : numberFrom value (drop k text) 
     unfolding numberFrom
     digit-more g h e =
         let next : k + 1 ≡ suc k = omega arith in
-        let on : numberFrom value (d ∷ drop (suc k) text) ≡ numberFrom (atMost (value * 10 + (d - 48)) 100000000) (drop (suc k) text) = rw (le-ltb d 48 g, le-ltb 57 d h) refl in
+        let on : numberFrom value (d ∷ drop (suc k) text) ≡ numberFrom (atMost (value * 10 + (d - 48)) 100000000) (drop (suc k) text) =
+        rw (le-ltb d 48 g, le-ltb 57 d h) refl in
         rw (e, next) (sym on ∙ here-is ∙ so)
 
 -- ---- an answer

@@ -6,7 +6,8 @@ use native.Mathlib.Omega.{arith}
 use lib.ListN.{length, length-append}
 use Rattle.words.proofs.Laws.{length-bytesOf}
 use Rattle.flat.specs.Trees.{definitionsNodes}
-pub use Rattle.flat.proofs.Lengths.{tree-positive, length-nodes, length-definitions, length-definitions-trees, count-append, definitions-append, definitions-trees-append}
+pub use Rattle.flat.proofs.Lengths.{tree-positive, length-nodes, length-definitions, length-definitions-trees}
+pub use Rattle.flat.proofs.Lengths.{count-append, definitions-append, definitions-trees-append}
 use Rattle.constraint.specs.declared.Term.{Term}
 use Rattle.constraint.specs.declared.Equality.{Equality as Written}
 use Rattle.constraint.specs.Trees.{Equality, ConstraintModule}
@@ -51,7 +52,8 @@ length-bytes m = length-bytesOf (constraintWords m) ∙ ap (λ (n : ℕ). 4 * n)
 pub equalities-append : (xs ys : List Equality) → equalitiesWords (xs ++ ys) ≡ equalitiesWords xs ++ equalitiesWords ys
 unfolding equalitiesWords
 equalities-append [] ys = refl
-equalities-append (q ∷ xs) ys = ap (λ (l : List ℕ). equalityWords q ++ l) (equalities-append xs ys) ∙ sym (append-assoc (equalityWords q) (equalitiesWords xs) (equalitiesWords ys))
+equalities-append (q ∷ xs) ys =
+    ap (λ (l : List ℕ). equalityWords q ++ l) (equalities-append xs ys) ∙ sym (append-assoc (equalityWords q) (equalitiesWords xs) (equalitiesWords ys))
 
 -- one equality more
 pub equalities-more : (qs : List Equality) (q : Equality) → equalitiesWords (qs ++ (q ∷ [])) ≡ equalitiesWords qs ++ equalityWords q

@@ -16,7 +16,8 @@ pub use Rattle.flat.proofs.Standing.{Stands, stands-left, stands-right, at-plac
 pub use Rattle.flat.proofs.WriteBack.{operator-reads, operator-below, root-below, next-below, next-words, ids-read, moved, tree-reads, definitions-back}
 use Rattle.constraint.specs.declared.Term.{Term}
 use Rattle.constraint.specs.Trees.{Side, Equality, ConstraintModule, operation, first, second, written}
-use Rattle.constraint.specs.Record.{numberWord, termWords, operatorWord, operationWord, writtenWords, equalityWords, equalitiesWords, definitionsWords, definitionsTrees, headerWords, constraintWords, constraintBytes}
+use Rattle.constraint.specs.Record.{numberWord, termWords, operatorWord, operationWord, writtenWords, equalityWords, equalitiesWords}
+use Rattle.constraint.specs.Record.{definitionsWords, definitionsTrees, headerWords, constraintWords, constraintBytes}
 use Rattle.constraint.specs.Record.{EQUALITY-WORDS, KEPT-WORDS}
 use Rattle.constraint.specs.Reading.{HEADER, next, publics, provers, equalities, kept, nodes, proversAt, equalitiesAt, keptAt, nodesAt, size}
 use Rattle.constraint.specs.Reading.{termAt, sideFor, equalityFor, equalityAt, constraintOf}
@@ -73,7 +74,8 @@ module _ (b : List ℕ) where
       let e0 : termAt b i ≡ q .left = term-reads b (q .left) i s (stands-left b l (n ∷ (x ++ y)) i h) in
       let e1 : wordAt b (i + 2) ≡ n = at-place b (n ∷ (x ++ y)) (i + 2) (i + 2) 0 (omega arith) (omega arith) r in
       let e2 : termAt b (i + 3) ≡ first (q .right) = term-reads b (first (q .right)) (i + 3) (signed-first (q .right) t) (stands-left b x y (i + 3) u) in
-      let e3 : termAt b (i + 5) ≡ second (q .right) = term-reads b (second (q .right)) (i + 5) (signed-second (q .right) t) (stands-right b x y (i + 3) (i + 5) (omega (arith, length-term (first (q .right)))) u) in
+      let e3 : termAt b (i + 5) ≡ second (q .right) = term-reads b (second (q .right)) (i + 5) (signed-second (q .right) t)
+      (stands-right b x y (i + 3) (i + 5) (omega (arith, length-term (first (q .right)))) u) in
       let e : sideFor (wordAt b (i + 2)) (termAt b (i + 3)) (termAt b (i + 5)) ≡ q .right = rw (e1, e2, e3) (side-reads (q .right)) in
       λ j. record { left = e0 j; right = e j }
 

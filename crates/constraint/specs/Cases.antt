@@ -7,7 +7,8 @@ use Rattle.field.specs.declared.InfixOp.{InfixOp}
 use Rattle.flat.specs.Trees.{Flat, treeNodes, definitionsNodes}
 use Rattle.constraint.specs.declared.Term.{Term}
 use Rattle.constraint.specs.Trees.{Side, ConstraintModule, operation, first, second, written}
-use Rattle.constraint.specs.Record.{numberWord, termWords, operatorWord, operationWord, writtenWords, equalityWords, equalitiesWords, nextFrom, rootFrom, nodeWords, nodesFrom, definitionWords, definitionsWords, definitionsTrees, headerWords, constraintWords}
+use Rattle.constraint.specs.Record.{numberWord, termWords, operatorWord, operationWord, writtenWords, equalityWords, equalitiesWords, nextFrom}
+use Rattle.constraint.specs.Record.{rootFrom, nodeWords, nodesFrom, definitionWords, definitionsWords, definitionsTrees, headerWords, constraintWords}
 
 abbrev pub example : ConstraintModule
 example =
@@ -37,5 +38,6 @@ example-words =
     ++ (5 ∷ 2 ∷ 0 ∷ 0 ∷ [])))))))))
 
 pub example-written : constraintWords example ≡ example-words
-unfolding operation first second written numberWord termWords operatorWord operationWord writtenWords equalityWords equalitiesWords nextFrom rootFrom nodeWords nodesFrom definitionWords definitionsWords definitionsTrees treeNodes definitionsNodes headerWords constraintWords
+unfolding operation first second written numberWord termWords operatorWord operationWord writtenWords equalityWords equalitiesWords nextFrom rootFrom nodeWords
+    nodesFrom definitionWords definitionsWords definitionsTrees treeNodes definitionsNodes headerWords constraintWords
 example-written = refl

@@ -26,7 +26,8 @@ pub term-constant : (t : Term) (c z : ℤ) → t ≡ Term.Constant c → z ≡ e
 unfolding termText
 term-constant t c z e i = rw (e, i)
 
-pub side-infix : (o : Operation) (op : InfixOp) (a b : Term) (s : ℕ) → o ≡ Operation.Infix op → s ≡ signOf op → termText a ++ (between s ++ termText b) ≡ sideText o a b
+pub side-infix : (o : Operation) (op : InfixOp) (a b : Term) (s : ℕ) → o ≡ Operation.Infix op → s ≡ signOf op
+    → termText a ++ (between s ++ termText b) ≡ sideText o a b
 unfolding sideText
 side-infix o op a b s e i = rw (e, i)
 

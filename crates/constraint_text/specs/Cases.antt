@@ -7,7 +7,8 @@ use Rattle.field.specs.Element.{res, centre, elem}
 use Rattle.field.specs.declared.InfixOp.{InfixOp}
 use Rattle.constraint.specs.declared.Term.{Term}
 use Rattle.constraint.specs.Trees.{Side, Equality, ConstraintModule, operation, first, second, written}
-use Rattle.constraint_text.specs.Text.{decimalFrom, decimal, numberText, termText, signOf, between, sideText, equalityText, lineText, nextText, equalitiesText, listing}
+use Rattle.constraint_text.specs.Text.{decimalFrom, decimal, numberText, termText, signOf, between}
+use Rattle.constraint_text.specs.Text.{sideText, equalityText, lineText, nextText, equalitiesText, listing}
 
 -- next 12; v10 = v0 + 1; v2 = v10 * v0; v2 = v1
 abbrev pub caseF : ConstraintModule
@@ -32,7 +33,8 @@ caseF-text =
     ++ (118 ∷ 50 ∷ 32 ∷ 61 ∷ 32 ∷ 118 ∷ 49 ∷ 10 ∷ [])))
 
 pub caseF-printed : listing caseF ≡ caseF-text
-unfolding decimalFrom decimal numberText termText signOf between sideText equalityText lineText nextText equalitiesText listing operation first second written res centre elem
+unfolding decimalFrom decimal numberText termText signOf between sideText equalityText lineText nextText equalitiesText listing operation first
+    second written res centre elem
 caseF-printed = refl
 
 -- next 0; -5 = --5; v65535 = -v0; 0 = 1073741823 % -1073741823
@@ -45,7 +47,10 @@ others =
       equalities =
           record { left = Term.Constant (negsuc 4); right = Side.negate (Term.Constant (negsuc 4)) }
           ∷ record { left = Term.Variable 65535; right = Side.negate (Term.Variable 0) }
-          ∷ record { left = Term.Constant (pos 2147483647); right = Side.infixed InfixOp.Modulo (Term.Constant (pos 1073741823)) (Term.Constant (pos 1073741824)) }
+          ∷ record {
+            left = Term.Constant (pos 2147483647);
+            right = Side.infixed InfixOp.Modulo (Term.Constant (pos 1073741823)) (Term.Constant (pos 1073741824));
+          }
           ∷ [];
       kept = [];
     }
@@ -58,5 +63,6 @@ others-text =
     ++ (48 ∷ 32 ∷ 61 ∷ 32 ∷ 49 ∷ 48 ∷ 55 ∷ 51 ∷ 55 ∷ 52 ∷ 49 ∷ 56 ∷ 50 ∷ 51 ∷ 32 ∷ 37 ∷ 32 ∷ 45 ∷ 49 ∷ 48 ∷ 55 ∷ 51 ∷ 55 ∷ 52 ∷ 49 ∷ 56 ∷ 50 ∷ 51 ∷ 10 ∷ [])))
 
 pub others-printed : listing others ≡ others-text
-unfolding decimalFrom decimal numberText termText signOf between sideText equalityText lineText nextText equalitiesText listing operation first second written res centre elem
+unfolding decimalFrom decimal numberText termText signOf between sideText equalityText lineText nextText equalitiesText listing operation first
+    second written res centre elem
 others-printed = refl

@@ -9,7 +9,8 @@ ghost use Prim.Native.Nat.{_+_, _≤_};
 ghost use lib.ListN.{length};
 ghost use lib.Signed.{mag};
 ghost use Rattle.io.specs.Counts.{Counts};
-ghost use Rattle.constraint_text.specs.Text.{setBytes, decimal, numberText, termText, signOf, between, sideText, equalityText, lineText, nextText, refusedText};
+ghost use Rattle.constraint_text.specs.Text.{setBytes, decimal, numberText, termText, signOf, between};
+ghost use Rattle.constraint_text.specs.Text.{sideText, equalityText, lineText, nextText, refusedText};
 
 // Room for every line, and for the digits of every 64-bit number.
 pub const LINE: usize = 80;
@@ -109,7 +110,8 @@ fn put_sign(out: &mut [u8], at: usize, sign: u8) -> usize
 
 fn put_side(out: &mut [u8], at: usize, operation: Operation, first: Term, second: Term) -> usize
     requires { ⌜ at + 45 ≤ length (now out) ⌝ }
-    ensures { λ r. ⌜ (r ≡ at + length (sideText operation first second)) × (now (out .exit) ≡ setBytes (now (out .entry)) at (sideText operation first second)) ⌝ }
+    ensures { λ r.
+        ⌜ (r ≡ at + length (sideText operation first second)) × (now (out .exit) ≡ setBytes (now (out .entry)) at (sideText operation first second)) ⌝ }
     ensures { λ r. ⌜ r ≤ at + 45 ⌝ }
 {
     match operation {

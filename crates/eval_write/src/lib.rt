@@ -60,7 +60,8 @@ fn write_publics(out: &mut FlatBytes, publics: &[u32; PUBLICS], count: usize)
 // Id i, where it has a mark: the word behind it.
 fn write_prover(out: &mut FlatBytes, marks: &Marks, to: usize, i: u32) -> usize
     requires { ⌜ to < WORDS ⌝ }
-    ensures { λ r. ⌜ (now (out .exit) ≡ setWords (now (out .entry)) to (ifMarked (now (marks .entry)) i)) × ((r ≡ to + length (ifMarked (now (marks .entry)) i)) × (r ≤ to + 1)) ⌝ }
+    ensures { λ r. ⌜ (now (out .exit) ≡ setWords (now (out .entry)) to (ifMarked (now (marks .entry)) i))
+        × ((r ≡ to + length (ifMarked (now (marks .entry)) i)) × (r ≤ to + 1)) ⌝ }
 {
     if is_prover(marks, i) {
         put(out, to, i);
@@ -93,7 +94,8 @@ fn write_definitions(
     count: u32,
 ) -> u32
     requires { ⌜ (at ≤ LAST-NODES-AT) × ((list ≤ LAST-DEFINITIONS-AT) × (count ≤ LISTED)) ⌝ }
-    ensures { λ r. ⌜ (written r (now (out .exit)) ≡ writeDefinitions (now (fixed .entry)) (now (store .entry)) at (now (rows .entry)) list count (written 0 (now (out .entry)))) × (r ≤ NODES) ⌝ }
+    ensures { λ r. ⌜ (written r (now (out .exit))
+        ≡ writeDefinitions (now (fixed .entry)) (now (store .entry)) at (now (rows .entry)) list count (written 0 (now (out .entry)))) × (r ≤ NODES) ⌝ }
 {
     let mut k = 0u32;
     let mut d = 0u32;
@@ -118,7 +120,8 @@ fn write_equations(
     from: u32,
 ) -> u32
     requires { ⌜ ((at ≤ LAST-NODES-AT) × (from ≤ NODES)) × ((list ≤ LAST-EQUATIONS-AT) × (count ≤ LISTED)) ⌝ }
-    ensures { λ r. ⌜ (written r (now (out .exit)) ≡ writeEquations (now (fixed .entry)) (now (store .entry)) at (now (rows .entry)) list count (written from (now (out .entry)))) × (r ≤ NODES) ⌝ }
+    ensures { λ r. ⌜ (written r (now (out .exit))
+        ≡ writeEquations (now (fixed .entry)) (now (store .entry)) at (now (rows .entry)) list count (written from (now (out .entry)))) × (r ≤ NODES) ⌝ }
 {
     let mut k = from;
     let mut e = 0u32;
@@ -144,7 +147,10 @@ pub fn write_flat(
     out: &mut FlatBytes,
 ) -> usize
     requires { ⌜ ((count ≤ PUBLICS) × (s .provers ≤ LISTED)) × ((s .definitions ≤ LISTED) × (s .equations ≤ LISTED)) ⌝ }
-    ensures { λ r. ⌜ (now (out .exit) ≡ writeFlat (now (fixed .entry)) (now (store .entry)) (now (rows .entry)) (now (marks .entry)) s (now (publics .entry)) count (now (out .entry)) .bytes) × (r ≡ 4 * (nodesFrom s count + NODE-WORDS * writeFlat (now (fixed .entry)) (now (store .entry)) (now (rows .entry)) (now (marks .entry)) s (now (publics .entry)) count (now (out .entry)) .nodes)) ⌝ }
+    ensures { λ r. ⌜ (now (out .exit) ≡ writeFlat (now (fixed .entry)) (now (store .entry))
+        (now (rows .entry)) (now (marks .entry)) s (now (publics .entry)) count (now (out .entry)) .bytes)
+        × (r ≡ 4 * (nodesFrom s count + NODE-WORDS * writeFlat (now (fixed .entry)) (now (store .entry)) (now (rows .entry)) (now (marks .entry)) s
+        (now (publics .entry)) count (now (out .entry)) .nodes)) ⌝ }
 {
     put_header(
         out,

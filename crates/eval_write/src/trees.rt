@@ -41,7 +41,8 @@ fn write_below(
     k: u32,
 ) -> u32
     requires { ⌜ (at ≤ LAST-NODES-AT) × (k ≤ NODES) ⌝ }
-    ensures { λ r. ⌜ (written r (now (out .exit)) ≡ upto (λ w. w) (writeBody (now (fixed .entry)) (now (store .entry)) at) n c (written k (now (out .entry)))) × (r ≤ NODES) ⌝ }
+    ensures { λ r. ⌜ (written r (now (out .exit)) ≡ upto (λ w. w) (writeBody (now (fixed .entry)) (now (store .entry)) at) n c (written k (now (out .entry))))
+        × (r ≤ NODES) ⌝ }
 {
     if n <= c {
         return k;

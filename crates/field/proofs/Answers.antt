@@ -13,7 +13,8 @@ use Rattle.field.specs.declared.InfixOp.{InfixOp}
 use Rattle.field.specs.declared.InfixOp.the-variants.{Divide, DivideZ, Multiply, Add, Subtract, Equal, Exponentiate, IntDivide, Modulo}
 use Rattle.field.specs.Prime.{Prime}
 use Rattle.field.specs.Element.{res, centre, elem, inv}
-use Rattle.field.specs.Operations.{pick, sum, difference, product, opposite, inverse, quotient, power, wholeQuotient, divideOf, divideZOf, intDivideOf, moduloOf, raised, exponentiateOf, infixOf}
+use Rattle.field.specs.Operations.{pick, sum, difference, product, opposite, inverse, quotient, power, wholeQuotient}
+use Rattle.field.specs.Operations.{divideOf, divideZOf, intDivideOf, moduloOf, raised, exponentiateOf, infixOf}
 use Rattle.field.proofs.Modular.{inv-lt}
 use Rattle.field.proofs.Elements.{res-lt, res-centre, res-elem, elem-elem, elem-zero, res-zero}
 use Rattle.field.proofs.ByResidues.{sum-res, difference-res, product-res, quotient-res}
@@ -60,7 +61,8 @@ module _ (p : ℕ) (prime : Prime p) where
   none-given : (z : ℤ) → Nothing ≡ Value z → elem p z ≡ z
   none-given z e = absurd (nothing-value z e)
 
-  picked : (t : Bool) (x y : Answer) (z : ℤ) → ((w : ℤ) → x ≡ Value w → elem p w ≡ w) → ((w : ℤ) → y ≡ Value w → elem p w ≡ w) → pick t x y ≡ Value z → elem p z ≡ z
+  picked : (t : Bool) (x y : Answer) (z : ℤ) → ((w : ℤ) → x ≡ Value w → elem p w ≡ w) → ((w : ℤ) → y ≡ Value w → elem p w ≡ w)
+      → pick t x y ≡ Value z → elem p z ≡ z
   picked true x y z f g e = f z e
   picked false x y z f g e = g z e
 
@@ -113,7 +115,8 @@ module _ (p : ℕ) (prime : Prime p) where
       ∙ ap₂ (λ (x y : ℕ). centre p ((x * y) % p)) (res-elem p above a) (res-elem p above b)
       ∙ sym (product-res p above a b))
   infix-elements Add a b =
-      ap Value (sum-res p above (elem p a) (elem p b) ∙ ap₂ (λ (x y : ℕ). centre p ((x + y) % p)) (res-elem p above a) (res-elem p above b) ∙ sym (sum-res p above a b))
+      ap Value
+      (sum-res p above (elem p a) (elem p b) ∙ ap₂ (λ (x y : ℕ). centre p ((x + y) % p)) (res-elem p above a) (res-elem p above b) ∙ sym (sum-res p above a b))
   infix-elements Subtract a b =
       ap Value
       (difference-res p above (elem p a) (elem p b)
@@ -123,6 +126,8 @@ module _ (p : ℕ) (prime : Prime p) where
   infix-elements Exponentiate a b = raised-of a (elem p (elem p b)) ∙ ap (raised p a) (elem-elem p above b)
   infix-elements IntDivide a b = ap₂ (λ (x : ℕ) (y : ℤ). pick (eqb x 0) Nothing (Value (elem p y))) (res-elem p above b) (whole-of a b)
   infix-elements Modulo a b =
-      ap (λ (x : ℕ). pick (eqb x 0) Nothing (Value (difference p (elem p (elem p a)) (product p (elem p (elem p b)) (wholeQuotient (elem p (elem p a)) (elem p (elem p b)))))))
+      ap (λ (x : ℕ). pick (eqb x 0) Nothing
+      (Value (difference p (elem p (elem p a)) (product p (elem p (elem p b)) (wholeQuotient (elem p (elem p a)) (elem p (elem p b)))))))
       (res-elem p above b)
-      ∙ ap₂ (λ (x y : ℤ). pick (eqb (res p b) 0) Nothing (Value (difference p x (product p y (wholeQuotient x y))))) (elem-elem p above a) (elem-elem p above b)
+      ∙ ap₂ (λ (x y : ℤ). pick (eqb (res p b) 0) Nothing (Value (difference p x (product p y (wholeQuotient x y)))))
+      (elem-elem p above a) (elem-elem p above b)

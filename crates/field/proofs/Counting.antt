@@ -38,7 +38,8 @@ power-count-one = count-stop 1 1 (le-refl 1)
 -- the rule above 1
 pub power-count : (n : ℕ) → 1 < n → powerCount n ≡ powerCount (n / 2) + 1 + n % 2
 unfolding powerCount
-power-count n h = enough n (suc n) n (le-refl n) (omega arith) ∙ count-step n n h ∙ ap (λ (m : ℕ). m + 1 + n % 2) (enough n (n / 2) (n / 2) (omega arith) (le-refl (n / 2)))
+power-count n h =
+    enough n (suc n) n (le-refl n) (omega arith) ∙ count-step n n h ∙ ap (λ (m : ℕ). m + 1 + n % 2) (enough n (n / 2) (n / 2) (omega arith) (le-refl (n / 2)))
 
 count-le : (f n : ℕ) → countFrom f n ≤ n
 unfolding countFrom

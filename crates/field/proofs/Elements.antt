@@ -60,8 +60,13 @@ module _ (p : ℕ) (h : 0 < p) where
   res-sub a b = go (decLt a b)
     where
       go : Dec (a < b) → res p (subℕ a b) ≡ (a + (p - 1) * b) % p
-      go (yes s) = rw (lt-ltb a b s) (res-negsuc p (b - suc a) h ∙ mod-eq p ((p - 1) * suc (b - suc a)) (a + (p - 1) * b) a 0 (let e : p - 1 + 1 ≡ p = omega arith in let f : suc (b - suc a) + a ≡ b = omega arith in omega (arith, ap (λ (k : ℕ). k * a) e, ap (λ (k : ℕ). (p - 1) * k) f)))
-      go (no s) = rw (le-ltb a b (omega arith)) (mod-eq p (a - b) (a + (p - 1) * b) b 0 (let e : p - 1 + 1 ≡ p = omega arith in omega (arith, ap (λ (k : ℕ). k * b) e)))
+      go (yes s) =
+          rw (lt-ltb a b s) (res-negsuc p (b - suc a) h
+          ∙ mod-eq p ((p - 1) * suc (b - suc a)) (a + (p - 1) * b) a 0 (let e : p - 1 + 1 ≡ p = omega arith in
+          let f : suc (b - suc a) + a ≡ b = omega arith in omega (arith, ap (λ (k : ℕ). k * a) e, ap (λ (k : ℕ). (p - 1) * k) f)))
+      go (no s) =
+          rw (le-ltb a b (omega arith))
+          (mod-eq p (a - b) (a + (p - 1) * b) b 0 (let e : p - 1 + 1 ≡ p = omega arith in omega (arith, ap (λ (k : ℕ). k * b) e)))
 
   -- the residue of a sum, a product, an opposite, of those of the parts
   pub res-add : (a b : ℤ) → res p (a +ℤ b) ≡ (res p a + res p b) % p
@@ -70,7 +75,11 @@ module _ (p : ℕ) (h : 0 < p) where
   res-add (pos a) (negsuc b) =
       res-sub a (suc b) ∙ sym (mod-add-mod a p (p - suc (b % p)) ∙ ap (λ (k : ℕ). (a + k) % p) (res-negsuc p b h) ∙ add-mod-mod a ((p - 1) * suc b) p)
   res-add (negsuc a) (pos b) =
-      res-sub b (suc a) ∙ sym (add-mod-mod (p - suc (a % p)) b p ∙ ap (λ (k : ℕ). (k + b) % p) (res-negsuc p a h) ∙ mod-add-mod ((p - 1) * suc a) p b ∙ ap (λ (k : ℕ). k % p) (add-comm ((p - 1) * suc a) b))
+      res-sub b (suc a)
+      ∙ sym (add-mod-mod (p - suc (a % p)) b p
+      ∙ ap (λ (k : ℕ). (k + b) % p) (res-negsuc p a h)
+      ∙ mod-add-mod ((p - 1) * suc a) p b
+      ∙ ap (λ (k : ℕ). k % p) (add-comm ((p - 1) * suc a) b))
   res-add (negsuc a) (negsuc b) =
       res-negsuc p (suc (a + b)) h
       ∙ ap (λ (k : ℕ). k % p) (omega arith)

@@ -2,14 +2,16 @@
 -- Assumes nothing.
 use mathlib.Core.Path.{_≡_, sym, ap, ap₂, _∙_}
 use Prim.Native.Nat.{ℕ, zero, suc, _+_, _*_, _-_, _%_, _^_, _<_}
-use native.Mathlib.Nat.{pow-zero, pow-succ' as nat-pow-succ', mod-add-mod, add-mod-mod, mod-eq-of-lt, mod-self, pos-of-ne-zero, mod-lt, mul-assoc, mul-add, add-assoc, mul-one}
+use native.Mathlib.Nat.{pow-zero, pow-succ' as nat-pow-succ', mod-add-mod, add-mod-mod, mod-eq-of-lt}
+use native.Mathlib.Nat.{mod-self, pos-of-ne-zero, mod-lt, mul-assoc, mul-add, add-assoc, mul-one}
 use native.Mathlib.Omega.{arith}
 use lib.IntN.{pow, one, pow-succ', ℤ, pos, negℤ, _+ℤ_, _*ℤ_, +ℤ-comm, *ℤ-comm, +ℤ-idr}
 use Rattle.field.specs.Prime.{Prime}
 use Rattle.field.specs.Element.{res, centre, elem}
 use Rattle.field.specs.Operations.{sum, product, opposite, inverse, quotient, power}
 use Rattle.field.proofs.Modular.{inv-right, mod-mul-mod, mul-mod-mod, quotient-unique, quotient-right, product-pos, inv-unique}
-use Rattle.field.proofs.Elements.{res-lt, res-elem, res-add, res-mul, res-opp, res-centre, elem-elem, elem-of-res, elem-zero, zero-elem, add-elem, mul-elem}
+use Rattle.field.proofs.Elements.{res-lt, res-elem, res-add, res-mul, res-opp, res-centre}
+use Rattle.field.proofs.Elements.{elem-elem, elem-of-res, elem-zero, zero-elem, add-elem, mul-elem}
 use Rattle.field.proofs.ByResidues.{quotient-res, res-inverse}
 
 module _ (p : ℕ) (prime : Prime p) where
@@ -97,7 +99,8 @@ module _ (p : ℕ) (prime : Prime p) where
       ∙ mod-add-mod (res p a * res p b) p _
       ∙ add-mod-mod _ (res p a * res p c) p))
 
-  -- quotients by a number that p does not divide: the quotient times the divisor is the dividend, no other element has this, and a product over its factor is the other
+  -- quotients by a number that p does not divide: the quotient times the divisor is the dividend, no other element has this, and a product over its factor is
+  -- the other
   module _ (b : ℤ) (b-counts : res p b ≡ 0 → ⊥) where
     pub quotient-times : (a : ℤ) → product p (quotient p a b) b ≡ elem p a
     unfolding sum product opposite

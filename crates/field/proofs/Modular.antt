@@ -2,7 +2,8 @@
 use mathlib.Core.Path.{_≡_, sym, ap, subst, _∙_}
 use mathlib.Core.Bool.{Bool, true, false}
 use Prim.Native.Nat.{ℕ, zero, suc, _+_, _*_, _/_, _%_, _-_, _^_, _<_, _≤_}
-use native.Mathlib.Nat.{zero-mul, zero-mod, pow-zero, pow-suc, pow-succ', mul-one, one-mul, mul-comm, mul-assoc, mod-lt, mod-eq-of-lt, mod-add-div, div-add-mod, add-mul-mod-self-left, div-le-self, pos-of-ne-zero, le-trans, le-refl, lt-trans, not-suc-le-zero}
+use native.Mathlib.Nat.{zero-mul, zero-mod, pow-zero, pow-suc, pow-succ', mul-one, one-mul, mul-comm, mul-assoc, mod-lt, mod-eq-of-lt, mod-add-div}
+use native.Mathlib.Nat.{div-add-mod, add-mul-mod-self-left, div-le-self, pos-of-ne-zero, le-trans, le-refl, lt-trans, not-suc-le-zero}
 use native.Mathlib.Omega.{arith}
 use native.Mathlib.Decide.{decLt}
 use borrow.Author.Tests.{le-leb, lt-leb}
@@ -137,7 +138,8 @@ module _ (p : ℕ) (prime : Prime p) where
   product-pos x b k h l =
       pos-of-ne-zero
       (λ z.
-      let e : x % p ≡ (0 * inv p b) % p = quotient-unique 0 b (x % p) h l (mod-lt x (omega (arith, prime .above))) (mod-mul-mod p x b ∙ z ∙ sym (zero-mod p)) in
+      let e : x % p ≡ (0 * inv p b) % p =
+      quotient-unique 0 b (x % p) h l (mod-lt x (omega (arith, prime .above))) (mod-mul-mod p x b ∙ z ∙ sym (zero-mod p)) in
       omega (arith, e ∙ ap (λ (n : ℕ). n % p) (zero-mul (inv p b)) ∙ zero-mod p))
 
   pub power-pos : (b n : ℕ) → 0 < b → b < p → 0 < (b ^ n) % p

@@ -72,13 +72,15 @@ rest-le x (pos zero) h = absurd (h refl)
 rest-le x (pos (suc n)) h =
     subst (λ (z : ℤ). natAbs z ≤ suc n) (sym (rest-above x (suc n) (omega arith))) (omega (arith, res-lt (suc n) (omega arith) x))
 rest-le x (negsuc n) h =
-    subst (λ (z : ℤ). natAbs z ≤ suc n) (sym (rest-below x n)) (subst (λ (k : ℕ). k ≤ suc n) (sym (abs-neg (pos (res (suc n) (negℤ x))))) (omega (arith, res-lt (suc n) (omega arith) (negℤ x))))
+    subst (λ (z : ℤ). natAbs z ≤ suc n) (sym (rest-below x n))
+    (subst (λ (k : ℕ). k ≤ suc n) (sym (abs-neg (pos (res (suc n) (negℤ x))))) (omega (arith, res-lt (suc n) (omega arith) (negℤ x))))
 
 module _ (p : ℕ) (h : 0 < p) (odd : p % 2 ≡ 1) where
   pub whole-element : (a b : ℤ) → elem p (wholeQuotient (elem p a) (elem p b)) ≡ wholeQuotient (elem p a) (elem p b)
   whole-element a b = elem-small p h odd _ (le-trans (whole-le (elem p a) (elem p b)) (elem-range p h a))
 
-  pub rest-element : (a b : ℤ) → (elem p b ≡ pos 0 → ⊥) → difference p (elem p a) (product p (elem p b) (wholeQuotient (elem p a) (elem p b))) ≡ elem p a -ℤ elem p b *ℤ wholeQuotient (elem p a) (elem p b)
+  pub rest-element : (a b : ℤ) → (elem p b ≡ pos 0 → ⊥)
+      → difference p (elem p a) (product p (elem p b) (wholeQuotient (elem p a) (elem p b))) ≡ elem p a -ℤ elem p b *ℤ wholeQuotient (elem p a) (elem p b)
   unfolding difference product
   rest-element a b k =
       sub-elem p h (elem p a) (elem p b *ℤ wholeQuotient (elem p a) (elem p b))

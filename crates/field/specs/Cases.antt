@@ -7,7 +7,8 @@ use Rattle.field.specs.declared.Answer.the-variants.{Value, Nothing}
 use Rattle.field.specs.declared.InfixOp.the-variants.{Divide, DivideZ, Exponentiate, IntDivide, Modulo}
 use Rattle.field.specs.Prime.{P}
 use Rattle.field.specs.Element.{res, centre, elem, inv, invFrom}
-use Rattle.field.specs.Operations.{difference, product, inverse, quotient, power, overBy, wholeQuotient, divideOf, divideZOf, intDivideOf, moduloOf, raised, exponentiateOf, infixOf}
+use Rattle.field.specs.Operations.{difference, product, inverse, quotient, power, overBy, wholeQuotient}
+use Rattle.field.specs.Operations.{divideOf, divideZOf, intDivideOf, moduloOf, raised, exponentiateOf, infixOf}
 
 -- a case: what is worked out, and its answer
 pub record Case : Type 0 where
@@ -46,5 +47,6 @@ answers (c ∷ cs) = c .answer ∷ answers cs
 
 -- every case holds
 pub cases-hold : worked-out cases ≡ answers cases
-unfolding res centre elem inv invFrom difference product inverse quotient power overBy wholeQuotient divideOf divideZOf intDivideOf moduloOf raised exponentiateOf infixOf
+unfolding res centre elem inv invFrom difference product inverse quotient power overBy wholeQuotient divideOf divideZOf intDivideOf moduloOf
+    raised exponentiateOf infixOf
 cases-hold = refl

@@ -16,7 +16,8 @@ ghost use mathlib.Core.Path.{_≡_};
 ghost use Prim.Native.Nat.{_<_};
 ghost use Rattle.field.specs.Prime.{P};
 ghost use Rattle.field.specs.Element.{res, elem};
-ghost use Rattle.field.specs.Operations.{sum, difference, product, opposite, quotient, inverseOf, divideOf, divideZOf, intDivideOf, moduloOf, raised, exponentiateOf, infixOf};
+ghost use Rattle.field.specs.Operations.{sum, difference, product, opposite, quotient, inverseOf, divideOf};
+ghost use Rattle.field.specs.Operations.{divideZOf, intDivideOf, moduloOf, raised, exponentiateOf, infixOf};
 
 // What an operation answers: an element, or nothing where it has no value.
 pub enum Answer {

@@ -10,8 +10,10 @@ use borrow.Author.Tests.{leb-true, eqb-true}
 use Rattle.words.specs.Words.{wordAt}
 use Rattle.records.specs.Kinds.{NODE-WORDS}
 use Rattle.words.proofs.Laws.{getD-cleared}
-use Rattle.flat.specs.Layout.{layoutOf, publics, provers, definitions, equations, nodes, next, size, DEFINITION-WORDS, EQUATION-WORDS, proversAt, definitionsAt, equationsAt, nodesAt}
-use Rattle.flat.specs.Record.{every, measured, rules, flatOf, checked, pick, rows, allBelow, rising, definitionsFit, equationsFit, nodesFit, ordered, definitionAt, usedOnce, treesHold, byDefinitions, byEquations, byNodes}
+use Rattle.flat.specs.Layout.{layoutOf, publics, provers, definitions, equations, nodes, next, size}
+use Rattle.flat.specs.Layout.{DEFINITION-WORDS, EQUATION-WORDS, proversAt, definitionsAt, equationsAt, nodesAt}
+use Rattle.flat.specs.Record.{every, measured, rules, flatOf, checked, pick, rows, allBelow, rising, definitionsFit, equationsFit}
+use Rattle.flat.specs.Record.{nodesFit, ordered, definitionAt, usedOnce, treesHold, byDefinitions, byEquations, byNodes}
 use Rattle.flat.specs.Marks.{capped, Marked, Adds, noMarks}
 use Rattle.flat.specs.declared.Layout.{Layout}
 use Rattle.flat.specs.declared.Checked.the-variants.{Accepted, Refused}
@@ -30,13 +32,16 @@ marks-none : Marked noMarks (λ k. 0)
 unfolding noMarks
 marks-none = none-marked 16384
 
-pub all-marks : {m m1 m2 m3 : List ℕ} (b : List ℕ) (d ds e es t ts : ℕ) {r : Bool} → ts ≤ 16384 → m ≡ noMarks → Adds m m1 (byDefinitions b d ds) → Adds m1 m2 (byEquations b e es) → Adds m2 m3 (byNodes b t ts) → r ≡ every ts (λ k. eqb (getD m3 k 0) 1) → r ≡ usedOnce b d ds e es t ts
+pub all-marks : {m m1 m2 m3 : List ℕ} (b : List ℕ) (d ds e es t ts : ℕ) {r : Bool} → ts ≤ 16384 → m ≡ noMarks → Adds m m1 (byDefinitions b d ds)
+    → Adds m1 m2 (byEquations b e es) → Adds m2 m3 (byNodes b t ts) → r ≡ every ts (λ k. eqb (getD m3 k 0) 1) → r ≡ usedOnce b d ds e es t ts
 unfolding usedOnce
 all-marks {m} {m1} {m2} {m3} b d ds e es t ts l z a1 a2 a3 q =
     let w : Marked m (λ k. 0) = rw z marks-none in
     let g = a3 .adds (λ k. 0 + byDefinitions b d ds k + byEquations b e es k) (a2 .adds (λ k. 0 + byDefinitions b d ds k) (a1 .adds (λ k. 0) w)) in
     let long : length m3 ≡ 16384 = a3 .long ∙ a2 .long ∙ a1 .long ∙ ap length z ∙ marks-long in
-    let z : (k : ℕ) → (0 + byDefinitions b d ds k + byEquations b e es k + byNodes b t ts k) ≡ (byDefinitions b d ds k + byEquations b e es k + byNodes b t ts k) = λ k. omega arith in
+    let z :
+    (k : ℕ) → (0 + byDefinitions b d ds k + byEquations b e es k + byNodes b t ts k) ≡ (byDefinitions b d ds k + byEquations b e es k + byNodes b t ts k) =
+    λ k. omega arith in
     q
     ∙ marks-once m3 ts (λ k. 0 + byDefinitions b d ds k + byEquations b e es k + byNodes b t ts k) (omega arith) g
     ∙ every-same ts _ _ (λ k h. ap (λ (x : ℕ). eqb x 1) (z k))
@@ -82,19 +87,20 @@ measured-has b h =
     }
 
 -- the header as it was read
-pub laid-out : (b : List ℕ) {a0 a1 a2 a3 a4 a5 : ℕ} → a0 ≡ wordAt b 0 → a1 ≡ wordAt b 1 → a2 ≡ wordAt b 2 → a3 ≡ wordAt b 3 → a4 ≡ wordAt b 4 → a5 ≡ wordAt b 5 → record {
-  next = a0;
-  publics = a1;
-  provers = a2;
-  definitions = a3;
-  equations = a4;
-  nodes = a5;
-  «provers_at» = 6 + a1;
-  «definitions_at» = 6 + a1 + a2;
-  «equations_at» = 6 + a1 + a2 + DEFINITION-WORDS * a3;
-  «nodes_at» = 6 + a1 + a2 + DEFINITION-WORDS * a3 + EQUATION-WORDS * a4;
-  size = 6 + a1 + a2 + DEFINITION-WORDS * a3 + EQUATION-WORDS * a4 + NODE-WORDS * a5;
-} ≡ layoutOf b
+pub laid-out : (b : List ℕ) {a0 a1 a2 a3 a4 a5 : ℕ} → a0 ≡ wordAt b 0 → a1 ≡ wordAt b 1 → a2 ≡ wordAt b 2 → a3 ≡ wordAt b 3 → a4 ≡ wordAt b 4
+    → a5 ≡ wordAt b 5 → record {
+      next = a0;
+      publics = a1;
+      provers = a2;
+      definitions = a3;
+      equations = a4;
+      nodes = a5;
+      «provers_at» = 6 + a1;
+      «definitions_at» = 6 + a1 + a2;
+      «equations_at» = 6 + a1 + a2 + DEFINITION-WORDS * a3;
+      «nodes_at» = 6 + a1 + a2 + DEFINITION-WORDS * a3 + EQUATION-WORDS * a4;
+      size = 6 + a1 + a2 + DEFINITION-WORDS * a3 + EQUATION-WORDS * a4 + NODE-WORDS * a5;
+    } ≡ layoutOf b
 unfolding layoutOf
 laid-out b e0 e1 e2 e3 e4 e5 = rw (e0, e1, e2, e3, e4, e5)
 

@@ -8,7 +8,9 @@ use Rattle.words.specs.Words.{wordAt, setWord, bytesOf}
 use Rattle.field.specs.declared.InfixOp.the-variants.{Multiply, Add}
 use Rattle.flat.specs.Trees.{Flat, FlatModule, defines, everyId}
 use Rattle.flat.specs.Layout.{nodeAt}
-use Rattle.flat.specs.Record.{every, total, rows, pick, measured, operatorOf, nodeFor, nodeOf, grown, tree, definitionAt, equationAt, moduleOf, allBelow, rising, definitionsFit, equationsFit, nodeFits, nodesFit, same, usedBy, byNodes, byDefinitions, byEquations, usedOnce, treesHold, ordered, rules, flatOf, Read}
+use Rattle.flat.specs.Record.{every, total, rows, pick, measured, operatorOf, nodeFor, nodeOf, grown, tree, definitionAt}
+use Rattle.flat.specs.Record.{equationAt, moduleOf, allBelow, rising, definitionsFit, equationsFit, nodeFits, nodesFit, same}
+use Rattle.flat.specs.Record.{usedBy, byNodes, byDefinitions, byEquations, usedOnce, treesHold, ordered, rules, flatOf, Read}
 
 -- "next id 10, no publics, no prover ids, definition 2 = (v0 + 1) * v0, equation v2 = v1"
 unfoldable pub recordF : List ℕ
@@ -34,7 +36,9 @@ moduleF = record {
 }
 
 pub case-F : flatOf recordF ≡ Read.module-of moduleF
-unfolding recordF moduleF wordAt bytesOf defines everyId every total rows pick measured nodeAt operatorOf nodeFor nodeOf grown tree definitionAt equationAt moduleOf allBelow rising definitionsFit equationsFit nodeFits nodesFit same usedBy byNodes byDefinitions byEquations usedOnce treesHold ordered rules flatOf
+unfolding recordF moduleF wordAt bytesOf defines everyId every total rows pick measured nodeAt operatorOf nodeFor nodeOf grown tree definitionAt
+    equationAt moduleOf allBelow rising definitionsFit equationsFit nodeFits nodesFit same usedBy byNodes byDefinitions byEquations usedOnce
+    treesHold ordered rules flatOf
 case-F = refl
 
 pub case-short : flatOf (take 151 recordF) ≡ Read.refused 20
@@ -42,5 +46,6 @@ unfolding recordF wordAt bytesOf pick measured flatOf
 case-short = refl
 
 pub case-next : flatOf (setWord recordF 0 2) ≡ Read.refused 21
-unfolding recordF wordAt setWord bytesOf defines everyId every total rows pick measured nodeAt operatorOf nodeFor nodeOf grown tree definitionAt allBelow rising definitionsFit equationsFit nodeFits nodesFit same usedBy byNodes byDefinitions byEquations usedOnce treesHold ordered rules flatOf
+unfolding recordF wordAt setWord bytesOf defines everyId every total rows pick measured nodeAt operatorOf nodeFor nodeOf grown tree definitionAt allBelow
+    rising definitionsFit equationsFit nodeFits nodesFit same usedBy byNodes byDefinitions byEquations usedOnce treesHold ordered rules flatOf
 case-next = refl

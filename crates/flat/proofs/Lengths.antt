@@ -42,7 +42,8 @@ length-definitions (d ∷ ds) base =
 pub length-definitions-trees : (ds : List Definition) (base : ℕ) → length (definitionsTrees base ds) ≡ 4 * definitionsNodes ds
 unfolding definitionsTrees definitionsNodes
 length-definitions-trees [] base = refl
-length-definitions-trees (d ∷ ds) base = simp length-append (omega (arith, length-nodes (d .right) base, length-definitions-trees ds (nextFrom base (d .right))))
+length-definitions-trees (d ∷ ds) base =
+    simp length-append (omega (arith, length-nodes (d .right) base, length-definitions-trees ds (nextFrom base (d .right))))
 
 -- lists in two pieces, the second from the index that the first ends at
 next-plus : (base : ℕ) (d : Definition) (n : ℕ) → nextFrom base (d .right) + n ≡ base + (treeNodes (d .right) + n)
@@ -62,7 +63,8 @@ definitions-append (d ∷ xs) ys base =
     rw (definitions-append xs ys (nextFrom base (d .right)), next-plus base d (definitionsNodes xs))
     (sym (append-assoc (definitionWords (d .id) (rootFrom base (d .right))) (definitionsWords (nextFrom base (d .right)) xs) _))
 
-pub definitions-trees-append : (xs ys : List Definition) (base : ℕ) → definitionsTrees base (xs ++ ys) ≡ definitionsTrees base xs ++ definitionsTrees (base + definitionsNodes xs) ys
+pub definitions-trees-append : (xs ys : List Definition) (base : ℕ)
+    → definitionsTrees base (xs ++ ys) ≡ definitionsTrees base xs ++ definitionsTrees (base + definitionsNodes xs) ys
 unfolding definitionsTrees definitionsNodes
 definitions-trees-append [] ys base = let e : base + 0 ≡ base = omega arith in rw e
 definitions-trees-append (d ∷ xs) ys base =

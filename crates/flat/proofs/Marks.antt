@@ -80,31 +80,39 @@ used-none : (k kind x y z : ℕ) → (kind ≡ 4 → ⊥) → (kind ≡ 5 → �
 unfolding usedBy pick
 used-none k kind x y z n e = rw (ne-eqb kind 4 n, ne-eqb kind 5 e)
 
-pub children-4 : {m m′ m″ : List ℕ} (kind x y : ℕ) → kind ≡ 4 → m′ ≡ set m x (bump (getD m x 0)) → m″ ≡ set m′ y (bump (getD m′ y 0)) → Adds m m″ (λ k. usedBy k kind x y 0)
+pub children-4 : {m m′ m″ : List ℕ} (kind x y : ℕ) → kind ≡ 4 → m′ ≡ set m x (bump (getD m x 0)) → m″ ≡ set m′ y (bump (getD m′ y 0))
+    → Adds m m″ (λ k. usedBy k kind x y 0)
 children-4 kind x y e p q = adds-more (λ k. usedBy k kind x y 0) (adds-use x p) (adds-use y q) (λ k. used-4 k kind x y 0 e)
 
 pub children-5 : {m m′ : List ℕ} (kind x y : ℕ) → (kind ≡ 4 → ⊥) → kind ≡ 5 → m′ ≡ set m x (bump (getD m x 0)) → Adds m m′ (λ k. usedBy k kind x y 0)
-children-5 {m} kind x y n e p = adds-more (λ k. usedBy k kind x y 0) (adds-none m (λ k. 0) (λ k. refl)) (adds-use x p) (λ k. omega (arith, used-5 k kind x y 0 n e))
+children-5 {m} kind x y n e p =
+    adds-more (λ k. usedBy k kind x y 0) (adds-none m (λ k. 0) (λ k. refl)) (adds-use x p) (λ k. omega (arith, used-5 k kind x y 0 n e))
 
 pub children-none : (m : List ℕ) (kind x y : ℕ) → (kind ≡ 4 → ⊥) → (kind ≡ 5 → ⊥) → Adds m m (λ k. usedBy k kind x y 0)
 children-none m kind x y n e = adds-none m _ (λ k. used-none k kind x y 0 n e)
 
 -- a node that fits has its children before it
-pub children-below : (limit k kind x y z : ℕ) {t : Bool} → t ≡ nodeFits limit k kind x y z → t ≡ true → k < 16384 → (kind ≡ 4 → (x < 16384) × (y < 16384)) × (kind ≡ 5 → x < 16384)
+pub children-below : (limit k kind x y z : ℕ) {t : Bool} → t ≡ nodeFits limit k kind x y z → t ≡ true → k < 16384
+    → (kind ≡ 4 → (x < 16384) × (y < 16384)) × (kind ≡ 5 → x < 16384)
 children-below limit k kind x y z e h l =
     let g : nodeFits limit k kind x y z ≡ true = sym e ∙ h in
     (λ q. let w = fits-4 kind x y z limit k g q in (omega (arith, w .0), omega (arith, w .1)), λ q. omega (arith, fits-5 kind x y z limit k g q))
 
 -- a turn of the loop over nodes
-pub nodes-fail : (b : List ℕ) (at n limit k : ℕ) {kind x y z : ℕ} {t : Bool} → k < n → kind ≡ wordAt b (at + 4 * k) → x ≡ wordAt b (at + 4 * k + 1) → y ≡ wordAt b (at + 4 * k + 2) → z ≡ wordAt b (at + 4 * k + 3) → t ≡ nodeFits limit k kind x y z → t ≡ false → false ≡ nodesFit b at n limit
+pub nodes-fail : (b : List ℕ) (at n limit k : ℕ) {kind x y z : ℕ} {t : Bool} → k < n → kind ≡ wordAt b (at + 4 * k) → x ≡ wordAt b (at + 4 * k + 1)
+    → y ≡ wordAt b (at + 4 * k + 2) → z ≡ wordAt b (at + 4 * k + 3) → t ≡ nodeFits limit k kind x y z → t ≡ false → false ≡ nodesFit b at n limit
 unfolding nodesFit
 nodes-fail b at n limit k l p q r s e h = every-fails n k _ l (node-is b at k (nodeFits limit k) p q r s ∙ sym e ∙ h)
 
-pub nodes-more : (b : List ℕ) (at limit k : ℕ) {kind x y z : ℕ} {t : Bool} {m m′ m″ : List ℕ} → (nodesFit b at k limit ≡ true) → Adds m m′ (byNodes b at k) → kind ≡ wordAt b (at + 4 * k) → x ≡ wordAt b (at + 4 * k + 1) → y ≡ wordAt b (at + 4 * k + 2) → z ≡ wordAt b (at + 4 * k + 3) → t ≡ nodeFits limit k kind x y z → t ≡ true → Adds m′ m″ (λ j. usedBy j kind x y 0) → (nodesFit b at (k + 1) limit ≡ true) × Adds m m″ (byNodes b at (k + 1))
+pub nodes-more : (b : List ℕ) (at limit k : ℕ) {kind x y z : ℕ} {t : Bool} {m m′ m″ : List ℕ} → (nodesFit b at k limit ≡ true)
+    → Adds m m′ (byNodes b at k) → kind ≡ wordAt b (at + 4 * k) → x ≡ wordAt b (at + 4 * k + 1) → y ≡ wordAt b (at + 4 * k + 2)
+    → z ≡ wordAt b (at + 4 * k + 3) → t ≡ nodeFits limit k kind x y z → t ≡ true → Adds m′ m″ (λ j. usedBy j kind x y 0)
+    → (nodesFit b at (k + 1) limit ≡ true) × Adds m m″ (byNodes b at (k + 1))
 unfolding nodesFit byNodes usedBy
 nodes-more b at limit k {kind} {x} {y} {z} a c p q r s e h d = (
   every-more k _ a (node-is b at k (nodeFits limit k) p q r s ∙ sym e ∙ h),
-  adds-more (byNodes b at (k + 1)) c d (λ j. total-more k (λ i. nodeAt b at i (usedBy j)) ∙ ap (λ (w : ℕ). byNodes b at k j + w) (node-is b at k (usedBy j) p q r s)),
+  adds-more (byNodes b at (k + 1)) c d
+      (λ j. total-more k (λ i. nodeAt b at i (usedBy j)) ∙ ap (λ (w : ℕ). byNodes b at k j + w) (node-is b at k (usedBy j) p q r s)),
 )
 
 pub nodes-none : (b : List ℕ) (at limit : ℕ) (m : List ℕ) → (nodesFit b at 0 limit ≡ true) × Adds m m (byNodes b at 0)
@@ -112,15 +120,20 @@ unfolding nodesFit byNodes every total
 nodes-none b at limit m = (refl, adds-none m _ (λ k. refl))
 
 -- a turn of the loop over definitions
-pub defs-fail : (b : List ℕ) (at n limit count k id node : ℕ) → k < n → id ≡ definitionEntry b at k .id → node ≡ definitionEntry b at k .node → (ltb id limit && ltb node count) ≡ false → false ≡ definitionsFit b at n limit count
+pub defs-fail : (b : List ℕ) (at n limit count k id node : ℕ) → k < n → id ≡ definitionEntry b at k .id → node ≡ definitionEntry b at k .node
+    → (ltb id limit && ltb node count) ≡ false → false ≡ definitionsFit b at n limit count
 unfolding definitionsFit
-defs-fail b at n limit count k id node l p q h = every-fails n k (λ j. ltb (definitionEntry b at j .id) limit && ltb (definitionEntry b at j .node) count) l (rw (p, q) at h)
+defs-fail b at n limit count k id node l p q h =
+    every-fails n k (λ j. ltb (definitionEntry b at j .id) limit && ltb (definitionEntry b at j .node) count) l (rw (p, q) at h)
 
-pub defs-more : (b : List ℕ) (at limit count k id node : ℕ) {m m′ m″ : List ℕ} → (definitionsFit b at k limit count ≡ true) → Adds m m′ (byDefinitions b at k) → id ≡ definitionEntry b at k .id → node ≡ definitionEntry b at k .node → (ltb id limit && ltb node count) ≡ true → m″ ≡ set m′ node (bump (getD m′ node 0)) → (definitionsFit b at (k + 1) limit count ≡ true) × Adds m m″ (byDefinitions b at (k + 1))
+pub defs-more : (b : List ℕ) (at limit count k id node : ℕ) {m m′ m″ : List ℕ} → (definitionsFit b at k limit count ≡ true)
+    → Adds m m′ (byDefinitions b at k) → id ≡ definitionEntry b at k .id → node ≡ definitionEntry b at k .node → (ltb id limit && ltb node count) ≡ true
+    → m″ ≡ set m′ node (bump (getD m′ node 0)) → (definitionsFit b at (k + 1) limit count ≡ true) × Adds m m″ (byDefinitions b at (k + 1))
 unfolding definitionsFit byDefinitions
 defs-more b at limit count k id node a c p q h d = (
   every-more k (λ j. ltb (definitionEntry b at j .id) limit && ltb (definitionEntry b at j .node) count) a (rw (p, q) at h),
-  adds-more (byDefinitions b at (k + 1)) c (adds-use node d) (λ j. total-more k (λ i. same (definitionEntry b at i .node) j) ∙ ap (λ (w : ℕ). byDefinitions b at k j + same w j) (sym q)),
+  adds-more (byDefinitions b at (k + 1)) c (adds-use node d)
+      (λ j. total-more k (λ i. same (definitionEntry b at i .node) j) ∙ ap (λ (w : ℕ). byDefinitions b at k j + same w j) (sym q)),
 )
 
 pub defs-none : (b : List ℕ) (at limit count : ℕ) (m : List ℕ) → (definitionsFit b at 0 limit count ≡ true) × Adds m m (byDefinitions b at 0)
@@ -134,13 +147,15 @@ both-below a limit b count h = (ltb-true a limit (and-left (ltb a limit) (ltb b 
 abbrev sidesFit : List ℕ → ℕ → ℕ → ℕ → Bool
 sidesFit b at count j = ltb (equationEntry b at j .left) count && ltb (equationEntry b at j .right) count
 
-pub equations-fail : (b : List ℕ) (at n count k left right : ℕ) → k < n → left ≡ equationEntry b at k .left → right ≡ equationEntry b at k .right → (ltb left count && ltb right count) ≡ false → false ≡ equationsFit b at n count
+pub equations-fail : (b : List ℕ) (at n count k left right : ℕ) → k < n → left ≡ equationEntry b at k .left → right ≡ equationEntry b at k .right
+    → (ltb left count && ltb right count) ≡ false → false ≡ equationsFit b at n count
 unfolding equationsFit
 equations-fail b at n count k left right l p q h = every-fails n k (sidesFit b at count) l (rw (p, q) at h)
 
 pub equations-more : (b : List ℕ) (at count k left right : ℕ) {m m′ m₂ m₃ : List ℕ} → (equationsFit b at k count ≡ true) → Adds m m′ (byEquations b at k) →
     left ≡ equationEntry b at k .left → right ≡ equationEntry b at k .right → (ltb left count && ltb right count) ≡ true →
-    m₂ ≡ set m′ left (bump (getD m′ left 0)) → m₃ ≡ set m₂ right (bump (getD m₂ right 0)) → (equationsFit b at (k + 1) count ≡ true) × Adds m m₃ (byEquations b at (k + 1))
+    m₂ ≡ set m′ left (bump (getD m′ left 0)) → m₃ ≡ set m₂ right (bump (getD m₂ right 0)) →
+    (equationsFit b at (k + 1) count ≡ true) × Adds m m₃ (byEquations b at (k + 1))
 unfolding equationsFit byEquations
 equations-more b at count k left right a c p q h d e = (
   every-more k (sidesFit b at count) a (rw (p, q) at h),

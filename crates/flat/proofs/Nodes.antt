@@ -48,7 +48,9 @@ module _ (kind x y z : ℕ) where
 
   -- the four cases
   pub by-kind : {A : Type 0} → (kind ≡ 4 → A) → (kind ≡ 5 → A) → (kind ≡ 7 → A) → ((kind ≡ 4 → ⊥) → (kind ≡ 5 → ⊥) → (kind ≡ 7 → ⊥) → A) → A
-  by-kind f4 f5 f7 f8 = ⊎-elim f4 (λ (n4 : kind ≡ 4 → ⊥). ⊎-elim f5 (λ (n5 : kind ≡ 5 → ⊥). ⊎-elim f7 (λ (n7 : kind ≡ 7 → ⊥). f8 n4 n5 n7) (alike kind 7)) (alike kind 5)) (alike kind 4)
+  by-kind f4 f5 f7 f8 =
+      ⊎-elim f4
+      (λ (n4 : kind ≡ 4 → ⊥). ⊎-elim f5 (λ (n5 : kind ≡ 5 → ⊥). ⊎-elim f7 (λ (n7 : kind ≡ 7 → ⊥). f8 n4 n5 n7) (alike kind 7)) (alike kind 5)) (alike kind 4)
 
   -- the kind by its node
   is-4 : {o : InfixOp} {a b : ℕ} → nodeFor kind x y z ≡ Infix o a b → (kind ≡ 4) × (a ≡ x) × (b ≡ y)
@@ -94,13 +96,15 @@ module _ (kind x y z : ℕ) where
         ltb-true x limit (last (eqb kind 8) (ltb x limit) (eqb y 0 && eqb z 0) g)
 
 -- a node whose words are known
-pub node-is : {A : Type 0} (b : List ℕ) (at k : ℕ) (f : ℕ → ℕ → ℕ → ℕ → A) {kind x y z : ℕ} → kind ≡ wordAt b (at + 4 * k) → x ≡ wordAt b (at + 4 * k + 1) → y ≡ wordAt b (at + 4 * k + 2) → z ≡ wordAt b (at + 4 * k + 3) → nodeAt b at k f ≡ f kind x y z
+pub node-is : {A : Type 0} (b : List ℕ) (at k : ℕ) (f : ℕ → ℕ → ℕ → ℕ → A) {kind x y z : ℕ} → kind ≡ wordAt b (at + 4 * k) → x ≡ wordAt b (at + 4 * k + 1)
+    → y ≡ wordAt b (at + 4 * k + 2) → z ≡ wordAt b (at + 4 * k + 3) → nodeAt b at k f ≡ f kind x y z
 unfolding nodeAt
 node-is b at k f p q r s = rw (p, q, r, s)
 
 -- what a reader of the four words has read
 module _ (b : List ℕ) (at k kind x : ℕ) (p : kind ≡ wordAt b (at + 4 * k)) (q : x ≡ wordAt b (at + 4 * k + 1)) where
-  pub read-4 : {y z : ℕ} {o : InfixOp} → y ≡ wordAt b (at + 4 * k + 2) → z ≡ wordAt b (at + 4 * k + 3) → kind ≡ 4 → o ≡ operatorOf z → Infix o x y ≡ nodeOf b at k
+  pub read-4 : {y z : ℕ} {o : InfixOp} → y ≡ wordAt b (at + 4 * k + 2) → z ≡ wordAt b (at + 4 * k + 3) → kind ≡ 4 → o ≡ operatorOf z
+      → Infix o x y ≡ nodeOf b at k
   unfolding nodeOf
   read-4 {y} r s e f = ap (λ (w : InfixOp). Infix w x y) f ∙ sym (node-is b at k nodeFor p q r s ∙ for-4 _ _ _ _ e)
 
@@ -155,11 +159,14 @@ tree-is b at k = rw (add-one, tree-last b at k k refl)
 
 pub settled : (b : List ℕ) (at n k : ℕ) → k < n → tree b at n k ≡ tree b at (k + 1) k
 settled b at zero k l = absurd (omega arith)
-settled b at (suc n) k l = ⊎-elim (λ (g : k < n). tree-else b at n k (λ e. omega arith) ∙ settled b at n k g) (λ (g : n ≤ k). let e : suc n ≡ k + 1 = omega arith in ap (λ (m : ℕ). tree b at m k) e) (split k n)
+settled b at (suc n) k l =
+    ⊎-elim (λ (g : k < n). tree-else b at n k (λ e. omega arith) ∙ settled b at n k g)
+    (λ (g : n ≤ k). let e : suc n ≡ k + 1 = omega arith in ap (λ (m : ℕ). tree b at m k) e) (split k n)
 
 -- the tree of a node, by those of its children
 module _ (b : List ℕ) (at k : ℕ) where
-  pub tree-infix : {o : InfixOp} {x y : ℕ} → nodeOf b at k ≡ Infix o x y → x < k → y < k → tree b at (k + 1) k ≡ Flat.infixed o (tree b at (x + 1) x) (tree b at (y + 1) y)
+  pub tree-infix : {o : InfixOp} {x y : ℕ} → nodeOf b at k ≡ Infix o x y → x < k → y < k
+      → tree b at (k + 1) k ≡ Flat.infixed o (tree b at (x + 1) x) (tree b at (y + 1) y)
   unfolding grown
   tree-infix {x = x} {y = y} e hx hy = rw (tree-is b at k, e, settled b at k x hx, settled b at k y hy)
 
@@ -177,7 +184,8 @@ module _ (b : List ℕ) (at k : ℕ) where
 
 -- both at once, of nodes that fit
 module _ (b : List ℕ) (at n limit : ℕ) (h : nodesFit b at n limit ≡ true) (k : ℕ) (l : k < n) where
-  pub at-infix : {o : InfixOp} {x y : ℕ} → nodeOf b at k ≡ Infix o x y → (x < k) × (y < k) × (tree b at (k + 1) k ≡ Flat.infixed o (tree b at (x + 1) x) (tree b at (y + 1) y))
+  pub at-infix : {o : InfixOp} {x y : ℕ} → nodeOf b at k ≡ Infix o x y
+      → (x < k) × (y < k) × (tree b at (k + 1) k ≡ Flat.infixed o (tree b at (x + 1) x) (tree b at (y + 1) y))
   at-infix e = let w = infix-below b at n limit h k l e in (w .0, w .1, tree-infix b at k e (w .0) (w .1))
 
   pub at-negate : {x : ℕ} → nodeOf b at k ≡ Negate x → (x < k) × (tree b at (k + 1) k ≡ Flat.negate (tree b at (x + 1) x))
@@ -191,7 +199,8 @@ module _ (b : List ℕ) (at n limit : ℕ) (h : nodesFit b at n limit ≡ true) 
 
 -- the variables of every tree lie below the limit
 module _ (b : List ℕ) (at n limit : ℕ) (h : nodesFit b at n limit ≡ true) where
-  grown-below : (m : ℕ) → m < n → ((k : ℕ) → k < m → Every (λ v. v < limit) (tree b at m k)) → (w : Node) → nodeOf b at m ≡ w → Every (λ v. v < limit) (grown (tree b at m) w)
+  grown-below : (m : ℕ) → m < n → ((k : ℕ) → k < m → Every (λ v. v < limit) (tree b at m k)) → (w : Node) → nodeOf b at m ≡ w
+      → Every (λ v. v < limit) (grown (tree b at m) w)
   unfolding grown
   grown-below m l i (Infix o x y) e = let f = infix-below b at n limit h m l e in (i x (f .0), i y (f .1))
   grown-below m l i (Negate x) e = i x (negate-below b at n limit h m l e)

@@ -54,7 +54,8 @@ fails n (suc k) f l h =
     let s : rows (n - k) k f ≡ f k ∷ rows (n - suc k) (suc k) f = rw e at (rows-step n (suc k) f (omega arith) l) in
     fails n k f (omega arith) (rw (s, h, and-false, and-false))
 
-ordered-cons : (d : Definition) (ds : List Definition) (t : Bool) → not (defines ds (d .id)) ≡ true → everyId (λ v. not (defines (d ∷ ds) v)) (d .right) ≡ t → ordered (d ∷ ds) ≡ (t && ordered ds)
+ordered-cons : (d : Definition) (ds : List Definition) (t : Bool) → not (defines ds (d .id)) ≡ true → everyId (λ v. not (defines (d ∷ ds) v)) (d .right) ≡ t
+    → ordered (d ∷ ds) ≡ (t && ordered ds)
 unfolding ordered
 ordered-cons d ds t i w = rw (i, w)
 
@@ -62,7 +63,8 @@ none-later : (n v : ℕ) → eqb (getD (replicate n 0) v 0) 0 ≡ true
 none-later n v = ap (λ (x : ℕ). eqb x 0) (getD-cleared n v)
 
 -- before the loop: no definition, no marks
-pub order-start : (n : ℕ) (f : ℕ → Definition) {m : List ℕ} → m ≡ noLater → ((ordered (rows (n - n) n f) ≡ true) × Later m (rows (n - n) n f)) × ((n ≤ n) × (length m ≡ 65536))
+pub order-start : (n : ℕ) (f : ℕ → Definition) {m : List ℕ} → m ≡ noLater
+    → ((ordered (rows (n - n) n f) ≡ true) × Later m (rows (n - n) n f)) × ((n ≤ n) × (length m ≡ 65536))
 unfolding ordered rows noLater defines
 order-start n f e =
     let z : n - n ≡ 0 = omega arith in
@@ -72,47 +74,58 @@ order-start n f e =
 pub order-end : (n k : ℕ) (f : ℕ → Definition) → k ≡ 0 → ordered (rows (n - k) k f) ≡ true → true ≡ ordered (rows n 0 f)
 order-end n k f z h = let e : n - 0 ≡ n = omega arith in sym (rw (z, e) at h)
 
-module _ (b : List ℕ) (at n trees nodes k : ℕ) (pos : 0 < k) (le : k ≤ n) (m : List ℕ) (known : Later m (rows (n - k) k (definitionAt b at trees nodes))) (id node : ℕ) (e1 : id ≡ definitionEntry b at (k - 1) .id) (e2 : node ≡ definitionEntry b at (k - 1) .node) where
+module _ (b : List ℕ) (at n trees nodes k : ℕ) (pos : 0 < k) (le : k ≤ n) (m : List ℕ) (known : Later m (rows (n - k) k (definitionAt b at trees nodes)))
+    (id node : ℕ) (e1 : id ≡ definitionEntry b at (k - 1) .id) (e2 : node ≡ definitionEntry b at (k - 1) .node) where
   pub order-double : (getD m id 0 ≡ 0 → ⊥) → false ≡ ordered (rows n 0 (definitionAt b at trees nodes))
   unfolding ordered definitionAt
   order-double f = fails n (k - 1) _ (omega arith) (rw (rows-step n k (definitionAt b at trees nodes) pos le, ← e1, ← known id, ne-eqb (getD m id 0) 0 f))
 
-  module _ (t : Bool) (free : getD m id 0 ≡ 0) (l : id < length m) (one : node < nodes) (walked : t ≡ everyId (λ v. eqb (getD (set m id 1) v 0) 0) (tree b trees (node + 1) node)) where
+  module _ (t : Bool) (free : getD m id 0 ≡ 0) (l : id < length m) (one : node < nodes)
+      (walked : t ≡ everyId (λ v. eqb (getD (set m id 1) v 0) 0) (tree b trees (node + 1) node)) where
     later-set-on : Later (set m id 1) (definitionAt b at trees nodes (k - 1) ∷ rows (n - k) k (definitionAt b at trees nodes))
     unfolding definitionAt
     later-set-on = rw e1 (later-set m (rows (n - k) k (definitionAt b at trees nodes)) (definitionAt b at trees nodes (k - 1)) known (rw e1 at l))
 
-    first : ordered (definitionAt b at trees nodes (k - 1) ∷ rows (n - k) k (definitionAt b at trees nodes)) ≡ (t && ordered (rows (n - k) k (definitionAt b at trees nodes)))
+    first : ordered (definitionAt b at trees nodes (k - 1) ∷ rows (n - k) k (definitionAt b at trees nodes))
+        ≡ (t && ordered (rows (n - k) k (definitionAt b at trees nodes)))
     unfolding definitionAt
     first =
         let d = definitionAt b at trees nodes (k - 1) in
         let ds = rows (n - k) k (definitionAt b at trees nodes) in
         let i : not (defines ds (d .id)) ≡ true = rw e1 at (sym (known id) ∙ eq-eqb (getD m id 0) 0 free) in
         let r : d .right ≡ tree b trees (node + 1) node = ap (λ (j : ℕ). tree b trees nodes j) (sym e2) ∙ settled b trees nodes node one in
-        let w : everyId (λ v. not (defines (d ∷ ds) v)) (d .right) ≡ t = ap (λ (x : Flat). everyId (λ v. not (defines (d ∷ ds) v)) x) r ∙ sym (everyId-same (λ v. eqb (getD (set m id 1) v 0) 0) (λ v. not (defines (d ∷ ds) v)) later-set-on (tree b trees (node + 1) node)) ∙ sym walked in
+        let w : everyId (λ v. not (defines (d ∷ ds) v)) (d .right) ≡ t = ap (λ (x : Flat). everyId (λ v. not (defines (d ∷ ds) v)) x) r
+        ∙ sym (everyId-same (λ v. eqb (getD (set m id 1) v 0) 0) (λ v. not (defines (d ∷ ds) v)) later-set-on (tree b trees (node + 1) node)) ∙ sym walked in
         ordered-cons d ds t i w
 
     pub order-used : t ≡ false → false ≡ ordered (rows n 0 (definitionAt b at trees nodes))
     order-used h = fails n (k - 1) _ (omega arith) (rw (rows-step n k (definitionAt b at trees nodes) pos le) (first ∙ rw h))
 
-    pub order-more : t ≡ true → ordered (rows (n - k) k (definitionAt b at trees nodes)) ≡ true → (ordered (rows (n - (k - 1)) (k - 1) (definitionAt b at trees nodes)) ≡ true) × Later (set m id 1) (rows (n - (k - 1)) (k - 1) (definitionAt b at trees nodes))
+    pub order-more : t ≡ true → ordered (rows (n - k) k (definitionAt b at trees nodes)) ≡ true
+        → (ordered (rows (n - (k - 1)) (k - 1) (definitionAt b at trees nodes)) ≡ true)
+        × Later (set m id 1) (rows (n - (k - 1)) (k - 1) (definitionAt b at trees nodes))
     order-more h g = rw (rows-step n k (definitionAt b at trees nodes) pos le) (first ∙ rw (h, g), later-set-on)
 
 -- what the code knows of a definition that fits
-pub definition-fits : (b : List ℕ) (at n limit count k id node : ℕ) → definitionsFit b at n limit count ≡ true → k < n → id ≡ definitionEntry b at k .id → node ≡ definitionEntry b at k .node → (id < limit) × (node < count)
+pub definition-fits : (b : List ℕ) (at n limit count k id node : ℕ) → definitionsFit b at n limit count ≡ true → k < n → id ≡ definitionEntry b at k .id
+    → node ≡ definitionEntry b at k .node → (id < limit) × (node < count)
 unfolding definitionsFit
 definition-fits b at n limit count k id node h l p q =
     let d = definitionEntry b at k in
-    let g = every-at n k (λ j. ltb (definitionEntry b at j .id) limit && ltb (definitionEntry b at j .node) count) h l in
-    (ltb-true id limit (rw p (and-left (ltb (d .id) limit) (ltb (d .node) count) g)), ltb-true node count (rw q (and-right (ltb (d .id) limit) (ltb (d .node) count) g)))
+    let g = every-at n k (λ j. ltb (definitionEntry b at j .id) limit && ltb (definitionEntry b at j .node) count) h l in (
+      ltb-true id limit (rw p (and-left (ltb (d .id) limit) (ltb (d .node) count) g)),
+      ltb-true node count (rw q (and-right (ltb (d .id) limit) (ltb (d .node) count) g)),
+    )
 
 -- the walk at a node: what it finds is what its children's walks find
 module _ (b : List ℕ) (at k : ℕ) (p : ℕ → Bool) where
-  pub walk-infix-no : {o : InfixOp} {x y : ℕ} {l : Bool} → nodeOf b at k ≡ Infix o x y → (x < k) × (y < k) → l ≡ everyId p (tree b at (x + 1) x) → l ≡ false → false ≡ everyId p (tree b at (k + 1) k)
+  pub walk-infix-no : {o : InfixOp} {x y : ℕ} {l : Bool} → nodeOf b at k ≡ Infix o x y → (x < k) × (y < k) → l ≡ everyId p (tree b at (x + 1) x) → l ≡ false
+      → false ≡ everyId p (tree b at (k + 1) k)
   unfolding everyId
   walk-infix-no {l = l} e h hl n = rw (tree-infix b at k e (h .0) (h .1), ← hl, n)
 
-  pub walk-infix : {o : InfixOp} {x y : ℕ} {l r : Bool} → nodeOf b at k ≡ Infix o x y → (x < k) × (y < k) → l ≡ everyId p (tree b at (x + 1) x) → l ≡ true → r ≡ everyId p (tree b at (y + 1) y) → r ≡ everyId p (tree b at (k + 1) k)
+  pub walk-infix : {o : InfixOp} {x y : ℕ} {l r : Bool} → nodeOf b at k ≡ Infix o x y → (x < k) × (y < k) → l ≡ everyId p (tree b at (x + 1) x) → l ≡ true
+      → r ≡ everyId p (tree b at (y + 1) y) → r ≡ everyId p (tree b at (k + 1) k)
   unfolding everyId
   walk-infix e h hl n hr = rw (tree-infix b at k e (h .0) (h .1), ← hl, n) hr
 

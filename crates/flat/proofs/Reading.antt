@@ -10,8 +10,10 @@ use lib.Dec.{ltb, leb}
 use borrow.Author.Tests.{ltb-true, leb-true, lt-ltb, le-leb, eq-eqb, ne-eqb}
 use Rattle.words.specs.Words.{wordAt}
 use Rattle.flat.specs.Trees.{FlatModule}
-use Rattle.flat.specs.Layout.{next, publics, provers, definitions, equations, nodes, proversAt, definitionsAt, equationsAt, nodesAt, size, nodeAt, publicAt, proverAt, definitionEntry, equationEntry}
-use Rattle.flat.specs.Record.{pick, measured, moduleOf, allBelow, rising, definitionsFit, equationsFit, nodeFits, nodesFit, treesHold, ordered, definitionAt, equationAt, tree, rows, rules, Read, flatOf, checked}
+use Rattle.flat.specs.Layout.{next, publics, provers, definitions, equations, nodes, proversAt, definitionsAt}
+use Rattle.flat.specs.Layout.{equationsAt, nodesAt, size, nodeAt, publicAt, proverAt, definitionEntry, equationEntry}
+use Rattle.flat.specs.Record.{pick, measured, moduleOf, allBelow, rising, definitionsFit, equationsFit, nodeFits, nodesFit}
+use Rattle.flat.specs.Record.{treesHold, ordered, definitionAt, equationAt, tree, rows, rules, Read, flatOf, checked}
 use Rattle.flat.specs.Readable.{Readable}
 use Rattle.flat.specs.declared.Checked.the-variants.{Accepted, Refused}
 use Rattle.flat.proofs.Laws.{and-left, and-right, every-at, every-from}
@@ -20,7 +22,8 @@ use Rattle.flat.proofs.Answers.{measured-has, hold-definitions, hold-eq
 
 -- ---- accepted records
 
-module-at : (m r : Bool) (g f : FlatModule) → pick m (pick r (Read.module-of g) (Read.refused 21)) (Read.refused 20) ≡ Read.module-of f → (m ≡ true) × (r ≡ true) × (g ≡ f)
+module-at : (m r : Bool) (g f : FlatModule) → pick m (pick r (Read.module-of g) (Read.refused 21)) (Read.refused 20) ≡ Read.module-of f
+    → (m ≡ true) × (r ≡ true) × (g ≡ f)
 unfolding pick
 module-at true true g f h = (refl, refl, cc)
 module-at true false g f h = let z : _≡_ {A = ℕ} 0 1 = cc in absurd (omega arith)
@@ -64,7 +67,8 @@ tests-readable b m r0 =
     let r2 = and-right (allBelow b 6 (publics b) (next b)) _ r1 in
     let r3 = and-right (allBelow b (proversAt b) (provers b) (next b)) _ r2 in
     let r4 = and-right (rising b (proversAt b) (provers b)) _ r3 in
-    let t : treesHold b (next b) (definitionsAt b) (definitions b) (equationsAt b) (equations b) (nodesAt b) (nodes b) ≡ true = and-left _ (ordered (rows (definitions b) 0 (definitionAt b (definitionsAt b) (nodesAt b) (nodes b)))) r4 in
+    let t : treesHold b (next b) (definitionsAt b) (definitions b) (equationsAt b) (equations b) (nodesAt b) (nodes b) ≡ true =
+    and-left _ (ordered (rows (definitions b) 0 (definitionAt b (definitionsAt b) (nodesAt b) (nodes b)))) r4 in
     record {
       long = w .long;
       publics-few = w .publics-few;
@@ -98,14 +102,16 @@ pub rising-at : (b : List ℕ) (at n : ℕ) → rising b at n ≡ true → (k : 
 unfolding rising
 rising-at b at n h k l = ltb-true _ _ (every-at (n - 1) k (λ j. ltb (wordAt b (at + j)) (wordAt b (at + j + 1))) h (omega arith))
 
-pub definition-at : (b : List ℕ) (at n limit count : ℕ) → definitionsFit b at n limit count ≡ true → (k : ℕ) → k < n → (definitionEntry b at k .id < limit) × (definitionEntry b at k .node < count)
+pub definition-at : (b : List ℕ) (at n limit count : ℕ) → definitionsFit b at n limit count ≡ true → (k : ℕ) → k < n
+    → (definitionEntry b at k .id < limit) × (definitionEntry b at k .node < count)
 unfolding definitionsFit
 definition-at b at n limit count h k l =
     let g = every-at n k (λ j. ltb (definitionEntry b at j .id) limit && ltb (definitionEntry b at j .node) count) h l in
     let id-fits = ltb (definitionEntry b at k .id) limit in
     (ltb-true _ _ (and-left id-fits _ g), ltb-true _ _ (and-right id-fits _ g))
 
-pub equation-at : (b : List ℕ) (at n count : ℕ) → equationsFit b at n count ≡ true → (k : ℕ) → k < n → (equationEntry b at k .left < count) × (equationEntry b at k .right < count)
+pub equation-at : (b : List ℕ) (at n count : ℕ) → equationsFit b at n count ≡ true → (k : ℕ) → k < n
+    → (equationEntry b at k .left < count) × (equationEntry b at k .right < count)
 unfolding equationsFit
 equation-at b at n count h k l =
     let g = every-at n k (λ j. ltb (equationEntry b at j .left) count && ltb (equationEntry b at j .right) count) h l in
@@ -122,29 +128,44 @@ module _ {b : List ℕ} (r : Readable b) where
   pub prover-rises : (k : ℕ) → k + 1 < provers b → wordAt b (proversAt b + k) < wordAt b (proversAt b + k + 1)
   prover-rises = rising-at b (proversAt b) (provers b) (r .provers-rise)
 
-  pub definition-below : (k : ℕ) → k < definitions b → (definitionEntry b (definitionsAt b) k .id < next b) × (definitionEntry b (definitionsAt b) k .node < nodes b)
+  pub definition-below : (k : ℕ) → k < definitions b
+      → (definitionEntry b (definitionsAt b) k .id < next b) × (definitionEntry b (definitionsAt b) k .node < nodes b)
   definition-below = definition-at b (definitionsAt b) (definitions b) (next b) (nodes b) (r .definitions-fit)
 
   pub equation-below : (k : ℕ) → k < equations b → (equationEntry b (equationsAt b) k .left < nodes b) × (equationEntry b (equationsAt b) k .right < nodes b)
   equation-below = equation-at b (equationsAt b) (equations b) (nodes b) (r .equations-fit)
 
   -- the trees of the lists, as a walk from their nodes meets them
-  pub definition-tree : (k : ℕ) → k < definitions b → definitionAt b (definitionsAt b) (nodesAt b) (nodes b) k .right ≡ tree b (nodesAt b) (definitionEntry b (definitionsAt b) k .node + 1) (definitionEntry b (definitionsAt b) k .node)
+  pub definition-tree : (k : ℕ) → k < definitions b
+      → definitionAt b (definitionsAt b) (nodesAt b) (nodes b) k .right
+      ≡ tree b (nodesAt b) (definitionEntry b (definitionsAt b) k .node + 1) (definitionEntry b (definitionsAt b) k .node)
   unfolding definitionAt
   definition-tree k l = settled b (nodesAt b) (nodes b) _ (definition-below k l .1)
 
-  pub left-tree : (k : ℕ) → k < equations b → equationAt b (equationsAt b) (nodesAt b) (nodes b) k .left ≡ tree b (nodesAt b) (equationEntry b (equationsAt b) k .left + 1) (equationEntry b (equationsAt b) k .left)
+  pub left-tree : (k : ℕ) → k < equations b
+      → equationAt b (equationsAt b) (nodesAt b) (nodes b) k .left
+      ≡ tree b (nodesAt b) (equationEntry b (equationsAt b) k .left + 1) (equationEntry b (equationsAt b) k .left)
   unfolding equationAt
   left-tree k l = settled b (nodesAt b) (nodes b) _ (equation-below k l .0)
 
-  pub right-tree : (k : ℕ) → k < equations b → equationAt b (equationsAt b) (nodesAt b) (nodes b) k .right ≡ tree b (nodesAt b) (equationEntry b (equationsAt b) k .right + 1) (equationEntry b (equationsAt b) k .right)
+  pub right-tree : (k : ℕ) → k < equations b
+      → equationAt b (equationsAt b) (nodesAt b) (nodes b) k .right
+      ≡ tree b (nodesAt b) (equationEntry b (equationsAt b) k .right + 1) (equationEntry b (equationsAt b) k .right)
   unfolding equationAt
   right-tree k l = settled b (nodesAt b) (nodes b) _ (equation-below k l .1)
 
   pub readable-measured : measured b ≡ true
   unfolding measured
   readable-measured =
-      rw (le-leb 24 (length b) (omega arith), le-leb (publics b) 64 (r .publics-few), le-leb (provers b) 4096 (r .provers-few), le-leb (definitions b) 4096 (r .definitions-few), le-leb (equations b) 4096 (r .equations-few), le-leb (nodes b) 16384 (r .nodes-few), eq-eqb (length b) (4 * size b) (r .long))
+      rw (
+        le-leb 24 (length b) (omega arith),
+        le-leb (publics b) 64 (r .publics-few),
+        le-leb (provers b) 4096 (r .provers-few),
+        le-leb (definitions b) 4096 (r .definitions-few),
+        le-leb (equations b) 4096 (r .equations-few),
+        le-leb (nodes b) 16384 (r .nodes-few),
+        eq-eqb (length b) (4 * size b) (r .long),
+      )
 
 -- ---- what was written is readable: each test from what holds at each index
 
@@ -156,13 +177,17 @@ pub rising-from : (b : List ℕ) (at n : ℕ) → ((k : ℕ) → k + 1 < n → w
 unfolding rising
 rising-from b at n h = every-from (n - 1) _ (λ k l. lt-ltb _ _ (h k (omega arith)))
 
-pub definitions-from : (b : List ℕ) (at n limit count : ℕ) → ((k : ℕ) → k < n → (definitionEntry b at k .id < limit) × (definitionEntry b at k .node < count)) → definitionsFit b at n limit count ≡ true
+pub definitions-from : (b : List ℕ) (at n limit count : ℕ) → ((k : ℕ) → k < n → (definitionEntry b at k .id < limit) × (definitionEntry b at k .node < count))
+    → definitionsFit b at n limit count ≡ true
 unfolding definitionsFit
-definitions-from b at n limit count h = every-from n _ (λ k l. rw (lt-ltb (definitionEntry b at k .id) limit (h k l .0), lt-ltb (definitionEntry b at k .node) count (h k l .1)))
+definitions-from b at n limit count h =
+    every-from n _ (λ k l. rw (lt-ltb (definitionEntry b at k .id) limit (h k l .0), lt-ltb (definitionEntry b at k .node) count (h k l .1)))
 
-pub equations-from : (b : List ℕ) (at n count : ℕ) → ((k : ℕ) → k < n → (equationEntry b at k .left < count) × (equationEntry b at k .right < count)) → equationsFit b at n count ≡ true
+pub equations-from : (b : List ℕ) (at n count : ℕ) → ((k : ℕ) → k < n → (equationEntry b at k .left < count) × (equationEntry b at k .right < count))
+    → equationsFit b at n count ≡ true
 unfolding equationsFit
-equations-from b at n count h = every-from n _ (λ k l. rw (lt-ltb (equationEntry b at k .left) count (h k l .0), lt-ltb (equationEntry b at k .right) count (h k l .1)))
+equations-from b at n count h =
+    every-from n _ (λ k l. rw (lt-ltb (equationEntry b at k .left) count (h k l .0), lt-ltb (equationEntry b at k .right) count (h k l .1)))
 
 pub nodes-from : (b : List ℕ) (at n limit : ℕ) → ((k : ℕ) → k < n → nodeAt b at k (nodeFits limit k) ≡ true) → nodesFit b at n limit ≡ true
 unfolding nodesFit
@@ -184,4 +209,12 @@ module _ (limit k kind x y z : ℕ) where
 
   pub fit-8 : kind ≡ 8 → x < limit → y ≡ 0 → z ≡ 0 → nodeFits limit k kind x y z ≡ true
   unfolding nodeFits pick
-  fit-8 e p q r = rw (ne-eqb kind 4 (λ w. omega arith), ne-eqb kind 5 (λ w. omega arith), ne-eqb kind 7 (λ w. omega arith), eq-eqb kind 8 e, lt-ltb x limit p, eq-eqb y 0 q, eq-eqb z 0 r)
+  fit-8 e p q r = rw (
+    ne-eqb kind 4 (λ w. omega arith),
+    ne-eqb kind 5 (λ w. omega arith),
+    ne-eqb kind 7 (λ w. omega arith),
+    eq-eqb kind 8 e,
+    lt-ltb x limit p,
+    eq-eqb y 0 q,
+    eq-eqb z 0 r,
+  )

@@ -44,12 +44,16 @@ module _ {A : Type 0} (f : ℕ → A) where
   pub take-rows : (k n at : ℕ) → k ≤ n → take k (rows n at f) ≡ rows k at f
   take-rows k n at l =
       let e : n ≡ k + (n - k) = omega arith in
-      ap (λ (m : ℕ). take k (rows m at f)) e ∙ ap (λ (s : List A). take k s) (rows-append k (n - k) at) ∙ take-at (rows k at f) (rows (n - k) (at + k) f) k (length-rows k at)
+      ap (λ (m : ℕ). take k (rows m at f)) e
+      ∙ ap (λ (s : List A). take k s) (rows-append k (n - k) at)
+      ∙ take-at (rows k at f) (rows (n - k) (at + k) f) k (length-rows k at)
 
   pub drop-rows : (k n at : ℕ) → k ≤ n → drop k (rows n at f) ≡ rows (n - k) (at + k) f
   drop-rows k n at l =
       let e : n ≡ k + (n - k) = omega arith in
-      ap (λ (m : ℕ). drop k (rows m at f)) e ∙ ap (λ (s : List A). drop k s) (rows-append k (n - k) at) ∙ drop-at (rows k at f) (rows (n - k) (at + k) f) k (length-rows k at)
+      ap (λ (m : ℕ). drop k (rows m at f)) e
+      ∙ ap (λ (s : List A). drop k s) (rows-append k (n - k) at)
+      ∙ drop-at (rows k at f) (rows (n - k) (at + k) f) k (length-rows k at)
 
 -- functions with the same values there
 pub rows-same : {A : Type 0} (f g : ℕ → A) (n at : ℕ) → ((k : ℕ) → at ≤ k → k < at + n → f k ≡ g k) → rows n at f ≡ rows n at g

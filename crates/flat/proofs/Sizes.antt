@@ -11,8 +11,10 @@ use lib.Dec.{eqb, leb}
 use borrow.Author.Tests.{eq-eqb, ne-eqb, eqb-true}
 use Rattle.words.specs.Words.{wordAt}
 use Rattle.flat.specs.Trees.{Flat, Definition, Equation, FlatModule, treeNodes, definitionsNodes, equationsNodes, moduleNodes}
-use Rattle.flat.specs.Layout.{next, publics, provers, definitions, equations, nodes, proversAt, definitionsAt, equationsAt, nodesAt, nodeAt, definitionEntry, equationEntry}
-use Rattle.flat.specs.Record.{pick, every, total, rows, allBelow, rising, definitionsFit, equationsFit, same, usedBy, nodeOf, nodesFit, tree, byNodes, byDefinitions, byEquations, usedOnce, treesHold, ordered, definitionAt, equationAt, moduleOf, rules, Read, flatOf}
+use Rattle.flat.specs.Layout.{next, publics, provers, definitions, equations, nodes, proversAt}
+use Rattle.flat.specs.Layout.{definitionsAt, equationsAt, nodesAt, nodeAt, definitionEntry, equationEntry}
+use Rattle.flat.specs.Record.{pick, every, total, rows, allBelow, rising, definitionsFit, equationsFit, same, usedBy, nodeOf, nodesFit, tree, byNodes}
+use Rattle.flat.specs.Record.{byDefinitions, byEquations, usedOnce, treesHold, ordered, definitionAt, equationAt, moduleOf, rules, Read, flatOf}
 use Rattle.flat.specs.Readable.{Readable}
 use Rattle.flat.proofs.Laws.{alike, every-at, and-left, and-right}
 use Rattle.flat.proofs.Nodes.{by-kind, for-4, for-5, for-7, for-8, at-infix, at-negate, at-constant, at-variable, settled}
@@ -57,7 +59,9 @@ total-exchange (suc n) m f =
 pub total-front : (n : ℕ) (f : ℕ → ℕ) → total (suc n) f ≡ f 0 + total n (λ k. f (suc k))
 unfolding total
 total-front zero f = omega arith
-total-front (suc n) f = ap (λ (x : ℕ). x + f (suc n)) (total-front n f) ∙ (let z : f 0 + total n (λ k. f (suc k)) + f (suc n) ≡ f 0 + (total n (λ k. f (suc k)) + f (suc n)) = omega arith in z)
+total-front (suc n) f =
+    ap (λ (x : ℕ). x + f (suc n)) (total-front n f)
+    ∙ (let z : f 0 + total n (λ k. f (suc k)) + f (suc n) ≡ f 0 + (total n (λ k. f (suc k)) + f (suc n)) = omega arith in z)
 
 -- the one k that is x
 same-here : (x k w : ℕ) → x ≡ k → same x k * w ≡ w
@@ -113,7 +117,8 @@ module _ (b : List ℕ) (at n limit : ℕ) (h : nodesFit b at n limit ≡ true) 
           ap treeNodes (t .2)
           ∙ ap suc
           (sym
-          (total-same n _ _ (λ k m. ap (λ (c : Bool). pick c (same x k + same y k) (pick (eqb kind 5) (same x k) 0) * weight k) (eq-eqb kind 4 e) ∙ add-mul (same x k) (same y k) (weight k))
+          (total-same n _ _ (λ k m. ap (λ (c : Bool). pick c (same x k + same y k) (pick (eqb kind 5) (same x k) 0) * weight k) (eq-eqb kind 4 e)
+          ∙ add-mul (same x k) (same y k) (weight k))
           ∙ total-sum n (λ k. same x k * weight k) (λ k. same y k * weight k)
           ∙ ap₂ (λ (p q : ℕ). p + q) (once n x weight (omega (arith, t .0))) (once n y weight (omega (arith, t .1)))))
 
@@ -123,12 +128,16 @@ module _ (b : List ℕ) (at n limit : ℕ) (h : nodesFit b at n limit ≡ true) 
           ap treeNodes (t .1)
           ∙ ap suc
           (sym
-          (total-same n _ _ (λ k m. ap (λ (c : Bool). pick c (same x k + same y k) (pick (eqb kind 5) (same x k) 0) * weight k) (ne-eqb kind 4 (λ q. omega arith)) ∙ ap (λ (c : Bool). pick c (same x k) 0 * weight k) (eq-eqb kind 5 e))
+          (total-same n _ _
+          (λ k m. ap (λ (c : Bool). pick c (same x k + same y k) (pick (eqb kind 5) (same x k) 0) * weight k) (ne-eqb kind 4 (λ q. omega arith))
+          ∙ ap (λ (c : Bool). pick c (same x k) 0 * weight k) (eq-eqb kind 5 e))
           ∙ once n x weight (omega (arith, t .0))))
 
       leaf : (kind ≡ 4 → ⊥) → (kind ≡ 5 → ⊥) → total n (λ k. usedBy k kind x y z * weight k) ≡ 0
       leaf n4 n5 =
-          total-same n _ _ (λ k m. ap (λ (c : Bool). pick c (same x k + same y k) (pick (eqb kind 5) (same x k) 0) * weight k) (ne-eqb kind 4 n4) ∙ ap (λ (c : Bool). pick c (same x k) 0 * weight k) (ne-eqb kind 5 n5) ∙ zero-mul (weight k))
+          total-same n _ _ (λ k m. ap (λ (c : Bool). pick c (same x k + same y k) (pick (eqb kind 5) (same x k) 0) * weight k) (ne-eqb kind 4 n4)
+          ∙ ap (λ (c : Bool). pick c (same x k) 0 * weight k) (ne-eqb kind 5 n5)
+          ∙ zero-mul (weight k))
           ∙ total-zero n
 
       seven : kind ≡ 7 → weight j ≡ suc (total n (λ k. usedBy k kind x y z * weight k))
@@ -160,7 +169,8 @@ module _ (b : List ℕ) (at n limit : ℕ) (h : nodesFit b at n limit ≡ true) 
     unfolding usedOnce
     one-use k l = eqb-true _ 1 (every-at n k (λ i. eqb (byDefinitions b d ds i + byEquations b e es i + byNodes b at n i) 1) o l)
 
-    weighed : total n weight ≡ total n (λ k. byDefinitions b d ds k * weight k) + total n (λ k. byEquations b e es k * weight k) + total n (λ k. byNodes b at n k * weight k)
+    weighed : total n weight
+        ≡ total n (λ k. byDefinitions b d ds k * weight k) + total n (λ k. byEquations b e es k * weight k) + total n (λ k. byNodes b at n k * weight k)
     weighed =
         total-same n _ _
         (λ k l.
@@ -169,7 +179,8 @@ module _ (b : List ℕ) (at n limit : ℕ) (h : nodesFit b at n limit ≡ true) 
         ∙ add-mul (byDefinitions b d ds k + byEquations b e es k) (byNodes b at n k) (weight k)
         ∙ ap (λ (x : ℕ). x + byNodes b at n k * weight k) (add-mul (byDefinitions b d ds k) (byEquations b e es k) (weight k)))
         ∙ total-sum n (λ k. byDefinitions b d ds k * weight k + byEquations b e es k * weight k) (λ k. byNodes b at n k * weight k)
-        ∙ ap (λ (x : ℕ). x + total n (λ k. byNodes b at n k * weight k)) (total-sum n (λ k. byDefinitions b d ds k * weight k) (λ k. byEquations b e es k * weight k))
+        ∙ ap (λ (x : ℕ). x + total n (λ k. byNodes b at n k * weight k))
+        (total-sum n (λ k. byDefinitions b d ds k * weight k) (λ k. byEquations b e es k * weight k))
 
     grown : total n weight ≡ n + total n (λ k. byNodes b at n k * weight k)
     grown =
@@ -188,7 +199,8 @@ module _ (b : List ℕ) (at n limit : ℕ) (h : nodesFit b at n limit ≡ true) 
         ∙ ap₂ (λ (x y : ℕ). x + y) (used-by es left (λ j l. eh j l .0)) (used-by es right (λ j l. eh j l .1))
         ∙ sym (total-sum es (λ j. weight (left j)) (λ j. weight (right j)))
 
-    roots-weigh : total ds (λ j. weight (definitionEntry b d j .node)) + total es (λ j. weight (equationEntry b e j .left) + weight (equationEntry b e j .right)) ≡ n
+    roots-weigh :
+        total ds (λ j. weight (definitionEntry b d j .node)) + total es (λ j. weight (equationEntry b e j .left) + weight (equationEntry b e j .right)) ≡ n
     unfolding byDefinitions
     roots-weigh = omega (arith, weighed, grown, used-by ds (λ j. definitionEntry b d j .node) dh, used-by-sides)
 
@@ -241,7 +253,8 @@ module _ (b : List ℕ) (r : rules b ≡ true) where
       let trees : ℕ → ℕ = λ k. treeNodes (tree b (nodesAt b) (nodes b) k) in
       ap₂ (λ (x y : ℕ). x + y)
       (definitions-total (definitions b) 0 (definitionAt b (definitionsAt b) (nodesAt b) (nodes b))
-      ∙ total-same (definitions b) _ _ (λ j l. let z : 0 + j ≡ j = omega arith in ap (λ (i : ℕ). trees (root i)) z ∙ at-root (root j) (definition-below q j l .1)))
+      ∙ total-same (definitions b) _ _
+      (λ j l. let z : 0 + j ≡ j = omega arith in ap (λ (i : ℕ). trees (root i)) z ∙ at-root (root j) (definition-below q j l .1)))
       (equations-total (equations b) 0 (equationAt b (equationsAt b) (nodesAt b) (nodes b))
       ∙ total-same (equations b) _ _
       (λ j l.

@@ -13,7 +13,8 @@ use Rattle.flat.specs.Rules.{All, Every, Ordered, Rising, WellFormed}
 use Rattle.flat.proofs.Laws.{and-left, and-right}
 use Rattle.flat.proofs.Nodes.{tree-below}
 use Rattle.flat.specs.Readable.{Readable}
-use Rattle.flat.proofs.Reading.{public-below, prover-below, prover-rises, definition-below, equation-below, tests-readable, accepted-measured, accepted-rules, accepted-module}
+use Rattle.flat.proofs.Reading.{public-below, prover-below, prover-rises, definition-below, equation-below}
+use Rattle.flat.proofs.Reading.{tests-readable, accepted-measured, accepted-rules, accepted-module}
 
 pub rows-all : {A : Type 0} (Q : A → Type 0) (f : ℕ → A) (n at : ℕ) → ((k : ℕ) → at ≤ k → k < at + n → Q (f k)) → All Q (rows n at f)
 unfolding rows
@@ -24,13 +25,20 @@ above : (f : ℕ → ℕ) (v n at : ℕ) → ((k : ℕ) → at ≤ k → k + 1 <
 unfolding rows
 above f v zero at h g = tt
 above f v (suc n) at h g =
-    let w : v < f at = g (omega arith) in
-    (w, above f v n (suc at) (λ k l p. h k (omega arith) (omega arith)) (λ p. let e : at + 1 ≡ suc at = omega arith in let u : f at < f (suc at) = rw e at (h at (omega arith) (omega arith)) in omega arith))
+    let w : v < f at = g (omega arith) in (
+      w,
+      above f v n (suc at) (λ k l p. h k (omega arith) (omega arith))
+          (λ p. let e : at + 1 ≡ suc at = omega arith in let u : f at < f (suc at) = rw e at (h at (omega arith) (omega arith)) in omega arith),
+    )
 
 rise : (f : ℕ → ℕ) (n at : ℕ) → ((k : ℕ) → at ≤ k → k + 1 < at + n → f k < f (k + 1)) → Rising (rows n at f)
 unfolding rows
 rise f zero at h = tt
-rise f (suc n) at h = (above f (f at) n (suc at) (λ k l p. h k (omega arith) (omega arith)) (λ p. let e : at + 1 ≡ suc at = omega arith in rw e at (h at (omega arith) (omega arith))), rise f n (suc at) (λ k l p. h k (omega arith) (omega arith)))
+rise f (suc n) at h = (
+  above f (f at) n (suc at) (λ k l p. h k (omega arith) (omega arith))
+      (λ p. let e : at + 1 ≡ suc at = omega arith in rw e at (h at (omega arith) (omega arith))),
+  rise f n (suc at) (λ k l p. h k (omega arith) (omega arith)),
+)
 
 pub every-tree : (p : ℕ → Bool) (t : Flat) → everyId p t ≡ true → Every (λ v. p v ≡ true) t
 unfolding everyId
@@ -75,11 +83,15 @@ module _ {b : List ℕ} (r : Readable b) where
 
   pub readable-definitions : All (λ d. (d .id < next b) × Every (λ v. v < next b) (d .right)) (moduleOf b .definitions)
   unfolding moduleOf definitionAt
-  readable-definitions = rows-all (λ d. (d .id < next b) × Every (λ v. v < next b) (d .right)) _ (definitions b) 0 (λ k l g. let w = definition-below r k (omega arith) in (w .0, deep _ (w .1)))
+  readable-definitions =
+      rows-all (λ d. (d .id < next b) × Every (λ v. v < next b) (d .right)) _ (definitions b) 0
+      (λ k l g. let w = definition-below r k (omega arith) in (w .0, deep _ (w .1)))
 
   pub readable-equations : All (λ e. Every (λ v. v < next b) (e .left) × Every (λ v. v < next b) (e .right)) (moduleOf b .equations)
   unfolding moduleOf equationAt
-  readable-equations = rows-all (λ e. Every (λ v. v < next b) (e .left) × Every (λ v. v < next b) (e .right)) _ (equations b) 0 (λ k l g. let w = equation-below r k (omega arith) in (deep _ (w .0), deep _ (w .1)))
+  readable-equations =
+      rows-all (λ e. Every (λ v. v < next b) (e .left) × Every (λ v. v < next b) (e .right)) _ (equations b) 0
+      (λ k l g. let w = equation-below r k (omega arith) in (deep _ (w .0), deep _ (w .1)))
 
 -- the last of the rules
 rules-ordered : (b : List ℕ) → rules b ≡ true → ordered (moduleOf b .definitions) ≡ true

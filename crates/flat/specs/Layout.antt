@@ -18,7 +18,8 @@ EQUATION-WORDS = 2
 
 -- ---- the header and the places of the lists
 
--- "Words: next id, counts of publics, prover ids, definitions, equations, nodes; public ids; prover ids; definitions (id, node); equations (node, node); nodes"
+-- "Words: next id, counts of publics, prover ids, definitions, equations, nodes; public ids; prover ids; definitions (id, node); equations (node, node);
+-- nodes"
 module _ (b : List ℕ) where
   abbrev pub next : ℕ
   next = wordAt b 0

@@ -1,5 +1,6 @@
 -- What a lent flat record is: its module, or 20 or 21. For a reader with document 01, "Flat record" and "Numbers by place of the check", beside it.
--- `b` is the list of its bytes, laid out as Layout.antt says. Each rule is a test for all indices below a count; 21 is one number for all its rules, so their order says nothing.
+-- `b` is the list of its bytes, laid out as Layout.antt says. Each rule is a test for all indices below a count; 21 is one number for all its rules, so their
+-- order says nothing.
 use Prim.Native.Nat.{ℕ, zero, suc, _+_, _-_, _*_}
 use mathlib.Core.List.{List, [], _∷_}
 use mathlib.Core.Bool.{Bool, true, false, not, _&&_}
@@ -94,7 +95,8 @@ unfoldable pub definitionAt : List ℕ → ℕ → ℕ → ℕ → ℕ → Defin
 definitionAt b at treesAt count j = record { id = definitionEntry b at j .id; right = tree b treesAt count (definitionEntry b at j .node) }
 
 unfoldable pub equationAt : List ℕ → ℕ → ℕ → ℕ → ℕ → Equation
-equationAt b at treesAt count j = record { left = tree b treesAt count (equationEntry b at j .left); right = tree b treesAt count (equationEntry b at j .right) }
+equationAt b at treesAt count j =
+    record { left = tree b treesAt count (equationEntry b at j .left); right = tree b treesAt count (equationEntry b at j .right) }
 
 unfoldable pub moduleOf : List ℕ → FlatModule
 moduleOf b = record {

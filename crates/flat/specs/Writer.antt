@@ -67,7 +67,8 @@ equationsTrees base (e ∷ es) =
     let middle = nextFrom base (e .left) in
     nodesFrom base (e .left) ++ (nodesFrom middle (e .right) ++ equationsTrees (nextFrom middle (e .right)) es)
 
--- "Words: next id, counts of publics, prover ids, definitions, equations, nodes; public ids; prover ids; definitions (id, node); equations (node, node); nodes"
+-- "Words: next id, counts of publics, prover ids, definitions, equations, nodes; public ids; prover ids; definitions (id, node); equations (node, node);
+-- nodes"
 unfoldable pub flatWords : FlatModule → List ℕ
 flatWords m =
     headerWords (m .next) (length (m .publics)) (length (m .provers)) (length (m .definitions)) (length (m .equations)) (moduleNodes m)

@@ -88,7 +88,8 @@ fn use_children(marks: &mut [u32; NODES], kind: usize, x: usize, y: usize)
 // Whether n nodes from word `at` on fit; then their children are marked.
 fn read_nodes(s: &[u8], at: usize, n: usize, limit: usize, marks: &mut [u32; NODES]) -> bool
     requires { ⌜ (4 * (at + 4 * n) ≤ length (now s)) × (n ≤ NODES) ⌝ }
-    ensures { λ r. ⌜ (r ≡ nodesFit (now (s .entry)) at n limit) × (r ≡ true → Adds (now (marks .entry)) (now (marks .exit)) (byNodes (now (s .entry)) at n)) ⌝ }
+    ensures { λ r.
+        ⌜ (r ≡ nodesFit (now (s .entry)) at n limit) × (r ≡ true → Adds (now (marks .entry)) (now (marks .exit)) (byNodes (now (s .entry)) at n)) ⌝ }
 {
     let mut k = 0usize;
     while k < n {
@@ -117,7 +118,8 @@ fn read_definitions(
     marks: &mut [u32; NODES],
 ) -> bool
     requires { ⌜ (4 * (at + DEFINITION-WORDS * n) ≤ length (now s)) × (nodes ≤ NODES) ⌝ }
-    ensures { λ r. ⌜ (r ≡ definitionsFit (now (s .entry)) at n limit nodes) × (r ≡ true → Adds (now (marks .entry)) (now (marks .exit)) (byDefinitions (now (s .entry)) at n)) ⌝ }
+    ensures { λ r. ⌜ (r ≡ definitionsFit (now (s .entry)) at n limit nodes)
+        × (r ≡ true → Adds (now (marks .entry)) (now (marks .exit)) (byDefinitions (now (s .entry)) at n)) ⌝ }
 {
     let mut k = 0usize;
     while k < n {
@@ -135,7 +137,8 @@ fn read_definitions(
 // Whether the sides of n equations from word `at` on are nodes; then these are marked.
 fn read_equations(s: &[u8], at: usize, n: usize, nodes: usize, marks: &mut [u32; NODES]) -> bool
     requires { ⌜ (4 * (at + EQUATION-WORDS * n) ≤ length (now s)) × (nodes ≤ NODES) ⌝ }
-    ensures { λ r. ⌜ (r ≡ equationsFit (now (s .entry)) at n nodes) × (r ≡ true → Adds (now (marks .entry)) (now (marks .exit)) (byEquations (now (s .entry)) at n)) ⌝ }
+    ensures { λ r.
+        ⌜ (r ≡ equationsFit (now (s .entry)) at n nodes) × (r ≡ true → Adds (now (marks .entry)) (now (marks .exit)) (byEquations (now (s .entry)) at n)) ⌝ }
 {
     let mut k = 0usize;
     while k < n {
@@ -177,7 +180,8 @@ pub fn trees_hold(
     t: usize,
     nodes: usize,
 ) -> bool
-    requires { ⌜ ((4 * (d + DEFINITION-WORDS * definitions) ≤ length (now s)) × (4 * (e + EQUATION-WORDS * equations) ≤ length (now s))) × ((4 * (t + 4 * nodes) ≤ length (now s)) × (nodes ≤ NODES)) ⌝ }
+    requires { ⌜ ((4 * (d + DEFINITION-WORDS * definitions) ≤ length (now s)) × (4 * (e + EQUATION-WORDS * equations) ≤ length (now s)))
+        × ((4 * (t + 4 * nodes) ≤ length (now s)) × (nodes ≤ NODES)) ⌝ }
     ensures { λ r. ⌜ r ≡ treesHold (now (s .entry)) next d definitions e equations t nodes ⌝ }
 {
     let mut marks = no_marks();

@@ -83,7 +83,8 @@ unfolding answerFor outputFor pick
 accepts (refused k) out n e = absurd (refused-written k n e)
 accepts (cut c) out n e = go (leb (length (constraintBytes c)) (length out)) refl e
   where
-    go : (t : Bool) → leb (length (constraintBytes c)) (length out) ≡ t → pick t (Written (length (constraintBytes c))) (Refused 33) ≡ Written n → Accepts (cut c) out n
+    go : (t : Bool) → leb (length (constraintBytes c)) (length out) ≡ t
+        → pick t (Written (length (constraintBytes c))) (Refused 33) ≡ Written n → Accepts (cut c) out n
     go true l q =
         let z : length (constraintBytes c) ≡ n = written-path _ n q in
         record { list = c; is-cut = refl; bytes = rw l (take-at (constraintBytes c) (drop (length (constraintBytes c)) out) n z); long = sym z }
@@ -93,7 +94,8 @@ accepts (cut c) out n e = go (leb (length (constraintBytes c)) (length out)) ref
 pub written-read-back : WrittenReadBack
 written-read-back b out len n e =
     let w = accepts (flattened b len) out n e in
-    let back : constraintOf (take n (outputFor out (flattened b len))) ≡ w .list = ap constraintOf (w .bytes) ∙ read-back (w .list) (flattened-signed b len (w .list) (w .is-cut)) in
+    let back : constraintOf (take n (outputFor out (flattened b len))) ≡ w .list =
+    ap constraintOf (w .bytes) ∙ read-back (w .list) (flattened-signed b len (w .list) (w .is-cut)) in
     (w .is-cut ∙ ap cut (sym back), ap constraintBytes back ∙ sym (w .bytes))
 
 module-flattened :

@@ -50,7 +50,8 @@ flattened-passed b len = go (sourceOf b)
     go (Read.refused n) = refl
 
 -- "Limits: .. 16,384 nodes"
-module-small : (b : List ℕ) (m : Module) (capacity : ℕ) (f : FlatModule) → sourceOf b ≡ Read.module-of m → evaluated capacity (numbered m) ≡ flat f → moduleNodes f ≤ 16384
+module-small : (b : List ℕ) (m : Module) (capacity : ℕ) (f : FlatModule) → sourceOf b ≡ Read.module-of m
+    → evaluated capacity (numbered m) ≡ flat f → moduleNodes f ≤ 16384
 module-small b m capacity f r e = evaluated-is-made m (next-fits b m r) capacity f e .nodes-fit
 
 pub evaluated-small : (b : List ℕ) (len : ℕ) (f : FlatModule) → evaluatedSource b len ≡ flat f → moduleNodes f ≤ 16384
@@ -65,11 +66,13 @@ evaluated-small b len f e = go (sourceOf b) refl e
 
 module _ (b : List ℕ) (len : ℕ) (r : FlatRecord) (is : r ≡ answered (evaluatedSource b len)) where
   -- a flat record: it is the front of the array, and says what was evaluated
-  answered-flat : (n : ℕ) → r .answer ≡ Answer.Flat n → (n ≤ BYTES) × (Readable (take n (r .bytes)) × (evaluatedSource b len ≡ flat (moduleOf (take n (r .bytes)))))
+  answered-flat : (n : ℕ) → r .answer ≡ Answer.Flat n
+      → (n ≤ BYTES) × (Readable (take n (r .bytes)) × (evaluatedSource b len ≡ flat (moduleOf (take n (r .bytes)))))
   unfolding answered
   answered-flat n a = go (evaluatedSource b len) refl is
     where
-      go : (x : Evaluated) → evaluatedSource b len ≡ x → r ≡ answered x → (n ≤ BYTES) × (Readable (take n (r .bytes)) × (evaluatedSource b len ≡ flat (moduleOf (take n (r .bytes)))))
+      go : (x : Evaluated) → evaluatedSource b len ≡ x → r ≡ answered x
+          → (n ≤ BYTES) × (Readable (take n (r .bytes)) × (evaluatedSource b len ≡ flat (moduleOf (take n (r .bytes)))))
       go (flat m) e q =
           let recorded = source-recorded b len m e in
           let long = flat-answers n (length (flatBytes m)) (sym a ∙ ap (λ (r : FlatRecord). r .answer) q) in
@@ -104,6 +107,7 @@ passable b len n r is a =
     }
 
 -- a refusal
-pub refused-gives : (b : List ℕ) (len n : ℕ) (r : FlatRecord) → r ≡ answered (evaluatedSource b len) → r .answer ≡ Answer.Refused n → flattened b len ≡ refused n
+pub refused-gives : (b : List ℕ) (len n : ℕ) (r : FlatRecord) → r ≡ answered (evaluatedSource b len) → r .answer ≡ Answer.Refused n
+    → flattened b len ≡ refused n
 unfolding passed
 refused-gives b len n r is a = flattened-passed b len ∙ ap passed (answered-refused b len r is n a)

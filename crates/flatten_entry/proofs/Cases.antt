@@ -15,7 +15,8 @@ use Rattle.source.specs.Indices.{every, total, rows, pick}
 use Rattle.source.specs.Layout.{listed, names}
 use Rattle.source.specs.Layout
 use Rattle.source.specs.Names.{offsetOf, lengthOf, endOf, printed, nameFits, namesFit, sameBytes, sameName, nameNew, namesDiffer, nameOf}
-use Rattle.source.specs.Nodes.{operatorOf, infixFor, entryFor, entryOf, isExpression, isPattern, expressionFits, patternFits, itemFits, resultFits, linkFits, chainFits, childFits, childrenFit, nodesFit, definitionsFit, expressionsFit, publicsFit}
+use Rattle.source.specs.Nodes.{operatorOf, infixFor, entryFor, entryOf, isExpression, isPattern, expressionFits, patternFits, itemFits}
+use Rattle.source.specs.Nodes.{resultFits, linkFits, chainFits, childFits, childrenFit, nodesFit, definitionsFit, expressionsFit, publicsFit}
 use Rattle.source.specs.Uses.{same, resultUses, linkUses, chainUses, childUses, childrenUse, byNodes, byDefinitions, byExpressions}
 use Rattle.source.specs.Record.{expressionOf, patternOf, linkOf, grown, tree, definitionAt, expressionAt, moduleOf, shaped, usedOnce, sourceOf}
 use Rattle.source.specs.Record
@@ -49,7 +50,12 @@ t becomes s = record { left = t; right = s }
 infix 70 _becomes_
 -- def y = 1 / x
 abbrev pub unused : Module
-unused = record { names = (121 ∷ []) ∷ (120 ∷ []) ∷ []; publics = []; definitions = (variableP 0, binary Divide (constant (pos 1)) (variable 1)) ∷ []; expressions = [] }
+unused = record {
+  names = (121 ∷ []) ∷ (120 ∷ []) ∷ [];
+  publics = [];
+  definitions = (variableP 0, binary Divide (constant (pos 1)) (variable 1)) ∷ [];
+  expressions = [];
+}
 
 -- the bytes of examples/product.record: pub z; def y = (x + 1) * x; def u = 1 / x; y = z
 abbrev pub product : List ℕ
@@ -119,5 +125,15 @@ answers (c ∷ cs) = c .answer ∷ answers cs
 
 -- EVERY CASE HOLDS
 pub cases-hold : worked-out cases ≡ answers cases
-unfolding answerOf flattened flattenedRead flattenedOf passed capacityOf update Passes.member Passes.keepIf Passes.those Passes.most Passes.isNever Passes.isWitness Passes.markUsed Passes.usedIn Passes.override Passes.classifyDef Passes.classified Passes.usage Passes.idsFrom Passes.classifyDefs Passes.follow Passes.walk Passes.toExpr Passes.copyPropagateExpr Passes.substituting Passes.copyPropagateDef Passes.afterDef Passes.copyPropagateDefs Passes.afterDefs Passes.copyPropagateEquations Passes.copyPropagate Passes.sameNumber Passes.dead Passes.alive Passes.eliminateDeadEqualities Passes.isOne Passes.isZero Passes.when Passes.infixOp Passes.orVariable Passes.pushConstraintDef Passes.copied Passes.flattenExprTo3ac Passes.cutsOf Passes.joined Passes.flattenDefTo3ac Passes.flattenDefs Passes.sides Passes.flattenSides Passes.flattenEquations Passes.flattenLists Passes.flattenModuleTo3ac Passes.passes Passes.cuttable Passes.cuttableExpr Passes.cuttableDefs Passes.cuttableEquations Passes.counted Passes.unless Passes.fitting Passes.cutOf wordAt bytesOf every total rows pick Layout.counted listed offsetOf lengthOf endOf printed nameFits namesFit sameBytes sameName nameNew namesDiffer nameOf operatorOf infixFor entryFor entryOf isExpression isPattern expressionFits patternFits itemFits resultFits linkFits chainFits childFits childrenFit nodesFit definitionsFit expressionsFit publicsFit same resultUses linkUses chainUses childUses childrenUse byNodes byDefinitions byExpressions expressionOf patternOf linkOf grown tree definitionAt expressionAt moduleOf shaped usedOnce Record.unless sourceOf
+unfolding answerOf flattened flattenedRead flattenedOf passed capacityOf update Passes.member Passes.keepIf Passes.those Passes.most Passes.isNever
+    Passes.isWitness Passes.markUsed Passes.usedIn Passes.override Passes.classifyDef Passes.classified Passes.usage Passes.idsFrom Passes.classifyDefs
+    Passes.follow Passes.walk Passes.toExpr Passes.copyPropagateExpr Passes.substituting Passes.copyPropagateDef Passes.afterDef Passes.copyPropagateDefs
+    Passes.afterDefs Passes.copyPropagateEquations Passes.copyPropagate Passes.sameNumber Passes.dead Passes.alive Passes.eliminateDeadEqualities Passes.isOne
+    Passes.isZero Passes.when Passes.infixOp Passes.orVariable Passes.pushConstraintDef Passes.copied Passes.flattenExprTo3ac Passes.cutsOf Passes.joined
+    Passes.flattenDefTo3ac Passes.flattenDefs Passes.sides Passes.flattenSides Passes.flattenEquations Passes.flattenLists Passes.flattenModuleTo3ac
+    Passes.passes Passes.cuttable Passes.cuttableExpr Passes.cuttableDefs Passes.cuttableEquations Passes.counted Passes.unless Passes.fitting Passes.cutOf
+    wordAt bytesOf every total rows pick Layout.counted listed offsetOf lengthOf endOf printed nameFits namesFit sameBytes sameName nameNew namesDiffer
+    nameOf operatorOf infixFor entryFor entryOf isExpression isPattern expressionFits patternFits itemFits resultFits linkFits chainFits childFits childrenFit
+    nodesFit definitionsFit expressionsFit publicsFit same resultUses linkUses chainUses childUses childrenUse byNodes byDefinitions byExpressions expressionOf
+    patternOf linkOf grown tree definitionAt expressionAt moduleOf shaped usedOnce Record.unless sourceOf
 cases-hold = refl

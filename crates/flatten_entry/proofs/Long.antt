@@ -89,11 +89,22 @@ module _ (b : List ℕ) where
 -- the header of a front is the header
 word-taken : (n : ℕ) (b : List ℕ) (k : ℕ) → 4 * k + 4 ≤ n → wordAt (take n b) k ≡ wordAt b k
 unfolding wordAt
-word-taken n b k l = rw (getD-take {A = ℕ} n b (4 * k) 0 (omega arith), getD-take {A = ℕ} n b (4 * k + 1) 0 (omega arith), getD-take {A = ℕ} n b (4 * k + 2) 0 (omega arith), getD-take {A = ℕ} n b (4 * k + 3) 0 (omega arith)) refl
+word-taken n b k l = rw (
+  getD-take {A = ℕ} n b (4 * k) 0 (omega arith),
+  getD-take {A = ℕ} n b (4 * k + 1) 0 (omega arith),
+  getD-take {A = ℕ} n b (4 * k + 2) 0 (omega arith),
+  getD-take {A = ℕ} n b (4 * k + 3) 0 (omega arith),
+) refl
 
 early-taken : (n : ℕ) (b : List ℕ) → 20 ≤ n → early (take n b) ≡ early b
 unfolding counted
-early-taken n b l = rw (word-taken n b 0 (omega arith), word-taken n b 1 (omega arith), word-taken n b 2 (omega arith), word-taken n b 3 (omega arith), word-taken n b 4 (omega arith)) refl
+early-taken n b l = rw (
+  word-taken n b 0 (omega arith),
+  word-taken n b 1 (omega arith),
+  word-taken n b 2 (omega arith),
+  word-taken n b 3 (omega arith),
+  word-taken n b 4 (omega arith),
+) refl
 
 pub front-read : (b : List ℕ) (n : ℕ) → BYTES < n → sourceOf (take n b) ≡ sourceOf b
 front-read b n l = go (way (ltb n (length b)))

@@ -1,4 +1,5 @@
--- No constraint record of a source record is longer than 1,016,088 bytes: 64 publics, 65,536 prover ids, 16,384 equalities, 4,096 kept definitions, 16,384 nodes.
+-- No constraint record of a source record is longer than 1,016,088 bytes: 64 publics, 65,536 prover ids, 16,384 equalities, 4,096 kept definitions, 16,384
+-- nodes.
 -- Assumes nothing.
 use Prim.Native.Nat.{ℕ, zero, suc, _+_, _≤_}
 use mathlib.Core.Path.{_≡_, refl, sym, ap, subst}
@@ -15,7 +16,9 @@ use Rattle.constraint.specs.declared.Term.{Term}
 use Rattle.constraint.specs.Trees.{ConstraintModule}
 use Rattle.constraint.specs.Record.{constraintBytes}
 use Rattle.constraint.proofs.Lengths.{length-bytes}
-use Rattle.pass_trees.specs.Passes.{keepIf, idsFrom, member, those, isNever, isWitness, usage, classifyDefs, Substitutions, copyPropagateDef, afterDef, copyPropagateDefs, afterDefs, copyPropagate, eliminateDeadEqualities, Cuts, cutsOf, joined, flattenDefTo3ac, flattenDefs, flattenLists, flattenModuleTo3ac, passes, cut, refused}
+use Rattle.pass_trees.specs.Passes.{keepIf, idsFrom, member, those, isNever, isWitness, usage, classifyDefs, Substitutions}
+use Rattle.pass_trees.specs.Passes.{copyPropagateDef, afterDef, copyPropagateDefs, afterDefs, copyPropagate, eliminateDeadEqualities, Cuts}
+use Rattle.pass_trees.specs.Passes.{cutsOf, joined, flattenDefTo3ac, flattenDefs, flattenLists, flattenModuleTo3ac, passes, cut, refused}
 use Rattle.pass_trees.proofs.Agreement.{accepted}
 use Rattle.pass_3ac.specs.declared.Target.the-variants.{Given}
 use Rattle.pass_3ac.specs.Cutting.{targetOf, treeCut, equationsCut}
@@ -55,7 +58,8 @@ unfolding those keepIf definitionsNodes
 those-nodes t [] = omega arith
 those-nodes t (d ∷ ds) = go (t (d .id)) (those-nodes t ds)
   where
-    go : (c : Bool) → definitionsNodes (those t ds) ≤ definitionsNodes ds → definitionsNodes (keepIf c d (those t ds)) ≤ treeNodes (d .right) + definitionsNodes ds
+    go : (c : Bool) → definitionsNodes (those t ds) ≤ definitionsNodes ds
+        → definitionsNodes (keepIf c d (those t ds)) ≤ treeNodes (d .right) + definitionsNodes ds
     go true h = omega arith
     go false h = omega arith
 
@@ -71,7 +75,8 @@ module _ (ps : List ℕ) (k : ℕ) where
   copies-few s (d ∷ ds) = ap suc (copies-few (afterDef ps k s d) ds)
 
   -- an equality for each node at most
-  definitions-cut : (s : Substitutions) (ds : List Definition) (n : ℕ) → length (flattenDefs ps (copyPropagateDefs ps k s ds) n .equalities) ≤ definitionsNodes ds
+  definitions-cut : (s : Substitutions) (ds : List Definition) (n : ℕ)
+      → length (flattenDefs ps (copyPropagateDefs ps k s ds) n .equalities) ≤ definitionsNodes ds
   unfolding copyPropagateDefs copyPropagateDef definitionsNodes flattenDefs flattenDefTo3ac joined cutsOf treeCut targetOf
   definitions-cut s [] n = omega arith
   definitions-cut s (d ∷ ds) n =
@@ -115,8 +120,18 @@ module _ (f : FlatModule) where
   unfolding passes flattenModuleTo3ac eliminateDeadEqualities copyPropagate classifyDefs
   passes-kept =
       let copies : List Definition = copyPropagateDefs provers (length used) (λ _. none) used in (
-        omega (arith, those-few (λ v. member v provers) copies, copies-few provers (length used) (λ _. none) used, those-few (λ v. not (isNever (usage f v))) (f .definitions)),
-        omega (arith, those-nodes (λ v. member v provers) copies, copies-nodes provers (length used) (λ _. none) used, those-nodes (λ v. not (isNever (usage f v))) (f .definitions)),
+        omega (
+          arith,
+          those-few (λ v. member v provers) copies,
+          copies-few provers (length used) (λ _. none) used,
+          those-few (λ v. not (isNever (usage f v))) (f .definitions),
+        ),
+        omega (
+          arith,
+          those-nodes (λ v. member v provers) copies,
+          copies-nodes provers (length used) (λ _. none) used,
+          those-nodes (λ v. not (isNever (usage f v))) (f .definitions),
+        ),
       )
 
   pub passes-provers : length (passes f .provers) ≤ f .next
@@ -162,7 +177,8 @@ pub longest-record : LongestRecord
 unfolding flattened flattenedRead flattenedOf passed
 longest-record b len c e = go (sourceOf b) refl e
   where
-    at : (m : Module) (v : Evaluated) → sourceOf b ≡ Read.module-of m → evaluated (capacityOf len) (numbered m) ≡ v → passed v ≡ cut c → length (constraintBytes c) ≤ OUTPUT-BYTES
+    at : (m : Module) (v : Evaluated) → sourceOf b ≡ Read.module-of m → evaluated (capacityOf len) (numbered m) ≡ v → passed v ≡ cut c
+        → length (constraintBytes c) ≤ OUTPUT-BYTES
     at m (flat f) r q k = subst (λ (x : ConstraintModule). length (constraintBytes x) ≤ OUTPUT-BYTES) (accepted f c k .1) (short b m r (capacityOf len) f q)
     at m (refusal n) r q k = absurd (refused-cut n c k)
 

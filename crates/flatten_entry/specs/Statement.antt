@@ -1,5 +1,5 @@
--- Demand 3, about the bytes: a plain source record and the constraint record that `flatten` writes for it say the same. Then what can be read back of any record,
--- and what the programs rely on. Proved in proofs/ (Agreement, Long, Longest).
+-- Demand 3, about the bytes: a plain source record and the constraint record that `flatten` writes for it say the same. Then what can be read back of any
+-- record, and what the programs rely on. Proved in proofs/ (Agreement, Long, Longest).
 use mathlib.Core.Path.{_≡_}
 use mathlib.Core.Bool.{true}
 use mathlib.Core.List.{List}

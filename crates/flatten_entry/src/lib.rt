@@ -18,7 +18,8 @@ ghost use Rattle.records.specs.FlatRecord.{NODES};
 // The passes on the flat record in the first n bytes.
 fn pass_on(bytes: &[u8], n: usize, out: &mut [u8]) -> Answer
     requires { ⌜ (n ≤ length (now bytes)) × (Readable (take n (now bytes)) × (moduleNodes (moduleOf (take n (now bytes))) ≤ NODES)) ⌝ }
-    ensures { λ r. ⌜ (r ≡ answerFor (length (now (out .entry))) (cutOf (moduleOf (take n (now (bytes .entry)))))) × (now (out .exit) ≡ outputFor (now (out .entry)) (cutOf (moduleOf (take n (now (bytes .entry)))))) ⌝ }
+    ensures { λ r. ⌜ (r ≡ answerFor (length (now (out .entry))) (cutOf (moduleOf (take n (now (bytes .entry))))))
+        × (now (out .exit) ≡ outputFor (now (out .entry)) (cutOf (moduleOf (take n (now (bytes .entry)))))) ⌝ }
 {
     passes(&bytes[..n], out)
 }

@@ -13,7 +13,8 @@ use Rattle.source.specs.declared.Chain.{Chain}
 use Rattle.source.specs.declared.Child.{Child}
 use Rattle.source.specs.declared.Children.{Children}
 use Rattle.source.specs.Indices.{pick}
-use Rattle.source.specs.Nodes.{entryOf, childrenOf, three, isExpression, isPattern, expressionFits, patternFits, itemFits, resultFits, linkFits, chainFits, childFits, childrenFit}
+use Rattle.source.specs.Nodes.{entryOf, childrenOf, three, isExpression, isPattern, expressionFits}
+use Rattle.source.specs.Nodes.{patternFits, itemFits, resultFits, linkFits, chainFits, childFits, childrenFit}
 use Rattle.numbering.specs.Walks.{weight, chainWeight, Walkable}
 use Rattle.numbering.proofs.Laws.{alike, and-left, and-right, or-second, not-both}
 use Rattle.numbering.proofs.Weights.{Linked, childWeight, resultWeight, children-fit, grows, chain-first, chain-grows, item-below}
@@ -61,7 +62,9 @@ module _ (b : List ℕ) (at n : ℕ) (W : Walkable b at n) where
         first-fits = and-left (childFits b at c k x) _ f;
         second-fits = and-left (childFits b at c k y) _ f2;
         third-fits = and-right (childFits b at c k y) _ f2;
-        weighs = λ own. grows b at c n (W .fit) own k l ∙ ap (λ (h : Children). own k + (childWeight b at n own (h .first) + (childWeight b at n own (h .second) + childWeight b at n own (h .third)))) s;
+        weighs = λ own.
+            grows b at c n (W .fit) own k l
+            ∙ ap (λ (h : Children). own k + (childWeight b at n own (h .first) + (childWeight b at n own (h .second) + childWeight b at n own (h .third)))) s;
       }
 
   pub pattern-child : (k x : ℕ) → childFits b at (W .count) k (Child.Pattern x) ≡ true → (x < k) × (isPattern (entryOf b at x) ≡ true)
@@ -82,7 +85,8 @@ module _ (b : List ℕ) (at n : ℕ) (W : Walkable b at n) where
 
   -- ---- links
 
-  link-fits : (h : Chain) (l x y z : ℕ) → chainFits b at h (suc l) l ≡ true → entryOf b at l ≡ Entry.Link x y z → (itemFits b at h l x && (resultFits b at h l z && (eqb y 4294967295 || chainFits b at h l y))) ≡ true
+  link-fits : (h : Chain) (l x y z : ℕ) → chainFits b at h (suc l) l ≡ true → entryOf b at l ≡ Entry.Link x y z
+      → (itemFits b at h l x && (resultFits b at h l z && (eqb y 4294967295 || chainFits b at h l y))) ≡ true
   unfolding chainFits linkFits
   link-fits h l x y z c e = ap (linkFits b at h (chainFits b at h l) l) (sym e) ∙ (rw (eq-eqb l l refl, chainFits) at c)
 
@@ -92,7 +96,8 @@ module _ (b : List ℕ) (at n : ℕ) (W : Walkable b at n) where
     pub result-fits : resultFits b at h l z ≡ true
     pub rest : (y ≡ 4294967295 → ⊥) → (y < l) × (chainFits b at h (suc y) y ≡ true)
     pub weighs-last : y ≡ 4294967295 → (own : ℕ → ℕ) → chainWeight b at n own h l ≡ weight b at own l + (weight b at own x + resultWeight b at own h z)
-    pub weighs-more : (y ≡ 4294967295 → ⊥) → (own : ℕ → ℕ) → chainWeight b at n own h l ≡ weight b at own l + (weight b at own x + (resultWeight b at own h z + chainWeight b at n own h y))
+    pub weighs-more : (y ≡ 4294967295 → ⊥) → (own : ℕ → ℕ)
+        → chainWeight b at n own h l ≡ weight b at own l + (weight b at own x + (resultWeight b at own h z + chainWeight b at n own h y))
 
   pub link-facts : (h : Chain) (l : ℕ) {x y z : ℕ} → l < n → chainFits b at h (suc l) l ≡ true → entryOf b at l ≡ Entry.Link x y z → Link-facts h l x y z
   unfolding pick
@@ -109,11 +114,14 @@ module _ (b : List ℕ) (at n : ℕ) (W : Walkable b at n) where
         result-fits = f3;
         rest = λ m. chain-first b at h l y (or-second _ _ f4 (ne-eqb _ _ m));
         weighs-last = λ m own.
-            let t = ap (λ (t : Bool). weight b at own l + (weight b at own x + (resultWeight b at own h z + pick t 0 (chainWeight b at n own h y)))) (eq-eqb y 4294967295 m) in
+            let t = ap (λ (t : Bool). weight b at own l + (weight b at own x + (resultWeight b at own h z + pick t 0 (chainWeight b at n own h y))))
+            (eq-eqb y 4294967295 m) in
             let u : resultWeight b at own h z + 0 ≡ resultWeight b at own h z = omega arith in
             chain-grows b at (W .count) n (W .fit) own h l k q ∙ t ∙ ap (λ (v : ℕ). weight b at own l + (weight b at own x + v)) u;
         weighs-more = λ m own.
-            chain-grows b at (W .count) n (W .fit) own h l k q ∙ ap (λ (t : Bool). weight b at own l + (weight b at own x + (resultWeight b at own h z + pick t 0 (chainWeight b at n own h y)))) (ne-eqb y 4294967295 m);
+            chain-grows b at (W .count) n (W .fit) own h l k q
+            ∙ ap (λ (t : Bool). weight b at own l + (weight b at own x + (resultWeight b at own h z + pick t 0 (chainWeight b at n own h y))))
+            (ne-eqb y 4294967295 m);
       }
 
   pub pattern-item : (l x : ℕ) → patternFits b at l x ≡ true → (x < l) × (isPattern (entryOf b at x) ≡ true)

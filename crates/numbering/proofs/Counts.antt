@@ -21,8 +21,12 @@ use Rattle.numbering.specs.Walks.{weight, chainWeight, Walkable}
 use Rattle.numbering.proofs.Laws.{alike, not-both}
 use Rattle.numbering.proofs.Sums.{same-no}
 use Rattle.numbering.proofs.Weights.{linked, childWeight, resultWeight}
-use Rattle.numbering.proofs.Grown.{Growing, numbered-grow, leaf-is, stem-is, product-is, cons-is, infix-is, application-is, negate-is, function-is, let-is, match-is, sequence-is, as-is, productP-is, consP-is, parameters-last, parameters-more, items-last, items-more, arms-last, arms-more}
-use Rattle.numbering.proofs.Children.{child-facts, pattern-child, expression-child, links-child, link-facts, pattern-item, expression-item, no-pattern-expression, no-pattern-link, no-pattern-bad, no-expression-pattern, no-expression-link, no-expression-bad}
+use Rattle.numbering.proofs.Grown.{Growing, numbered-grow, leaf-is, stem-is, product-is, cons-is, infix-is, application-is}
+use Rattle.numbering.proofs.Grown.{negate-is, function-is, let-is, match-is, sequence-is, as-is, productP-is, consP-is}
+use Rattle.numbering.proofs.Grown.{parameters-last, parameters-more, items-last, items-more, arms-last, arms-more}
+use Rattle.numbering.proofs.Children.{child-facts, pattern-child, expression-child, links-child, link-facts}
+use Rattle.numbering.proofs.Children.{pattern-item, expression-item, no-pattern-expression, no-pattern-link}
+use Rattle.numbering.proofs.Children.{no-pattern-bad, no-expression-pattern, no-expression-link, no-expression-bad}
 use Rattle.numbering.proofs.Parts.{index-at}
 
 unfoldable pub count : ℕ → List ℕ → ℕ

@@ -20,9 +20,12 @@ use Rattle.source.specs.Record.{Read, moduleOf, usedOnce, definitionAt, express
 use Rattle.source.specs.Readable.{Readable}
 use Rattle.source_check.specs.declared.Checked.{Checked}
 use Rattle.source_check.specs.Answer.{checked}
-use Rattle.numbering.specs.Numbering.{Ids, Names, Numbered, _>>=_, return, found, named, freshText, iterText, foldText, registered, numberModuleVariables, namesOf, numbered}
+use Rattle.numbering.specs.Numbering.{Ids, Names, Numbered, _>>=_, return, found, named, freshText, iterText}
+use Rattle.numbering.specs.Numbering.{foldText, registered, numberModuleVariables, namesOf, numbered}
 use Rattle.numbering.specs.Numbers.{NumberedIn, numberedModule, numberedDefinition, numberedExpression}
-use Rattle.numbering.specs.Walks.{weight, each, coded, Holds, names as both, noRow, noEntries, noPublics, Sizes, Room, Walkable, Ready, ReadyDefinitions, ReadyExpressions, sumFrom, definitionsWeight, expressionsWeight, Published, Registered, DefinitionsWalk, ExpressionsWalk}
+use Rattle.numbering.specs.Walks.{weight, each, coded, Holds, names as both, noRow, noEntries, noPublics, Sizes, Room}
+use Rattle.numbering.specs.Walks.{Walkable, Ready, ReadyDefinitions, ReadyExpressions, sumFrom, definitionsWeight}
+use Rattle.numbering.specs.Walks.{expressionsWeight, Published, Registered, DefinitionsWalk, ExpressionsWalk}
 use Rattle.numbering.proofs.Laws.{every-at, and-left, and-right}
 use Rattle.numbering.proofs.Sums.{total-same, total-sum, total-zero, total-add, total-extend, one-at-most, same-no, used-by}
 use Rattle.numbering.proofs.Weights.{roots-weigh}
@@ -58,7 +61,9 @@ append-none [] = refl
 append-none (e ∷ l) = ap (λ (r : Ids). e ∷ r) (append-none l)
 
 -- the three texts
-pub three-registered : (b : List ℕ) (text count : ℕ) {g₀ g₁ g₂ g₃ : List ℕ} → Registered b freshText text count 0 g₀ g₁ → Registered b iterText text count 2 g₁ g₂ → Registered b foldText text count 5 g₂ g₃ → Holds g₀ [] → Holds g₃ (registered (rows count 0 (nameOf b text)) .globals)
+pub three-registered : (b : List ℕ) (text count : ℕ) {g₀ g₁ g₂ g₃ : List ℕ} → Registered b freshText text count 0 g₀ g₁
+    → Registered b iterText text count 2 g₁ g₂ → Registered b foldText text count 5 g₂ g₃ → Holds g₀ []
+    → Holds g₃ (registered (rows count 0 (nameOf b text)) .globals)
 unfolding registered
 three-registered b text count r s t h =
     let q = t .holds _ (s .holds _ (r .holds [] h)) in
@@ -73,7 +78,9 @@ numbers-of n ps ds es = record { next = n; publics = ps; definitions = ds; expre
 total-front : (n : ℕ) (f : ℕ → ℕ) → total (suc n) f ≡ f 0 + total n (λ k. f (suc k))
 unfolding total
 total-front zero f = omega arith
-total-front (suc n) f = ap (λ (x : ℕ). x + f (suc n)) (total-front n f) ∙ (let z : f 0 + total n (λ k. f (suc k)) + f (suc n) ≡ f 0 + (total n (λ k. f (suc k)) + f (suc n)) = omega arith in z)
+total-front (suc n) f =
+    ap (λ (x : ℕ). x + f (suc n)) (total-front n f)
+    ∙ (let z : f 0 + total n (λ k. f (suc k)) + f (suc n) ≡ f 0 + (total n (λ k. f (suc k)) + f (suc n)) = omega arith in z)
 
 sum-total : (n i : ℕ) (f : ℕ → ℕ) → sumFrom n i f ≡ total n (λ j. f (i + j))
 unfolding sumFrom total
@@ -117,11 +124,14 @@ module _ (b : List ℕ) (Q : Readable b) where
       let fits = every-at (expressions b) j _ (Q .expressions-fit) l in
       expression-item b (nodesAt b) (nodes b) walk (nodes b) (expressionRoot b (expressionsAt b) j) fits .0
 
-  used : (c : ℕ) → c < nodes b → byNodes b (nodesAt b) (nodes b) c + (byDefinitions b (definitionsAt b) (definitions b) c + byExpressions b (expressionsAt b) (expressions b) c) ≡ 1
+  used : (c : ℕ) → c < nodes b
+      → byNodes b (nodesAt b) (nodes b) c + (byDefinitions b (definitionsAt b) (definitions b) c + byExpressions b (expressionsAt b) (expressions b) c) ≡ 1
   unfolding usedOnce
   used c l = eqb-true _ 1 (every-at (nodes b) c _ (Q .used-once) l)
 
-  definitions-weigh : (own : ℕ → ℕ) → total (nodes b) (λ c. byDefinitions b (definitionsAt b) (definitions b) c * weight b (nodesAt b) own c) ≡ definitionsWeight b (nodesAt b) (definitionsAt b) (definitions b) 0 own
+  definitions-weigh : (own : ℕ → ℕ)
+      → total (nodes b) (λ c. byDefinitions b (definitionsAt b) (definitions b) c * weight b (nodesAt b) own c)
+      ≡ definitionsWeight b (nodesAt b) (definitionsAt b) (definitions b) 0 own
   unfolding byDefinitions
   definitions-weigh own =
       let w : ℕ → ℕ = weight b (nodesAt b) own in
@@ -135,7 +145,9 @@ module _ (b : List ℕ) (Q : Readable b) where
       ∙ sym (total-sum d (λ j. w (p j)) (λ j. w (v j)))
       ∙ sym (sum-all d (λ j. w (p j) + w (v j)))
 
-  expressions-weigh : (own : ℕ → ℕ) → total (nodes b) (λ c. byExpressions b (expressionsAt b) (expressions b) c * weight b (nodesAt b) own c) ≡ expressionsWeight b (nodesAt b) (expressionsAt b) (expressions b) 0 own
+  expressions-weigh : (own : ℕ → ℕ)
+      → total (nodes b) (λ c. byExpressions b (expressionsAt b) (expressions b) c * weight b (nodesAt b) own c)
+      ≡ expressionsWeight b (nodesAt b) (expressionsAt b) (expressions b) 0 own
   unfolding byExpressions
   expressions-weigh own =
       let w : ℕ → ℕ = weight b (nodesAt b) own in
@@ -143,13 +155,18 @@ module _ (b : List ℕ) (Q : Readable b) where
       used-by (nodes b) (expressions b) r w expression-root ∙ sym (sum-all (expressions b) (λ j. w (r j)))
 
   -- THE LISTS WEIGH as much as all nodes
-  pub lists-weigh : (own : ℕ → ℕ) → definitionsWeight b (nodesAt b) (definitionsAt b) (definitions b) 0 own + expressionsWeight b (nodesAt b) (expressionsAt b) (expressions b) 0 own ≡ total (nodes b) own
+  pub lists-weigh : (own : ℕ → ℕ)
+      → definitionsWeight b (nodesAt b) (definitionsAt b) (definitions b) 0 own + expressionsWeight b (nodesAt b) (expressionsAt b) (expressions b) 0 own
+      ≡ total (nodes b) own
   lists-weigh own =
       sym (ap₂ (λ (x y : ℕ). x + y) (definitions-weigh own) (expressions-weigh own))
-      ∙ sym (total-add (nodes b) (byDefinitions b (definitionsAt b) (definitions b)) (byExpressions b (expressionsAt b) (expressions b)) (weight b (nodesAt b) own))
-      ∙ roots-weigh b (nodesAt b) (names b) (nodes b) (Q .nodes-fit) own (λ c. byDefinitions b (definitionsAt b) (definitions b) c + byExpressions b (expressionsAt b) (expressions b) c) used
+      ∙ sym (total-add (nodes b) (byDefinitions b (definitionsAt b) (definitions b)) (byExpressions b (expressionsAt b) (expressions b))
+      (weight b (nodesAt b) own))
+      ∙ roots-weigh b (nodesAt b) (names b) (nodes b) (Q .nodes-fit) own
+      (λ c. byDefinitions b (definitionsAt b) (definitions b) c + byExpressions b (expressionsAt b) (expressions b) c) used
 
-  lists-parts : Parts (total (nodes b)) (definitionsWeight b (nodesAt b) (definitionsAt b) (definitions b) 0) (expressionsWeight b (nodesAt b) (expressionsAt b) (expressions b) 0)
+  lists-parts : Parts (total (nodes b)) (definitionsWeight b (nodesAt b) (definitionsAt b) (definitions b) 0)
+      (expressionsWeight b (nodesAt b) (expressionsAt b) (expressions b) 0)
   lists-parts = record { hold = λ own. omega (arith, lists-weigh own) }
 
   room : (next : ℕ) → next ≤ 73 → Room (total (nodes b)) next 0
@@ -162,14 +179,20 @@ module _ (b : List ℕ) (Q : Readable b) where
   pub definitions-ready : (next : ℕ) → next ≤ 73 → ReadyDefinitions b (nodesAt b) (nodes b) (definitionsAt b) (definitions b) 0 next
   definitions-ready next l = record { walk = walk; room = room-first lists-parts (room next l) }
 
-  pub expressions-ready : (next next′ : ℕ) → next ≤ 73 → next′ ≤ next + definitionsWeight b (nodesAt b) (definitionsAt b) (definitions b) 0 each → ReadyExpressions b (nodesAt b) (nodes b) (expressionsAt b) (expressions b) 0 next′
+  pub expressions-ready : (next next′ : ℕ) → next ≤ 73 → next′ ≤ next + definitionsWeight b (nodesAt b) (definitionsAt b) (definitions b) 0 each
+      → ReadyExpressions b (nodesAt b) (nodes b) (expressionsAt b) (expressions b) 0 next′
   expressions-ready next next′ l q = record { walk = walk; room = room-second next′ lists-parts (room next l) q }
 
   none-behind : (j : ℕ) → nodes b ≤ j → total (nodes b) (same j) ≡ 0
   none-behind j l = total-same (nodes b) _ _ (λ k m. same-no j k (λ e. omega arith)) ∙ total-zero (nodes b)
 
-  module _ {locals globals public ids : List ℕ} {next₁ : ℕ} {globals₁ public₁ : List ℕ} {next₂ : ℕ} {locals₂ globals₂ undo₂ old₂ ids₂ : List ℕ} {next₃ : ℕ} {locals₃ globals₃ undo₃ old₃ ids₃ : List ℕ} where
-    pub entire : Published b (publicsAt b) (publics b) 0 9 locals globals public next₁ globals₁ public₁ → DefinitionsWalk b (nodesAt b) (nodes b) (definitionsAt b) (definitions b) 0 next₁ locals globals₁ ids next₂ locals₂ globals₂ undo₂ old₂ ids₂ → ExpressionsWalk b (nodesAt b) (nodes b) (expressionsAt b) (expressions b) 0 next₂ 0 locals₂ globals₂ undo₂ old₂ ids₂ next₃ locals₃ globals₃ undo₃ old₃ ids₃ → Holds locals [] → Holds globals (registered (rows (names b) 0 (nameOf b (textAt b))) .globals) → length ids ≡ 2048 → length public ≡ 64 → NumberedIn b ids public next₃ ids₃ public₁
+  module _ {locals globals public ids : List ℕ} {next₁ : ℕ} {globals₁ public₁ : List ℕ} {next₂ : ℕ} {locals₂ globals₂ undo₂ old₂ ids₂ : List ℕ} {next₃ : ℕ}
+      {locals₃ globals₃ undo₃ old₃ ids₃ : List ℕ} where
+    pub entire : Published b (publicsAt b) (publics b) 0 9 locals globals public next₁ globals₁ public₁
+        → DefinitionsWalk b (nodesAt b) (nodes b) (definitionsAt b) (definitions b) 0 next₁ locals globals₁ ids next₂ locals₂ globals₂ undo₂ old₂ ids₂
+        → ExpressionsWalk b (nodesAt b) (nodes b) (expressionsAt b) (expressions b) 0 next₂ 0 locals₂ globals₂ undo₂ old₂ ids₂ next₃ locals₃ globals₃ undo₃
+        old₃ ids₃ → Holds locals [] → Holds globals (registered (rows (names b) 0 (nameOf b (textAt b))) .globals) → length ids ≡ 2048 → length public ≡ 64
+        → NumberedIn b ids public next₃ ids₃ public₁
     unfolding numbered namesOf numberModuleVariables numberedModule moduleOf _>>=_ return registered
     entire p d x hl hg li lp =
         let g = registered (rows (names b) 0 (nameOf b (textAt b))) in
@@ -177,11 +200,19 @@ module _ (b : List ℕ) (Q : Readable b) where
         let once = room 0 (omega arith) .met-once in
         let dn = d .numbers [] (both (pn .0) next₁) ids₃ hl (pn .1 .1) refl (earlier ids₂ ids₃ ids₃ lists-parts once (x .elsewhere) (λ j l. refl)) in
         let xn = x .numbers (dn .0) (both (dn .1 .0) next₂) ids₃ (dn .1 .1 .1 .0) (dn .1 .1 .1 .1) refl (later ids₃ ids₃ lists-parts (λ j l. refl)) in
-        let run : numberModuleVariables (moduleOf b) g ≡ ((rows (publics b) 0 (λ k. getD public₁ k 0), rows (definitions b) 0 (numberedDefinition ids₃ b (nodesAt b) (nodes b) (definitionsAt b)), rows (expressions b) 0 (numberedExpression ids₃ b (nodesAt b) (nodes b) (expressionsAt b))), both (xn .0) next₃) = rw (pn .1 .0, dn .1 .1 .0, xn .1 .0) in
+        let run : numberModuleVariables (moduleOf b) g ≡ (
+          (
+            rows (publics b) 0 (λ k. getD public₁ k 0),
+            rows (definitions b) 0 (numberedDefinition ids₃ b (nodesAt b) (nodes b) (definitionsAt b)),
+            rows (expressions b) 0 (numberedExpression ids₃ b (nodesAt b) (nodes b) (expressionsAt b)),
+          ),
+          both (xn .0) next₃,
+        ) = rw (pn .1 .0, dn .1 .1 .0, xn .1 .0) in
         record {
           numbers = ap (λ (t : (List ℕ × List (Pat × Expr) × List Expr) × Names). numbers-of (t .1 .next) (t .0 .0) (t .0 .1) (t .0 .2)) run;
           ids-unnamed = λ j z. x .unnamed j z ∙ d .unnamed j z;
-          ids-behind = λ j l. x .elsewhere j (omega (arith, none-behind j l, lists-weigh (same j))) ∙ d .elsewhere j (omega (arith, none-behind j l, lists-weigh (same j)));
+          ids-behind = λ j l.
+              x .elsewhere j (omega (arith, none-behind j l, lists-weigh (same j))) ∙ d .elsewhere j (omega (arith, none-behind j l, lists-weigh (same j)));
           public-behind = λ j l. p .behind j (omega arith);
           ids-long = x .sizes .nodes ∙ sym li;
           public-long = p .long ∙ sym lp;
@@ -189,7 +220,8 @@ module _ (b : List ℕ) (Q : Readable b) where
 
 -- the same by a layout in a local
 module _ (b : List ℕ) (Q : Readable b) (l : Layout) (e : l ≡ layoutOf b) where
-  pub publics-asked : ((4 * (l .«publics_at» + l .publics) ≤ length b) × (publicsFit b (l .names) (l .«publics_at») (l .publics) ≡ true)) × ((l .names ≤ 512) × (l .publics ≤ 64))
+  pub publics-asked : ((4 * (l .«publics_at» + l .publics) ≤ length b) × (publicsFit b (l .names) (l .«publics_at») (l .publics) ≡ true))
+      × ((l .names ≤ 512) × (l .publics ≤ 64))
   unfolding layoutOf
   publics-asked = rw e ((omega (arith, Q .long), Q .publics-fit), (Q .names-few, Q .publics-few))
 
@@ -200,15 +232,24 @@ module _ (b : List ℕ) (Q : Readable b) (l : Layout) (e : l ≡ layoutOf b) whe
   unfolding layoutOf
   definitions-asked = rw e (λ next q. ((omega (arith, Q .long), Q .definitions-fit), definitions-ready b Q next (omega (arith, Q .publics-few))))
 
-  pub expressions-asked : (next next′ : ℕ) → next ≤ 9 + l .publics → next′ ≤ next + definitionsWeight b (l .«nodes_at») (l .«definitions_at») (l .definitions) 0 each → ((4 * (l .«expressions_at» + l .expressions) ≤ length b) × (expressionsFit b (l .«nodes_at») (l .nodes) (l .«expressions_at») (l .expressions) ≡ true)) × ReadyExpressions b (l .«nodes_at») (l .nodes) (l .«expressions_at») (l .expressions) 0 next′
+  pub expressions-asked : (next next′ : ℕ) → next ≤ 9 + l .publics
+      → next′ ≤ next + definitionsWeight b (l .«nodes_at») (l .«definitions_at») (l .definitions) 0 each
+      → ((4 * (l .«expressions_at» + l .expressions) ≤ length b) × (expressionsFit b (l .«nodes_at») (l .nodes) (l .«expressions_at») (l .expressions) ≡ true))
+      × ReadyExpressions b (l .«nodes_at») (l .nodes) (l .«expressions_at») (l .expressions) 0 next′
   unfolding layoutOf
-  expressions-asked = rw e (λ next next′ q r. ((omega (arith, Q .long), Q .expressions-fit), expressions-ready b Q next next′ (omega (arith, Q .publics-few)) r))
+  expressions-asked =
+      rw e (λ next next′ q r. ((omega (arith, Q .long), Q .expressions-fit), expressions-ready b Q next next′ (omega (arith, Q .publics-few)) r))
 
   pub names-asked : ((namesFit b (l .«text_at») (l .names) ≡ true) × (4 * (HEADER + NAME-WORDS * l .names) ≤ length b)) × (l .names ≤ 512)
   unfolding layoutOf
   names-asked = rw e ((Q .names-fit, omega (arith, Q .long)), Q .names-few)
 
-  pub entire-at : {locals globals public ids : List ℕ} {next₁ : ℕ} {globals₁ public₁ : List ℕ} {next₂ : ℕ} {locals₂ globals₂ undo₂ old₂ ids₂ : List ℕ} {next₃ : ℕ} {locals₃ globals₃ undo₃ old₃ ids₃ : List ℕ} → Published b (l .«publics_at») (l .publics) 0 9 locals globals public next₁ globals₁ public₁ → DefinitionsWalk b (l .«nodes_at») (l .nodes) (l .«definitions_at») (l .definitions) 0 next₁ locals globals₁ ids next₂ locals₂ globals₂ undo₂ old₂ ids₂ → ExpressionsWalk b (l .«nodes_at») (l .nodes) (l .«expressions_at») (l .expressions) 0 next₂ 0 locals₂ globals₂ undo₂ old₂ ids₂ next₃ locals₃ globals₃ undo₃ old₃ ids₃ → Holds locals [] → Holds globals (registered (rows (l .names) 0 (nameOf b (l .«text_at»))) .globals) → length ids ≡ 2048 → length public ≡ 64 → NumberedIn b ids public next₃ ids₃ public₁
+  pub entire-at : {locals globals public ids : List ℕ} {next₁ : ℕ} {globals₁ public₁ : List ℕ} {next₂ : ℕ} {locals₂ globals₂ undo₂ old₂ ids₂ : List ℕ}
+      {next₃ : ℕ} {locals₃ globals₃ undo₃ old₃ ids₃ : List ℕ} → Published b (l .«publics_at») (l .publics) 0 9 locals globals public next₁ globals₁ public₁
+      → DefinitionsWalk b (l .«nodes_at») (l .nodes) (l .«definitions_at») (l .definitions) 0 next₁ locals globals₁ ids next₂ locals₂ globals₂ undo₂ old₂ ids₂
+      → ExpressionsWalk b (l .«nodes_at») (l .nodes) (l .«expressions_at») (l .expressions) 0 next₂ 0 locals₂ globals₂ undo₂ old₂ ids₂ next₃ locals₃
+      globals₃ undo₃ old₃ ids₃ → Holds locals [] → Holds globals (registered (rows (l .names) 0 (nameOf b (l .«text_at»))) .globals) → length ids ≡ 2048
+      → length public ≡ 64 → NumberedIn b ids public next₃ ids₃ public₁
   unfolding layoutOf
   entire-at = rw e (λ p d x hl hg li lp. entire b Q p d x hl hg li lp)
 
@@ -219,5 +260,6 @@ refused-is (Read.module-of m) e = let z : _≡_ {A = ℕ} 0 1 = cc in absurd (om
 refused-is (Read.refused m) {n} e = let z : n ≡ m = cc in ap Read.refused (sym z)
 
 -- the same from equal arrays at the start
-pub numbered-from : {b ids public ids₀ public₀ : List ℕ} {next : ℕ} (ids′ public′ : List ℕ) → ids ≡ ids₀ → public ≡ public₀ → NumberedIn b ids public next ids′ public′ → NumberedIn b ids₀ public₀ next ids′ public′
+pub numbered-from : {b ids public ids₀ public₀ : List ℕ} {next : ℕ} (ids′ public′ : List ℕ) → ids ≡ ids₀ → public ≡ public₀
+    → NumberedIn b ids public next ids′ public′ → NumberedIn b ids₀ public₀ next ids′ public′
 numbered-from ids′ public′ e f n = rw (← e, ← f) n

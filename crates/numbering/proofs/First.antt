@@ -42,7 +42,9 @@ module _ (s t : List ℕ) (from n : ℕ) (fits : from + n ≤ length s) (e : n �
   rest-of-text : ℕ → Bool
   rest-of-text i = sameText (drop i t) (take (n - i) (drop (from + i) s))
 
-  rest-step : (i : ℕ) → i < n → sameText (drop i t) (take (n - i) (drop (from + i) s)) ≡ eqb (getD t i 0) (getD s (from + i) 0) && sameText (drop (i + 1) t) (take (n - (i + 1)) (drop (from + (i + 1)) s))
+  rest-step : (i : ℕ) → i < n
+      → sameText (drop i t) (take (n - i) (drop (from + i) s))
+      ≡ eqb (getD t i 0) (getD s (from + i) 0) && sameText (drop (i + 1) t) (take (n - (i + 1)) (drop (from + (i + 1)) s))
   unfolding sameText
   rest-step i l =
       let q : n - i ≡ suc (n - (i + 1)) = omega arith in
@@ -53,13 +55,18 @@ module _ (s t : List ℕ) (from n : ℕ) (fits : from + n ≤ length s) (e : n �
   pub text-start : sameText (drop 0 t) (take (n - 0) (drop (from + 0) s)) ≡ sameText t (take n (drop from s))
   text-start = let q : n - 0 ≡ n = omega arith in let r : from + 0 ≡ from = omega arith in ap₂ (λ (x y : ℕ). sameText t (take x (drop y s))) q r
 
-  pub text-differs : (i : ℕ) → i < n → (getD t i 0 ≡ getD s (from + i) 0 → ⊥) → sameText (drop i t) (take (n - i) (drop (from + i) s)) ≡ sameText t (take n (drop from s)) → false ≡ sameText t (take n (drop from s))
-  text-differs i l f q = sym (sym q ∙ rest-step i l ∙ ap (λ (b : Bool). b && sameText (drop (i + 1) t) (take (n - (i + 1)) (drop (from + (i + 1)) s))) (ne-eqb _ _ f))
+  pub text-differs : (i : ℕ) → i < n → (getD t i 0 ≡ getD s (from + i) 0 → ⊥)
+      → sameText (drop i t) (take (n - i) (drop (from + i) s)) ≡ sameText t (take n (drop from s)) → false ≡ sameText t (take n (drop from s))
+  text-differs i l f q =
+      sym (sym q ∙ rest-step i l ∙ ap (λ (b : Bool). b && sameText (drop (i + 1) t) (take (n - (i + 1)) (drop (from + (i + 1)) s))) (ne-eqb _ _ f))
 
-  pub text-more : (i : ℕ) → i < n → getD t i 0 ≡ getD s (from + i) 0 → sameText (drop i t) (take (n - i) (drop (from + i) s)) ≡ sameText t (take n (drop from s)) → sameText (drop (i + 1) t) (take (n - (i + 1)) (drop (from + (i + 1)) s)) ≡ sameText t (take n (drop from s))
+  pub text-more : (i : ℕ) → i < n → getD t i 0 ≡ getD s (from + i) 0
+      → sameText (drop i t) (take (n - i) (drop (from + i) s)) ≡ sameText t (take n (drop from s))
+      → sameText (drop (i + 1) t) (take (n - (i + 1)) (drop (from + (i + 1)) s)) ≡ sameText t (take n (drop from s))
   text-more i l f q = sym (rest-step i l ∙ ap (λ (b : Bool). b && sameText (drop (i + 1) t) (take (n - (i + 1)) (drop (from + (i + 1)) s))) (eq-eqb _ _ f)) ∙ q
 
-  pub text-same : (i : ℕ) → n ≤ i → i ≤ n → sameText (drop i t) (take (n - i) (drop (from + i) s)) ≡ sameText t (take n (drop from s)) → true ≡ sameText t (take n (drop from s))
+  pub text-same : (i : ℕ) → n ≤ i → i ≤ n → sameText (drop i t) (take (n - i) (drop (from + i) s)) ≡ sameText t (take n (drop from s))
+      → true ≡ sameText t (take n (drop from s))
   unfolding sameText
   text-same i l m q =
       let z : n - i ≡ 0 = omega arith in
@@ -80,13 +87,15 @@ unfolding every nameFits endOf
 name-ends b text zero k f l = absurd (omega arith)
 name-ends b text (suc n) k f l =
     ⊎-elim
-    (λ (q : k < n). omega (arith, name-ends b text n k (and-left _ _ f) q, eqb-true (offsetOf b n) (endOf b n) (and-left _ _ (and-right (every n (nameFits b text)) _ f))))
+    (λ (q : k < n).
+    omega (arith, name-ends b text n k (and-left _ _ f) q, eqb-true (offsetOf b n) (endOf b n) (and-left _ _ (and-right (every n (nameFits b text)) _ f))))
     (λ (q : n ≤ k). let e : k ≡ n = omega arith in rw e (omega arith))
     (split k n)
 
 pub name-within : (b : List ℕ) (text n k : ℕ) → namesFit b text n ≡ true → k < n → text + offsetOf b k + lengthOf b k ≤ length b
 unfolding namesFit
-name-within b text n k f l = omega (arith, name-ends b text n k (and-left _ _ f) l, eqb-true (text + endOf b n) (length b) (and-right (every n (nameFits b text)) _ f))
+name-within b text n k f l =
+    omega (arith, name-ends b text n k (and-left _ _ f) l, eqb-true (text + endOf b n) (length b) (and-right (every n (nameFits b text)) _ f))
 
 module _ (b t : List ℕ) (text count id : ℕ) where
   all : Ids
@@ -95,7 +104,9 @@ module _ (b t : List ℕ) (text count id : ℕ) where
   pub found-start : named t id 0 (rows (count - 0) 0 (nameOf b text)) ≡ named t id 0 (rows count 0 (nameOf b text))
   found-start = let q : count - 0 ≡ count = omega arith in ap (λ (m : ℕ). named t id 0 (rows m 0 (nameOf b text))) q
 
-  pub found-no : (k : ℕ) {r : Bool} → k < count → r ≡ sameText t (nameOf b text k) → r ≡ false → named t id k (rows (count - k) k (nameOf b text)) ≡ named t id 0 (rows count 0 (nameOf b text)) → named t id (k + 1) (rows (count - (k + 1)) (k + 1) (nameOf b text)) ≡ named t id 0 (rows count 0 (nameOf b text))
+  pub found-no : (k : ℕ) {r : Bool} → k < count → r ≡ sameText t (nameOf b text k) → r ≡ false
+      → named t id k (rows (count - k) k (nameOf b text)) ≡ named t id 0 (rows count 0 (nameOf b text))
+      → named t id (k + 1) (rows (count - (k + 1)) (k + 1) (nameOf b text)) ≡ named t id 0 (rows count 0 (nameOf b text))
   unfolding named
   found-no k l e f q =
       ap (λ (m : ℕ). named t id m (rows (count - (k + 1)) (k + 1) (nameOf b text))) (add-one k)
@@ -103,17 +114,21 @@ module _ (b t : List ℕ) (text count id : ℕ) where
       ∙ ap (named t id k) (sym (rows-step count k (nameOf b text) l))
       ∙ q
 
-  pub found-yes : (k : ℕ) {r : Bool} {globals : List ℕ} → k < count → count ≤ 512 → length globals ≡ 512 → r ≡ sameText t (nameOf b text k) → r ≡ true → named t id k (rows (count - k) k (nameOf b text)) ≡ named t id 0 (rows count 0 (nameOf b text)) → Registered b t text count id globals (set globals k (id + 1))
+  pub found-yes : (k : ℕ) {r : Bool} {globals : List ℕ} → k < count → count ≤ 512 → length globals ≡ 512 → r ≡ sameText t (nameOf b text k)
+      → r ≡ true → named t id k (rows (count - k) k (nameOf b text)) ≡ named t id 0 (rows count 0 (nameOf b text))
+      → Registered b t text count id globals (set globals k (id + 1))
   unfolding named
   found-yes k {globals = globals} l m z e f q =
       let w : named t id 0 (rows count 0 (nameOf b text)) ≡ (k, id) ∷ [] =
-      sym q ∙ ap (named t id k) (rows-step count k (nameOf b text) l) ∙ ap (λ (c : Bool). cond c ((k, id) ∷ []) (named t id (suc k) (rows (count - (k + 1)) (k + 1) (nameOf b text)))) (sym e ∙ f) in
+      sym q ∙ ap (named t id k) (rows-step count k (nameOf b text) l)
+      ∙ ap (λ (c : Bool). cond c ((k, id) ∷ []) (named t id (suc k) (rows (count - (k + 1)) (k + 1) (nameOf b text)))) (sym e ∙ f) in
       record {
         row = simp length-set z;
         holds = λ gs h. rw w (held-more globals gs k id h (omega arith));
       }
 
-  pub found-none : (k : ℕ) {globals : List ℕ} → count ≤ k → length globals ≡ 512 → named t id k (rows (count - k) k (nameOf b text)) ≡ named t id 0 (rows count 0 (nameOf b text)) → Registered b t text count id globals globals
+  pub found-none : (k : ℕ) {globals : List ℕ} → count ≤ k → length globals ≡ 512
+      → named t id k (rows (count - k) k (nameOf b text)) ≡ named t id 0 (rows count 0 (nameOf b text)) → Registered b t text count id globals globals
   unfolding named
   found-none k l z q =
       let w : named t id 0 (rows count 0 (nameOf b text)) ≡ [] = sym q ∙ ap (named t id k) (rows-none count k (nameOf b text) l) in
@@ -156,7 +171,8 @@ module _ (b : List ℕ) (list count : ℕ) where
             (z .0, (rw (rows-step count i (publicAt b list) l, ← ex, q .1 .0, z .1 .0, rows-step count i (λ k. getD public₂ k 0) l, here), z .1 .1));
       }
 
-  pub publics-end : (i : ℕ) {next : ℕ} {locals globals public : List ℕ} → count ≤ i → length globals ≡ 512 → length public ≡ 64 → Published b list (count - i) i next locals globals public next globals public
+  pub publics-end : (i : ℕ) {next : ℕ} {locals globals public : List ℕ} → count ≤ i → length globals ≡ 512 → length public ≡ 64
+      → Published b list (count - i) i next locals globals public next globals public
   unfolding numberPublics return
   publics-end i {public = public} l r z = record {
     more = omega arith;
@@ -168,5 +184,7 @@ module _ (b : List ℕ) (list count : ℕ) where
     numbers = λ g h k e. (g .globals, (rw (rows-none count i (publicAt b list) l, rows-none count i (λ k. getD public k 0) l, ← e), k));
   }
 
-  pub publics-start : {next : ℕ} {locals globals public : List ℕ} {next₂ : ℕ} {globals₂ public₂ : List ℕ} → Published b list (count - 0) 0 next locals globals public next₂ globals₂ public₂ → Published b list count 0 next locals globals public next₂ globals₂ public₂
+  pub publics-start : {next : ℕ} {locals globals public : List ℕ} {next₂ : ℕ} {globals₂ public₂ : List ℕ}
+      → Published b list (count - 0) 0 next locals globals public next₂ globals₂ public₂
+      → Published b list count 0 next locals globals public next₂ globals₂ public₂
   publics-start w = let e : count - 0 ≡ count = omega arith in rw e at w

@@ -45,7 +45,8 @@ module _ (T : ℕ → ℕ → Tree) (E : ℕ → Entry) (G : Growing T E) where
     unfolding grown
     leaf-is q = ap (λ (t : Tree). t .expression) (grown-at q)
 
-    pub product-is : {x y : ℕ} → E k ≡ Entry.Expression (Form.Product x y) → x < k → y < k → T n k .expression ≡ Expr.product (T n x .expression) (T n y .expression)
+    pub product-is : {x y : ℕ} → E k ≡ Entry.Expression (Form.Product x y) → x < k → y < k
+        → T n k .expression ≡ Expr.product (T n x .expression) (T n y .expression)
     unfolding expressionOf
     product-is {x} {y} q i j = leaf-is q ∙ ap₂ (λ (a b : Tree). Expr.product (a .expression) (b .expression)) (low x i) (low y j)
 
@@ -53,11 +54,13 @@ module _ (T : ℕ → ℕ → Tree) (E : ℕ → Entry) (G : Growing T E) where
     unfolding expressionOf
     cons-is {x} {y} q i j = leaf-is q ∙ ap₂ (λ (a b : Tree). Expr.cons (a .expression) (b .expression)) (low x i) (low y j)
 
-    pub infix-is : {o : InfixOp} {x y : ℕ} → E k ≡ Entry.Expression (Form.Infix o x y) → x < k → y < k → T n k .expression ≡ Expr.binary o (T n x .expression) (T n y .expression)
+    pub infix-is : {o : InfixOp} {x y : ℕ} → E k ≡ Entry.Expression (Form.Infix o x y) → x < k → y < k
+        → T n k .expression ≡ Expr.binary o (T n x .expression) (T n y .expression)
     unfolding expressionOf
     infix-is {o} {x} {y} q i j = leaf-is q ∙ ap₂ (λ (a b : Tree). Expr.binary o (a .expression) (b .expression)) (low x i) (low y j)
 
-    pub application-is : {x y : ℕ} → E k ≡ Entry.Expression (Form.Application x y) → x < k → y < k → T n k .expression ≡ Expr.application (T n x .expression) (T n y .expression)
+    pub application-is : {x y : ℕ} → E k ≡ Entry.Expression (Form.Application x y) → x < k → y < k
+        → T n k .expression ≡ Expr.application (T n x .expression) (T n y .expression)
     unfolding expressionOf
     application-is {x} {y} q i j = leaf-is q ∙ ap₂ (λ (a b : Tree). Expr.application (a .expression) (b .expression)) (low x i) (low y j)
 
@@ -65,13 +68,17 @@ module _ (T : ℕ → ℕ → Tree) (E : ℕ → Entry) (G : Growing T E) where
     unfolding expressionOf
     negate-is {x} q i = leaf-is q ∙ ap (λ (a : Tree). Expr.negate (a .expression)) (low x i)
 
-    pub function-is : {x y : ℕ} → E k ≡ Entry.Expression (Form.Function x y) → x < k → y < k → T n k .expression ≡ Expr.function (T n x .parameters) (T n y .expression) Env.empty
+    pub function-is : {x y : ℕ} → E k ≡ Entry.Expression (Form.Function x y) → x < k → y < k
+        → T n k .expression ≡ Expr.function (T n x .parameters) (T n y .expression) Env.empty
     unfolding expressionOf
     function-is {x} {y} q i j = leaf-is q ∙ ap₂ (λ (a b : Tree). Expr.function (a .parameters) (b .expression) Env.empty) (low x i) (low y j)
 
-    pub let-is : {p x y : ℕ} → E k ≡ Entry.Expression (Form.Let p x y) → p < k → x < k → y < k → T n k .expression ≡ Expr.letting (T n p .pattern) (T n x .expression) (T n y .expression)
+    pub let-is : {p x y : ℕ} → E k ≡ Entry.Expression (Form.Let p x y) → p < k → x < k → y < k
+        → T n k .expression ≡ Expr.letting (T n p .pattern) (T n x .expression) (T n y .expression)
     unfolding expressionOf
-    let-is {p} {x} {y} q h i j = leaf-is q ∙ ap₂ (λ (a b : Tree). Expr.letting (a .pattern) (b .expression) (T k y .expression)) (low p h) (low x i) ∙ ap (λ (a : Tree). Expr.letting (T n p .pattern) (T n x .expression) (a .expression)) (low y j)
+    let-is {p} {x} {y} q h i j =
+        leaf-is q ∙ ap₂ (λ (a b : Tree). Expr.letting (a .pattern) (b .expression) (T k y .expression)) (low p h) (low x i)
+        ∙ ap (λ (a : Tree). Expr.letting (T n p .pattern) (T n x .expression) (a .expression)) (low y j)
 
     pub match-is : {x y : ℕ} → E k ≡ Entry.Expression (Form.Match x y) → x < k → y < k → T n k .expression ≡ Expr.matching (T n x .expression) (T n y .arms)
     unfolding expressionOf
@@ -123,13 +130,16 @@ module _ (T : ℕ → ℕ → Tree) (E : ℕ → Entry) (G : Growing T E) where
       items-last e = ap (λ (t : Tree). t .items) (ends-by true (eq-eqb _ _ e)) ∙ ap (λ (a : Tree). Items.last (a .expression)) (low x i)
 
       pub arms-last : y ≡ 4294967295 → z < k → T n k .arms ≡ Arms.arm (T n x .pattern) (T n z .expression) Arms.noArm
-      arms-last e j = ap (λ (t : Tree). t .arms) (ends-by true (eq-eqb _ _ e)) ∙ ap₂ (λ (a b : Tree). Arms.arm (a .pattern) (b .expression) Arms.noArm) (low x i) (low z j)
+      arms-last e j =
+          ap (λ (t : Tree). t .arms) (ends-by true (eq-eqb _ _ e)) ∙ ap₂ (λ (a b : Tree). Arms.arm (a .pattern) (b .expression) Arms.noArm) (low x i) (low z j)
 
       pub parameters-more : (y ≡ 4294967295 → ⊥) → y < k → T n k .parameters ≡ T n x .pattern ∷ T n y .parameters
-      parameters-more e h = ap (λ (t : Tree). t .parameters) (ends-by false (ne-eqb _ _ e)) ∙ ap₂ (λ (a b : Tree). a .pattern ∷ b .parameters) (low x i) (low y h)
+      parameters-more e h =
+          ap (λ (t : Tree). t .parameters) (ends-by false (ne-eqb _ _ e)) ∙ ap₂ (λ (a b : Tree). a .pattern ∷ b .parameters) (low x i) (low y h)
 
       pub items-more : (y ≡ 4294967295 → ⊥) → y < k → T n k .items ≡ Items._then_ (T n x .expression) (T n y .items)
-      items-more e h = ap (λ (t : Tree). t .items) (ends-by false (ne-eqb _ _ e)) ∙ ap₂ (λ (a b : Tree). Items._then_ (a .expression) (b .items)) (low x i) (low y h)
+      items-more e h =
+          ap (λ (t : Tree). t .items) (ends-by false (ne-eqb _ _ e)) ∙ ap₂ (λ (a b : Tree). Items._then_ (a .expression) (b .items)) (low x i) (low y h)
 
       pub arms-more : (y ≡ 4294967295 → ⊥) → y < k → z < k → T n k .arms ≡ Arms.arm (T n x .pattern) (T n z .expression) (T n y .arms)
       arms-more e h j =

@@ -43,4 +43,6 @@ alike a b = alike-at (eqb a b) a b refl
 pub every-at : (n k : ℕ) (p : ℕ → Bool) → every n p ≡ true → k < n → p k ≡ true
 unfolding every
 every-at zero k p h l = absurd (omega arith)
-every-at (suc n) k p h l = ⊎-elim (λ (g : k < n). every-at n k p (and-left (every n p) (p n) h) g) (λ (g : n ≤ k). let e : k ≡ n = omega arith in rw e (and-right (every n p) (p n) h)) (split k n)
+every-at (suc n) k p h l =
+    ⊎-elim (λ (g : k < n). every-at n k p (and-left (every n p) (p n) h) g)
+    (λ (g : n ≤ k). let e : k ≡ n = omega arith in rw e (and-right (every n p) (p n) h)) (split k n)

@@ -14,7 +14,9 @@ use Rattle.source.specs.Record.{tree, definitionAt, expressionAt}
 use Rattle.source.specs.Layout.{definitionEntry, expressionRoot}
 use Rattle.numbering.specs.Numbering.{Ids, Names, Naming, _>>=_, return, numberDefVariables, numberDefinitions, numberExpressions}
 use Rattle.numbering.specs.Numbers.{numberedTree, numberedDefinition, numberedExpression}
-use Rattle.numbering.specs.Walks.{names, weight, each, Sizes, Room, Walkable, Ready, ReadyTwo, ReadyDefinitions, ReadyExpressions, Walked, Bound, Defined, sumFrom, definitionsWeight, expressionsWeight, PatternWalk, ExpressionWalk, DefinitionWalk, DefinitionsWalk, ExpressionsWalk}
+use Rattle.numbering.specs.Walks.{names, weight, each, Sizes, Room, Walkable, Ready, ReadyTwo, ReadyDefinitions}
+use Rattle.numbering.specs.Walks.{ReadyExpressions, Walked, Bound, Defined, sumFrom, definitionsWeight, expressionsWeight}
+use Rattle.numbering.specs.Walks.{PatternWalk, ExpressionWalk, DefinitionWalk, DefinitionsWalk, ExpressionsWalk}
 use Rattle.numbering.proofs.Laws.{every-at, and-left, and-right}
 use Rattle.numbering.proofs.Children.{pattern-item, expression-item}
 use Rattle.numbering.proofs.Scopes.{Weight, Parts, room-first, room-second, both-else, earlier, later, walked-none, walked-two}
@@ -23,11 +25,15 @@ use Rattle.numbering.proofs.Scopes.{Weight, Parts, room-first, room-sec
 
 pub sum-step : (n i : ℕ) (f : ℕ → ℕ) → i < n → sumFrom (n - i) i f ≡ f i + sumFrom (n - (i + 1)) (i + 1) f
 unfolding sumFrom
-sum-step n i f l = let e : n - i ≡ suc (n - (i + 1)) = omega arith in ap (λ (m : ℕ). sumFrom m i f) e ∙ ap (λ (j : ℕ). f i + sumFrom (n - (i + 1)) j f) (sym (add-one i))
+sum-step n i f l =
+    let e : n - i ≡ suc (n - (i + 1)) = omega arith in
+    ap (λ (m : ℕ). sumFrom m i f) e ∙ ap (λ (j : ℕ). f i + sumFrom (n - (i + 1)) j f) (sym (add-one i))
 
 pub rows-step : {A : Type 0} (n i : ℕ) (f : ℕ → A) → i < n → rows (n - i) i f ≡ f i ∷ rows (n - (i + 1)) (i + 1) f
 unfolding rows
-rows-step n i f l = let e : n - i ≡ suc (n - (i + 1)) = omega arith in ap (λ (m : ℕ). rows m i f) e ∙ ap (λ (j : ℕ). f i ∷ rows (n - (i + 1)) j f) (sym (add-one i))
+rows-step n i f l =
+    let e : n - i ≡ suc (n - (i + 1)) = omega arith in
+    ap (λ (m : ℕ). rows m i f) e ∙ ap (λ (j : ℕ). f i ∷ rows (n - (i + 1)) j f) (sym (add-one i))
 
 pub rows-none : {A : Type 0} (n i : ℕ) (f : ℕ → A) → n ≤ i → rows (n - i) i f ≡ []
 unfolding rows
@@ -44,7 +50,10 @@ module _ (b : List ℕ) (at n p v : ℕ) {next : ℕ} (R : ReadyTwo b at n isPat
   pub def-second : (next′ : ℕ) → next′ ≤ next + weight b at each v → Ready b at n isPattern p next′ 0
   def-second next′ q = record { walk = R .walk; below = R .first-below; sorted = R .first-sorted; room = room-second next′ def-parts (R .room) q }
 
-  pub def-way : {locals globals undo old ids : List ℕ} {next₁ : ℕ} {locals₁ globals₁ undo₁ old₁ ids₁ : List ℕ} {next₂ : ℕ} {locals₂ undo₂ old₂ ids₂ : List ℕ} → ExpressionWalk b at n v next 0 locals globals undo old ids next₁ locals₁ globals₁ undo₁ old₁ ids₁ → PatternWalk b at n p next₁ 0 locals₁ undo₁ old₁ ids₁ next₂ locals₂ undo₂ old₂ ids₂ → DefinitionWalk b at n p v next locals globals ids next₂ locals₂ globals₁ undo₂ old₂ ids₂
+  pub def-way : {locals globals undo old ids : List ℕ} {next₁ : ℕ} {locals₁ globals₁ undo₁ old₁ ids₁ : List ℕ} {next₂ : ℕ} {locals₂ undo₂ old₂ ids₂ : List ℕ}
+      → ExpressionWalk b at n v next 0 locals globals undo old ids next₁ locals₁ globals₁ undo₁ old₁ ids₁
+      → PatternWalk b at n p next₁ 0 locals₁ undo₁ old₁ ids₁ next₂ locals₂ undo₂ old₂ ids₂
+      → DefinitionWalk b at n p v next locals globals ids next₂ locals₂ globals₁ undo₂ old₂ ids₂
   unfolding numberDefVariables _>>=_ return
   def-way {ids = ids} {next₁ = next₁} {ids₁ = ids₁} {ids₂ = ids₂} u w = record {
     more = omega (arith, u .more, w .more);
@@ -55,12 +64,21 @@ module _ (b : List ℕ) (at n p v : ℕ) {next : ℕ} (R : ReadyTwo b at n isPat
     unnamed = λ j z. w .unnamed j z ∙ u .unnamed j z;
     numbers = λ l g final h k e a.
         let q = u .numbers l g final h k e (earlier ids₁ ids₂ final def-parts (R .room .met-once) (w .elsewhere) a) in
-        let z = w .numbers l (names (q .0) next₁) final (λ x m. ap (λ (t : List ℕ). getD t x 0) (u .same-locals) ∙ h x m) refl (later ids₂ final def-parts a) in
+        let z =
+        w .numbers l (names (q .0) next₁) final (λ x m. ap (λ (t : List ℕ). getD t x 0) (u .same-locals) ∙ h x m) refl (later ids₂ final def-parts a) in
         (z .0, (q .0, (rw (q .1 .0, z .1 .0), (z .1 .1, q .1 .1))));
   }
 
 -- one, then others
-pub defined-two : {A B C : Type 0} {named : ℕ → Bool} {w u v : Weight} {f : Ids → Naming (A × Ids)} {one : List ℕ → A} {g : Ids → Naming (B × Ids)} {two : List ℕ → B} {next : ℕ} {locals globals ids : List ℕ} {next₁ : ℕ} {locals₁ globals₁ undo₁ old₁ ids₁ : List ℕ} {next₂ : ℕ} {locals₂ globals₂ undo₂ old₂ ids₂ : List ℕ} (both : Ids → Naming (C × Ids)) (value : List ℕ → C) (make : A → B → C) → Parts w u v → ((j : ℕ) → w (same j) ≤ 1) → ((l : Ids) (s : Names) (a : A) (l₁ : Ids) (s₁ : Names) (b : B) (l₂ : Ids) (s₂ : Names) → f l s ≡ ((a, l₁), s₁) → g l₁ s₁ ≡ ((b, l₂), s₂) → both l s ≡ ((make a b, l₂), s₂)) → ((s : List ℕ) → value s ≡ make (one s) (two s)) → Defined named u f one next locals globals ids next₁ locals₁ globals₁ undo₁ old₁ ids₁ → Defined named v g two next₁ locals₁ globals₁ ids₁ next₂ locals₂ globals₂ undo₂ old₂ ids₂ → Defined named w both value next locals globals ids next₂ locals₂ globals₂ undo₂ old₂ ids₂
+pub defined-two : {A B C : Type 0} {named : ℕ → Bool} {w u v : Weight} {f : Ids → Naming (A × Ids)} {one : List ℕ → A} {g : Ids → Naming (B × Ids)}
+    {two : List ℕ → B} {next : ℕ} {locals globals ids : List ℕ} {next₁ : ℕ} {locals₁ globals₁ undo₁ old₁ ids₁ : List ℕ}
+    {next₂ : ℕ} {locals₂ globals₂ undo₂ old₂ ids₂ : List ℕ} (both : Ids → Naming (C × Ids)) (value : List ℕ → C) (make : A → B → C)
+    → Parts w u v → ((j : ℕ) → w (same j) ≤ 1)
+    → ((l : Ids) (s : Names) (a : A) (l₁ : Ids) (s₁ : Names) (b : B) (l₂ : Ids) (s₂ : Names) → f l s ≡ ((a, l₁), s₁)
+    → g l₁ s₁ ≡ ((b, l₂), s₂) → both l s ≡ ((make a b, l₂), s₂)) → ((s : List ℕ) → value s ≡ make (one s) (two s))
+    → Defined named u f one next locals globals ids next₁ locals₁ globals₁ undo₁ old₁ ids₁
+    → Defined named v g two next₁ locals₁ globals₁ ids₁ next₂ locals₂ globals₂ undo₂ old₂ ids₂
+    → Defined named w both value next locals globals ids next₂ locals₂ globals₂ undo₂ old₂ ids₂
 defined-two {ids = ids} {next₁ = next₁} {ids₁ = ids₁} {ids₂ = ids₂} both value make p once is val r s = record {
   more = omega (arith, r .more, s .more);
   few = omega (arith, p .hold each, r .few, s .few);
@@ -74,7 +92,9 @@ defined-two {ids = ids} {next₁ = next₁} {ids₁ = ids₁} {ids₂ = ids₂} 
       (z .0, (z .1 .0, (rw (val final) (is l g _ _ _ _ _ _ (q .1 .1 .0) (z .1 .1 .0)), z .1 .1 .1)));
 }
 
-pub defined-none : {A : Type 0} {named : ℕ → Bool} {w : Weight} {f : Ids → Naming (A × Ids)} {value : List ℕ → A} {next : ℕ} {locals globals undo old ids : List ℕ} → ((l : Ids) (g : Names) (final : List ℕ) → f l g ≡ ((value final, l), g)) → Sizes locals undo old ids → length globals ≡ 512 → Defined named w f value next locals globals ids next locals globals undo old ids
+pub defined-none : {A : Type 0} {named : ℕ → Bool} {w : Weight} {f : Ids → Naming (A × Ids)} {value : List ℕ → A} {next : ℕ}
+    {locals globals undo old ids : List ℕ} → ((l : Ids) (g : Names) (final : List ℕ) → f l g ≡ ((value final, l), g)) → Sizes locals undo old ids
+    → length globals ≡ 512 → Defined named w f value next locals globals ids next locals globals undo old ids
 defined-none is z r = record {
   more = omega arith;
   few = omega arith;
@@ -102,7 +122,15 @@ module _ (b : List ℕ) (at n list count : ℕ) where
       let w = every-at count i _ f l in
       let x = pattern-item b at n (R .walk) n (definitionEntry b list i .pattern) (and-left _ _ w) in
       let y = expression-item b at n (R .walk) n (definitionEntry b list i .value) (and-right (patternFits b at n (definitionEntry b list i .pattern)) _ w) in
-      rw (ep, ev) (record { walk = R .walk; within = omega arith; first-below = x .0; second-below = y .0; first-sorted = x .1; second-sorted = y .1; room = room-first (step-parts i l) (R .room) })
+      rw (ep, ev) (record {
+        walk = R .walk;
+        within = omega arith;
+        first-below = x .0;
+        second-below = y .0;
+        first-sorted = x .1;
+        second-sorted = y .1;
+        room = room-first (step-parts i l) (R .room);
+      })
 
   pub definitions-rest : (i next′ : ℕ) {p v next : ℕ} → p ≡ definitionEntry b list i .pattern → v ≡ definitionEntry b list i .value → i < count →
       ReadyDefinitions b at n list (count - i) i next → next′ ≤ next + (weight b at each p + weight b at each v) →
@@ -116,7 +144,8 @@ module _ (b : List ℕ) (at n list count : ℕ) where
       DefinitionsWalk b at n list (count - (i + 1)) (i + 1) next₁ locals₁ globals₁ ids₁ next₂ locals₂ globals₂ undo₂ old₂ ids₂ →
       DefinitionsWalk b at n list (count - i) i next locals globals ids next₂ locals₂ globals₂ undo₂ old₂ ids₂
   unfolding numberDefinitions _>>=_ return definitionAt numberedDefinition
-  definitions-step i {next = next} {locals = locals} {globals = globals} {ids = ids} {next₁ = next₁} {locals₁ = locals₁} {globals₁ = globals₁} {undo₁ = undo₁} {old₁ = old₁} {ids₁ = ids₁} ep ev l R u w =
+  definitions-step i {next = next} {locals = locals} {globals = globals} {ids = ids} {next₁ = next₁} {locals₁ = locals₁} {globals₁ = globals₁} {undo₁ = undo₁}
+      {old₁ = old₁} {ids₁ = ids₁} ep ev l R u w =
       let d = definitionEntry b list i in
       let r : DefinitionWalk b at n (d .pattern) (d .value) next locals globals ids next₁ locals₁ globals₁ undo₁ old₁ ids₁ = rw (ep, ev) at u in
       defined-two _ _ (λ d ds. d ∷ ds) (step-parts i l) (R .room .met-once)
@@ -124,12 +153,16 @@ module _ (b : List ℕ) (at n list count : ℕ) where
       (λ s. rows-step count i (numberedDefinition s b at n list) l)
       r w
 
-  pub definitions-end : (i : ℕ) {next : ℕ} {locals globals undo old ids : List ℕ} → count ≤ i → Sizes locals undo old ids → length globals ≡ 512 → DefinitionsWalk b at n list (count - i) i next locals globals ids next locals globals undo old ids
+  pub definitions-end : (i : ℕ) {next : ℕ} {locals globals undo old ids : List ℕ} → count ≤ i → Sizes locals undo old ids → length globals ≡ 512
+      → DefinitionsWalk b at n list (count - i) i next locals globals ids next locals globals undo old ids
   unfolding numberDefinitions return
-  definitions-end i l z r = defined-none (λ s g final. rw (rows-none count i (definitionAt b at n list) l, rows-none count i (numberedDefinition final b at n list) l)) z r
+  definitions-end i l z r =
+      defined-none (λ s g final. rw (rows-none count i (definitionAt b at n list) l, rows-none count i (numberedDefinition final b at n list) l)) z r
 
   -- the loop starts with all
-  pub definitions-start : {next : ℕ} {locals globals ids : List ℕ} {next₂ : ℕ} {locals₂ globals₂ undo₂ old₂ ids₂ : List ℕ} → DefinitionsWalk b at n list (count - 0) 0 next locals globals ids next₂ locals₂ globals₂ undo₂ old₂ ids₂ → DefinitionsWalk b at n list count 0 next locals globals ids next₂ locals₂ globals₂ undo₂ old₂ ids₂
+  pub definitions-start : {next : ℕ} {locals globals ids : List ℕ} {next₂ : ℕ} {locals₂ globals₂ undo₂ old₂ ids₂ : List ℕ}
+      → DefinitionsWalk b at n list (count - 0) 0 next locals globals ids next₂ locals₂ globals₂ undo₂ old₂ ids₂
+      → DefinitionsWalk b at n list count 0 next locals globals ids next₂ locals₂ globals₂ undo₂ old₂ ids₂
   definitions-start w = let e : count - 0 ≡ count = omega arith in rw e at w
 
   pub definitions-all : {next : ℕ} → ReadyDefinitions b at n list count 0 next → ReadyDefinitions b at n list (count - 0) 0 next
@@ -159,18 +192,23 @@ module _ (b : List ℕ) (at n list count : ℕ) where
       ExpressionsWalk b at n list (count - (i + 1)) (i + 1) next₁ 0 locals₁ globals₁ undo₁ old₁ ids₁ next₂ locals₂ globals₂ undo₂ old₂ ids₂ →
       ExpressionsWalk b at n list (count - i) i next 0 locals globals undo old ids next₂ locals₂ globals₂ undo₂ old₂ ids₂
   unfolding numberExpressions _>>=_ return expressionAt numberedExpression
-  expressions-step i {next = next} {locals = locals} {globals = globals} {undo = undo} {old = old} {ids = ids} {next₁ = next₁} {locals₁ = locals₁} {globals₁ = globals₁} {undo₁ = undo₁} {old₁ = old₁} {ids₁ = ids₁} ee l R u w =
+  expressions-step i {next = next} {locals = locals} {globals = globals} {undo = undo} {old = old} {ids = ids} {next₁ = next₁} {locals₁ = locals₁}
+      {globals₁ = globals₁} {undo₁ = undo₁} {old₁ = old₁} {ids₁ = ids₁} ee l R u w =
       let r : ExpressionWalk b at n (expressionRoot b list i) next 0 locals globals undo old ids next₁ locals₁ globals₁ undo₁ old₁ ids₁ = rw ee at u in
       walked-two _ _ (λ d ds. d ∷ ds) (turn-parts i l) (R .room)
       (λ s g a g₁ c g₂ q t. rw (rows-step count i (expressionAt b at n list) l, q, t))
       (λ s. rows-step count i (numberedExpression s b at n list) l)
       r w
 
-  pub expressions-end : (i : ℕ) {next : ℕ} {locals globals undo old ids : List ℕ} → count ≤ i → Sizes locals undo old ids → length globals ≡ 512 → ExpressionsWalk b at n list (count - i) i next 0 locals globals undo old ids next locals globals undo old ids
+  pub expressions-end : (i : ℕ) {next : ℕ} {locals globals undo old ids : List ℕ} → count ≤ i → Sizes locals undo old ids → length globals ≡ 512
+      → ExpressionsWalk b at n list (count - i) i next 0 locals globals undo old ids next locals globals undo old ids
   unfolding numberExpressions return
-  expressions-end i l z r = walked-none (λ s g final. rw (rows-none count i (expressionAt b at n list) l, rows-none count i (numberedExpression final b at n list) l)) z r
+  expressions-end i l z r =
+      walked-none (λ s g final. rw (rows-none count i (expressionAt b at n list) l, rows-none count i (numberedExpression final b at n list) l)) z r
 
-  pub expressions-start : {next : ℕ} {locals globals undo old ids : List ℕ} {next₂ : ℕ} {locals₂ globals₂ undo₂ old₂ ids₂ : List ℕ} → ExpressionsWalk b at n list (count - 0) 0 next 0 locals globals undo old ids next₂ locals₂ globals₂ undo₂ old₂ ids₂ → ExpressionsWalk b at n list count 0 next 0 locals globals undo old ids next₂ locals₂ globals₂ undo₂ old₂ ids₂
+  pub expressions-start : {next : ℕ} {locals globals undo old ids : List ℕ} {next₂ : ℕ} {locals₂ globals₂ undo₂ old₂ ids₂ : List ℕ}
+      → ExpressionsWalk b at n list (count - 0) 0 next 0 locals globals undo old ids next₂ locals₂ globals₂ undo₂ old₂ ids₂
+      → ExpressionsWalk b at n list count 0 next 0 locals globals undo old ids next₂ locals₂ globals₂ undo₂ old₂ ids₂
   expressions-start w = let e : count - 0 ≡ count = omega arith in rw e at w
 
   pub expressions-all : {next : ℕ} → ReadyExpressions b at n list count 0 next → ReadyExpressions b at n list (count - 0) 0 next

@@ -95,4 +95,5 @@ rises-all lo (x ∷ xs) hi a = ((a .0, rises-le (suc x) xs hi (a .1)), all-map (
 
 pub rises-distinct : (lo : ℕ) (xs : List ℕ) (hi : ℕ) → Rises lo xs hi → Distinct xs
 rises-distinct lo [] hi a = tt
-rises-distinct lo (x ∷ xs) hi a = (not-true (member x xs) (λ h. let w = all-member _ x xs (rises-all (suc x) xs hi (a .1)) h in omega (arith, w .0)), rises-distinct (suc x) xs hi (a .1))
+rises-distinct lo (x ∷ xs) hi a =
+    (not-true (member x xs) (λ h. let w = all-member _ x xs (rises-all (suc x) xs hi (a .1)) h in omega (arith, w .0)), rises-distinct (suc x) xs hi (a .1))

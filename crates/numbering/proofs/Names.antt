@@ -24,7 +24,8 @@ pub none-some : (a : ℕ) → none ≡ some a → ⊥
 none-some a e = let o : _≡_ {A = ℕ} 0 1 = cc in omega arith
 
 -- the first entry or the rest
-pub entry-case : {C : Type 0} (c : Bool) (a : ℕ) (o : Option ℕ) (i : ℕ) → cond c (some a) o ≡ some i → (c ≡ true → a ≡ i → C) → (c ≡ false → o ≡ some i → C) → C
+pub entry-case : {C : Type 0} (c : Bool) (a : ℕ) (o : Option ℕ) (i : ℕ) → cond c (some a) o ≡ some i → (c ≡ true → a ≡ i → C)
+    → (c ≡ false → o ≡ some i → C) → C
 entry-case true a o i e f g = f refl (some-is a i e)
 entry-case false a o i e f g = g refl e
 
@@ -55,19 +56,22 @@ falling-up n m (e ∷ es) l f = (le-trans (f .0) l, f .1)
 pub falling-bounded : (n : ℕ) (es : Ids) → Falling n es → (x i : ℕ) → found x es ≡ some i → i < n
 unfolding found
 falling-bounded n [] f x i e = absurd (none-some i e)
-falling-bounded n (d ∷ es) f x i e = entry-case (eqb x (d .0)) _ _ i e (λ c q. omega (arith, f .0)) (λ c q. omega (arith, f .0, falling-bounded (d .1) es (f .1) x i q))
+falling-bounded n (d ∷ es) f x i e =
+    entry-case (eqb x (d .0)) _ _ i e (λ c q. omega (arith, f .0)) (λ c q. omega (arith, f .0, falling-bounded (d .1) es (f .1) x i q))
 
 pub falling-unnamed : (n : ℕ) (es : Ids) → Falling n es → (i : ℕ) → n ≤ i → nameOf i es ≡ none
 unfolding nameOf
 falling-unnamed n [] f i l = refl
-falling-unnamed n (d ∷ es) f i l = cond-false (eqb i (d .1)) _ _ (ne-eqb i (d .1) (λ q. omega (arith, f .0))) ∙ falling-unnamed (d .1) es (f .1) i (omega (arith, f .0))
+falling-unnamed n (d ∷ es) f i l =
+    cond-false (eqb i (d .1)) _ _ (ne-eqb i (d .1) (λ q. omega (arith, f .0))) ∙ falling-unnamed (d .1) es (f .1) i (omega (arith, f .0))
 
 pub falling-named : (n : ℕ) (es : Ids) → Falling n es → (x i : ℕ) → found x es ≡ some i → nameOf i es ≡ some x
 unfolding found nameOf
 falling-named n [] f x i e = absurd (none-some i e)
 falling-named n (d ∷ es) f x i e = entry-case (eqb x (d .0)) _ _ i e
     (λ c q. cond-true (eqb i (d .1)) _ _ (eq-eqb i (d .1) (sym q)) ∙ ap some (sym (eqb-true x (d .0) c)))
-    (λ c q. cond-false (eqb i (d .1)) _ _ (ne-eqb i (d .1) (λ z. omega (arith, falling-bounded (d .1) es (f .1) x i q))) ∙ falling-named (d .1) es (f .1) x i q)
+    (λ c q.
+    cond-false (eqb i (d .1)) _ _ (ne-eqb i (d .1) (λ z. omega (arith, falling-bounded (d .1) es (f .1) x i q))) ∙ falling-named (d .1) es (f .1) x i q)
 
 -- the names are in order
 pub record Well (g : Names) : Type 0 where

@@ -13,7 +13,8 @@ use Rattle.source.specs.Trees.{Pat, Expr, Items, Arms, Env}
 use Rattle.source.specs.Indices.{rows}
 use Rattle.source.specs.Nodes.{entryOf}
 use Rattle.source.specs.Record.{Tree, tree, asExpression, asPattern, expressionOf, patternOf, linkOf, grown}
-use Rattle.numbering.specs.Numbering.{Ids, Names, _>>=_, return, generateId, numberPatternVariables, numberParameters, numberVariable, numberExprVariables, numberItems, numberArms}
+use Rattle.numbering.specs.Numbering.{Ids, Names, _>>=_, return, generateId, numberPatternVariables}
+use Rattle.numbering.specs.Numbering.{numberParameters, numberVariable, numberExprVariables, numberItems, numberArms}
 use Rattle.numbering.specs.Numbers.{formWith, shapeWith, entryWith, isName, bears, numberedTree}
 use Rattle.numbering.specs.Statements.{All, patternIds, parameterIds}
 use Rattle.numbering.specs.Places.{exprNames, itemNames, armNames, indices}
@@ -142,7 +143,8 @@ module _ (own : ℕ → Type 0) where
 module _ (own : ℕ → Type 0) where
   as-expression : {e : Expr} {num : List ℕ → Expr} → Part own exprNames num →
       ((l : Ids) (g : Names) → Shaped exprNames num (numberExprVariables e l g .0)) → Facts own (asExpression e) (λ ids. asExpression (num ids))
-  unfolding patternIds parameterIds armNames itemNames exprNames numberPatternVariables numberParameters numberArms numberItems numberExprVariables _>>=_ return
+  unfolding patternIds parameterIds armNames itemNames exprNames numberPatternVariables numberParameters numberArms numberItems
+      numberExprVariables _>>=_ return
   as-expression p s = record {
     expression = p;
     pattern = part-none own patternIds Pat.unitP refl;
@@ -158,7 +160,8 @@ module _ (own : ℕ → Type 0) where
 
   as-pattern : {e : Pat} {num : List ℕ → Pat} → Part own patternIds num →
       ((l : Ids) (g : Names) → Shaped patternIds num (numberPatternVariables e l g .0 .0)) → Facts own (asPattern e) (λ ids. asPattern (num ids))
-  unfolding patternIds parameterIds armNames itemNames exprNames numberPatternVariables numberParameters numberArms numberItems numberExprVariables _>>=_ return
+  unfolding patternIds parameterIds armNames itemNames exprNames numberPatternVariables numberParameters numberArms numberItems
+      numberExprVariables _>>=_ return
   as-pattern p s = record {
     expression = part-none own exprNames Expr.unit refl;
     pattern = p;

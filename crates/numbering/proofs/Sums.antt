@@ -84,7 +84,8 @@ unfolding total
 one-at-most zero j = omega arith
 one-at-most (suc n) j =
     ⊎-elim
-    (λ (e : j ≡ n). let z : total n (same j) ≡ 0 = total-same n _ _ (λ k l. same-no j k (λ q. omega arith)) ∙ total-zero n in let y : same j n ≡ 1 = rw e (same-yes n) in omega arith)
+    (λ (e : j ≡ n). let z : total n (same j) ≡ 0 = total-same n _ _ (λ k l. same-no j k (λ q. omega arith)) ∙ total-zero n in
+    let y : same j n ≡ 1 = rw e (same-yes n) in omega arith)
     (λ (f : j ≡ n → ⊥). omega (arith, one-at-most n j, same-no j n f))
     (alike j n)
 

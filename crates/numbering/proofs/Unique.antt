@@ -21,11 +21,13 @@ use Rattle.source.proofs.Accepted.{accepted-readable, accepted-module}
 use Rattle.numbering.specs.declared.Numbered.{Numbered as Answered}
 use Rattle.numbering.specs.declared.Numbering.{Numbering}
 use Rattle.numbering.specs.Inputs.{member}
-use Rattle.numbering.specs.Numbering.{Ids, Names, Numbered, _>>=_, return, registered, numberVariable, numberPatternVariables, numberExprVariables, numberDefVariables, numberPublics, numberDefinitions, numberExpressions, numberModuleVariables, namesOf, numbered}
+use Rattle.numbering.specs.Numbering.{Ids, Names, Numbered, _>>=_, return, registered, numberVariable, numberPatternVariables, numberExprVariables}
+use Rattle.numbering.specs.Numbering.{numberDefVariables, numberPublics, numberDefinitions, numberExpressions, numberModuleVariables, namesOf, numbered}
 use Rattle.numbering.specs.Numbers.{bears, numberedTree, numberedDefinition, numberedExpression, numberedModule, NumberedIn}
 use Rattle.numbering.specs.Outcome.{Outcome}
 use Rattle.numbering.specs.Statements.{All, Distinct, patternIds}
-use Rattle.numbering.specs.Places.{exprNames, definitionNames, expressionNames, allNames, indices, places, beside, idsOf, publicIdsOf, numberingFor, numberingOf}
+use Rattle.numbering.specs.Places.{exprNames, definitionNames, expressionNames, allNames, indices}
+use Rattle.numbering.specs.Places.{places, beside, idsOf, publicIdsOf, numberingFor, numberingOf}
 use Rattle.numbering.specs.Walks.{noEntries, noPublics, sumFrom, definitionsWeight, expressionsWeight}
 use Rattle.numbering.proofs.Laws.{alike, split, every-at, and-left, and-right}
 use Rattle.numbering.proofs.Lists.{false-true, not-true, all-member}

@@ -14,11 +14,13 @@ use Rattle.source.specs.declared.Chain.{Chain}
 use Rattle.source.specs.declared.Child.{Child}
 use Rattle.source.specs.declared.Children.{Children}
 use Rattle.source.specs.Indices.{every, total, pick}
-use Rattle.source.specs.Nodes.{entryOf, childrenOf, isExpression, isPattern, expressionFits, patternFits, itemFits, resultFits, linkFits, chainFits, childFits, childrenFit, nodesFit}
+use Rattle.source.specs.Nodes.{entryOf, childrenOf, isExpression, isPattern, expressionFits, patternFits}
+use Rattle.source.specs.Nodes.{itemFits, resultFits, linkFits, chainFits, childFits, childrenFit, nodesFit}
 use Rattle.source.specs.Uses.{same, resultUses, linkUses, chainUses, childUses, childrenUse, byNodes}
 use Rattle.numbering.proofs.Laws.{alike, and-left, and-right, or-second, every-at, not-both}
 use Rattle.numbering.specs.Walks.{summed, weight, chainWeight, each}
-use Rattle.numbering.proofs.Sums.{total-same, total-zero, total-sum, total-times, total-exchange, total-extend, total-add, total-none, total-pick, same-no, once}
+use Rattle.numbering.proofs.Sums.{total-same, total-zero, total-sum, total-times, total-exchange}
+use Rattle.numbering.proofs.Sums.{total-extend, total-add, total-none, total-pick, same-no, once}
 
 -- what a link of a chain that fits says
 pub record Linked (b : List ℕ) (at : ℕ) (h : Chain) (l : ℕ) : Type 0 where
@@ -98,7 +100,9 @@ module _ (b : List ℕ) (at : ℕ) where
   result-below Chain.Items l x c e q = refl
 
   -- what the chain from link l on uses
-  chain-step : (h : Chain) (l : ℕ) (k : Linked b at h l) (c : ℕ) → chainUses b at h (suc l) l c ≡ same l c + (same (k .item) c + (resultUses h (k .result) c + pick (eqb (k .next) 4294967295) 0 (chainUses b at h l (k .next) c)))
+  chain-step : (h : Chain) (l : ℕ) (k : Linked b at h l) (c : ℕ)
+      → chainUses b at h (suc l) l c
+      ≡ same l c + (same (k .item) c + (resultUses h (k .result) c + pick (eqb (k .next) 4294967295) 0 (chainUses b at h l (k .next) c)))
   unfolding chainUses linkUses
   chain-step h l k c = rw (eq-eqb l l refl, chainUses, k .says)
 
@@ -127,7 +131,8 @@ module _ (b : List ℕ) (at : ℕ) where
         same-no (k .item) c (λ z. omega (arith, item-below h x (k .item) (k .item-fits))),
         result-below h x (k .result) c (k .result-fits) (omega arith),
         pick-zero (eqb (k .next) 4294967295) (chainUses b at h x (k .next) c)
-            (λ z. ap (λ (m : ℕ). chainUses b at h m (k .next) c) g ∙ chain-below h n (k .next) c (sym (ap (λ (m : ℕ). chainFits b at h m (k .next)) g) ∙ or-second _ _ (k .rest-fits) z) (omega arith)),
+            (λ z. ap (λ (m : ℕ). chainUses b at h m (k .next) c) g
+            ∙ chain-below h n (k .next) c (sym (ap (λ (m : ℕ). chainFits b at h m (k .next)) g) ∙ or-second _ _ (k .rest-fits) z) (omega arith)),
       ))
       (λ (g : x ≡ n → ⊥).
       chain-settled h (suc n) x c (f .0) ∙ sym (chain-settled h n x c (omega (arith, f .0))) ∙ chain-below h n x c (fits-less h n x g e) (omega arith))
@@ -171,13 +176,15 @@ module _ (b : List ℕ) (at : ℕ) where
   resultWeight own Chain.Items x = 0
 
   -- what a child's uses weigh
-  child-weighs : (names j : ℕ) (ch : Child) (n : ℕ) (own : ℕ → ℕ) → childFits b at names j ch ≡ true → j ≤ n → total n (λ c. childUses b at j ch c * weight b at own c) ≡ childWeight n own ch
+  child-weighs : (names j : ℕ) (ch : Child) (n : ℕ) (own : ℕ → ℕ) → childFits b at names j ch ≡ true → j ≤ n
+      → total n (λ c. childUses b at j ch c * weight b at own c) ≡ childWeight n own ch
   unfolding childFits childUses childWeight chainWeight
   child-weighs names j Child.Nothing n own e q = total-none n (weight b at own)
   child-weighs names j (Child.Name v) n own e q = total-none n (weight b at own)
   child-weighs names j (Child.Expression x) n own e q = once n x (weight b at own) (omega (arith, expression-below j x e))
   child-weighs names j (Child.Pattern x) n own e q = once n x (weight b at own) (omega (arith, pattern-below j x e))
-  child-weighs names j (Child.Links h x) n own e q = total-same n _ _ (λ c l. ap (λ (u : ℕ). u * weight b at own c) (chain-settled h j x c (chain-first h j x e .0)))
+  child-weighs names j (Child.Links h x) n own e q =
+      total-same n _ _ (λ c l. ap (λ (u : ℕ). u * weight b at own c) (chain-settled h j x c (chain-first h j x e .0)))
   child-weighs names j Child.Wrong n own e q = total-none n (weight b at own)
 
   module _ (names n : ℕ) (fit : nodesFit b at names n ≡ true) where
@@ -186,7 +193,8 @@ module _ (b : List ℕ) (at : ℕ) where
     children-fit k l = every-at n k _ fit l
 
     -- what a node uses, summed over all nodes
-    uses-weigh : (own : ℕ → ℕ) (k : ℕ) → k < n → weight b at own k ≡ own k + total n (λ c. childrenUse b at k (childrenOf (entryOf b at k)) c * weight b at own c)
+    uses-weigh : (own : ℕ → ℕ) (k : ℕ) → k < n
+        → weight b at own k ≡ own k + total n (λ c. childrenUse b at k (childrenOf (entryOf b at k)) c * weight b at own c)
     unfolding childrenFit childrenUse
     uses-weigh own k l =
         let ch = childrenOf (entryOf b at k) in
@@ -200,11 +208,15 @@ module _ (b : List ℕ) (at : ℕ) where
         (total-same k _ _ (λ c m. ap (λ (x : ℕ). childrenUse b at k ch c * x) (summed-settled own k c m))
         ∙ total-extend n k _ (omega arith)
         (λ c m.
-        let z : childrenUse b at k ch c ≡ 0 = omega (arith, child-below names k (ch .first) c f1 m, child-below names k (ch .second) c f3 m, child-below names k (ch .third) c f4 m) in
+        let z : childrenUse b at k ch c ≡ 0 =
+        omega (arith, child-below names k (ch .first) c f1 m, child-below names k (ch .second) c f3 m, child-below names k (ch .third) c f4 m) in
         ap (λ (x : ℕ). x * weight b at own c) z ∙ zero-mul (weight b at own c)))
 
     -- A NODE WEIGHS its own, and what its children weigh
-    pub grows : (own : ℕ → ℕ) (k : ℕ) → k < n → weight b at own k ≡ own k + (childWeight n own (childrenOf (entryOf b at k) .first) + (childWeight n own (childrenOf (entryOf b at k) .second) + childWeight n own (childrenOf (entryOf b at k) .third)))
+    pub grows : (own : ℕ → ℕ) (k : ℕ) → k < n
+        → weight b at own k
+        ≡ own k + (childWeight n own (childrenOf (entryOf b at k) .first)
+        + (childWeight n own (childrenOf (entryOf b at k) .second) + childWeight n own (childrenOf (entryOf b at k) .third)))
     unfolding childrenFit childrenUse
     grows own k l =
         let ch = childrenOf (entryOf b at k) in
@@ -222,7 +234,8 @@ module _ (b : List ℕ) (at : ℕ) where
         ∙ ap₂ (λ (x y : ℕ). x + y) (child-weighs names k (ch .second) n own f3 (omega arith)) (child-weighs names k (ch .third) n own f4 (omega arith))))
 
     -- A CHAIN WEIGHS its first link, its item, its result and the rest
-    result-weighs : (h : Chain) (l x : ℕ) (own : ℕ → ℕ) → resultFits b at h l x ≡ true → l < n → total n (λ c. resultUses h x c * weight b at own c) ≡ resultWeight own h x
+    result-weighs : (h : Chain) (l x : ℕ) (own : ℕ → ℕ) → resultFits b at h l x ≡ true → l < n
+        → total n (λ c. resultUses h x c * weight b at own c) ≡ resultWeight own h x
     unfolding resultUses resultWeight resultFits
     result-weighs Chain.Parameters l x own e q = total-none n (weight b at own)
     result-weighs Chain.Arms l x own e q = once n x (weight b at own) (omega (arith, expression-below l x e))
@@ -233,7 +246,10 @@ module _ (b : List ℕ) (at : ℕ) where
     pick-same true x y h = refl
     pick-same false x y h = h refl
 
-    pub chain-grows : (own : ℕ → ℕ) (h : Chain) (l : ℕ) (k : Linked b at h l) → l < n → chainWeight b at n own h l ≡ weight b at own l + (weight b at own (k .item) + (resultWeight own h (k .result) + pick (eqb (k .next) 4294967295) 0 (chainWeight b at n own h (k .next))))
+    pub chain-grows : (own : ℕ → ℕ) (h : Chain) (l : ℕ) (k : Linked b at h l) → l < n
+        → chainWeight b at n own h l
+        ≡ weight b at own l
+        + (weight b at own (k .item) + (resultWeight own h (k .result) + pick (eqb (k .next) 4294967295) 0 (chainWeight b at n own h (k .next))))
     unfolding chainWeight
     chain-grows own h l k q =
         let w = weight b at own in

@@ -4,7 +4,8 @@ use mathlib.Core.List.{List, [], _∷_, _++_}
 use mathlib.Core.Option.{Option}
 use Prim.Native.Nat.{ℕ}
 use lib.Dec.{eqb}
-use Rattle.source.specs.Trees.{Pat, unitP, nilP, asP, productP, consP, variableP, constantP, Expr, unit, nil, sequence, product, cons, binary, negate, application, constant, variable, function, intrinsic, letting, matching, Items, last, _then_, Arms, noArm, arm, Module}
+use Rattle.source.specs.Trees.{Pat, unitP, nilP, asP, productP, consP, variableP, constantP, Expr, unit, nil, sequence, product, cons, binary, negate}
+use Rattle.source.specs.Trees.{application, constant, variable, function, intrinsic, letting, matching, Items, last, _then_, Arms, noArm, arm, Module}
 use Rattle.numbering.specs.Numbering.{Numbered, found, namesOf}
 
 unfoldable pub member : ℕ → List ℕ → Bool

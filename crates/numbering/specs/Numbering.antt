@@ -4,7 +4,9 @@ use mathlib.Core.List.{List, [], _∷_, _++_}
 use mathlib.Core.Option.{Option, none, some}
 use Prim.Native.Nat.{ℕ, suc}
 use lib.Dec.{eqb}
-use Rattle.source.specs.Trees.{Pat, unitP, nilP, asP, productP, consP, variableP, constantP, Expr, unit, nil, sequence, product, cons, binary, negate, application, constant, variable, function, intrinsic, letting, matching, Items, last, _then_, empty, Arms, noArm, arm, Module, Text}
+use Rattle.source.specs.Trees.{Pat, unitP, nilP, asP, productP, consP, variableP, constantP, Expr, unit, nil, sequence}
+use Rattle.source.specs.Trees.{product, cons, binary, negate, application, constant, variable, function, intrinsic}
+use Rattle.source.specs.Trees.{letting, matching, Items, last, _then_, empty, Arms, noArm, arm, Module, Text}
 use Rattle.records.specs.Intrinsics.{FIRST-FREE-ID, FOLD-ID, FRESH-ID, ITER-ID}
 
 -- "Numbered module": the module with ids for names, and the next free id
@@ -208,4 +210,6 @@ unfoldable pub namesOf : Module → Names
 namesOf m = numberModuleVariables m (registered (m .names)) .1
 
 unfoldable pub numbered : Module → Numbered
-numbered m = let (ps, ds, es) = numberModuleVariables m (registered (m .names)) .0 in record { next = namesOf m .next; publics = ps; definitions = ds; expressions = es }
+numbered m =
+    let (ps, ds, es) = numberModuleVariables m (registered (m .names)) .0 in
+    record { next = namesOf m .next; publics = ps; definitions = ds; expressions = es }

@@ -1,4 +1,5 @@
--- The numbered module of a source record with the bytes b, by an array that has an id for each node that names a variable, and an array with an id for each public.
+-- The numbered module of a source record with the bytes b, by an array that has an id for each node that names a variable, and an array with an id for each
+-- public.
 use Prim.Native.Nat.{ℕ, zero, suc, _≤_}
 use mathlib.Core.Path.{_≡_}
 use mathlib.Core.List.{List}
@@ -62,7 +63,8 @@ bears e = isName (childrenOf e .first) || isName (childrenOf e .second)
 -- what node k of the first n stands for, as `tree`, with the ids of the array
 unfoldable pub numberedTree : List ℕ → List ℕ → ℕ → ℕ → ℕ → Tree
 numberedTree ids b at zero k = asExpression Expr.unit
-numberedTree ids b at (suc n) k = elim (eqb k n) [ true ↦ grown (numberedTree ids b at n) (entryWith (getD ids n 0) (entryOf b at n)) | false ↦ numberedTree ids b at n k ]
+numberedTree ids b at (suc n) k =
+    elim (eqb k n) [ true ↦ grown (numberedTree ids b at n) (entryWith (getD ids n 0) (entryOf b at n)) | false ↦ numberedTree ids b at n k ]
 
 unfoldable pub numberedDefinition : List ℕ → List ℕ → ℕ → ℕ → ℕ → ℕ → Pat × Expr
 numberedDefinition ids b at count list k = (

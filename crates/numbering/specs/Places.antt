@@ -4,7 +4,8 @@ use mathlib.Core.List.{List, [], _∷_, _++_}
 use Prim.Native.Nat.{ℕ}
 use lib.Dec.{eqb}
 use lib.ListN.{getD}
-use Rattle.source.specs.Trees.{Pat, Expr, unit, nil, sequence, product, cons, binary, negate, application, constant, variable, function, intrinsic, letting, matching, Items, last, _then_, Arms, noArm, arm}
+use Rattle.source.specs.Trees.{Pat, Expr, unit, nil, sequence, product, cons, binary, negate, application, constant}
+use Rattle.source.specs.Trees.{variable, function, intrinsic, letting, matching, Items, last, _then_, Arms, noArm, arm}
 use Rattle.source.specs.Indices.{rows, pick}
 use Rattle.source.specs.Record.{Read, sourceOf, moduleOf}
 use Rattle.numbering.specs.declared.Numbered.the-variants.{Next, Refused}

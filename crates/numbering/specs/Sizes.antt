@@ -1,7 +1,8 @@
 -- The nodes of a module's trees: every TExpr and TPat once. Links and environments count 0.
 use mathlib.Core.List.{List, [], _∷_}
 use Prim.Native.Nat.{ℕ, suc, _+_}
-use Rattle.source.specs.Trees.{Pat, unitP, nilP, asP, productP, consP, variableP, constantP, Expr, unit, nil, sequence, product, cons, binary, negate, application, constant, variable, function, intrinsic, letting, matching, Items, last, _then_, Arms, noArm, arm, Module}
+use Rattle.source.specs.Trees.{Pat, unitP, nilP, asP, productP, consP, variableP, constantP, Expr, unit, nil, sequence, product, cons, binary, negate}
+use Rattle.source.specs.Trees.{application, constant, variable, function, intrinsic, letting, matching, Items, last, _then_, Arms, noArm, arm, Module}
 
 unfoldable pub patSize : Pat → ℕ
 patSize unitP = 1

@@ -5,7 +5,8 @@ use mathlib.Core.List.{List, [], _∷_, _++_}
 use mathlib.Core.Option.{some}
 use Prim.Native.Nat.{ℕ, _+_, _<_, _≤_}
 use lib.ListN.{length}
-use Rattle.source.specs.Trees.{Pat, unitP, nilP, asP, productP, consP, variableP, constantP, Expr, unit, nil, sequence, product, cons, binary, negate, application, constant, variable, function, intrinsic, letting, matching, Items, last, _then_, Arms, noArm, arm, Module}
+use Rattle.source.specs.Trees.{Pat, unitP, nilP, asP, productP, consP, variableP, constantP, Expr, unit, nil, sequence, product, cons, binary, negate}
+use Rattle.source.specs.Trees.{application, constant, variable, function, intrinsic, letting, matching, Items, last, _then_, Arms, noArm, arm, Module}
 use Rattle.numbering.specs.Numbering.{Numbered, numbered}
 use Rattle.numbering.specs.Sizes.{moduleSize}
 use Rattle.numbering.specs.Inputs.{member, inputs, inputIds, inputId}

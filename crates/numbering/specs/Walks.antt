@@ -15,7 +15,9 @@ use Rattle.source.specs.Nodes.{entryOf, childrenOf, isExpression, isPattern, ch
 use Rattle.source.specs.Uses.{same, chainUses, childrenUse}
 use Rattle.source.specs.Record.{tree, definitionAt, expressionAt}
 use Rattle.source.specs.Layout.{publicAt, definitionEntry, expressionRoot}
-use Rattle.numbering.specs.Numbering.{Ids, Names, Naming, _>>=_, return, found, numberVariable, numberPatternVariables, numberParameters, numberExprVariables, numberItems, numberArms, numberDefVariables, numberDefinitions, numberExpressions, numberPublics, named}
+use Rattle.numbering.specs.Numbering.{Ids, Names, Naming, _>>=_, return, found, numberVariable, numberPatternVariables}
+use Rattle.numbering.specs.Numbering.{numberParameters, numberExprVariables, numberItems, numberArms}
+use Rattle.numbering.specs.Numbering.{numberDefVariables, numberDefinitions, numberExpressions, numberPublics, named}
 use Rattle.numbering.specs.Numbers.{bears, numberedTree, numberedDefinition, numberedExpression}
 use Rattle.records.specs.FlatRecord.{IDS}
 use Rattle.records.specs.SourceRecord.{NAMES, NODES, PUBLICS}
@@ -47,7 +49,8 @@ module _ (b : List ℕ) (at : ℕ) where
   -- the sum of `own` over the nodes of the tree of node k, of the first n: its own, and those of the nodes that it uses
   unfoldable pub summed : (ℕ → ℕ) → ℕ → ℕ → ℕ
   summed own zero k = 0
-  summed own (suc n) k = elim (eqb k n) [ true ↦ own n + total n (λ c. childrenUse b at n (childrenOf (entryOf b at n)) c * summed own n c) | false ↦ summed own n k ]
+  summed own (suc n) k =
+      elim (eqb k n) [ true ↦ own n + total n (λ c. childrenUse b at n (childrenOf (entryOf b at n)) c * summed own n c) | false ↦ summed own n k ]
 
   unfoldable pub weight : (ℕ → ℕ) → ℕ → ℕ
   weight own k = summed own (suc k) k
@@ -126,7 +129,8 @@ Agree w s t = (j : ℕ) → 0 < w (same j) → getD t j 0 ≡ getD s j 0
 
 -- `named` says which nodes have a name: no other node's id changes
 -- what a walk has of patterns: `numbering` is the definition for what is walked over, `value` what it then stands for by an array of ids
-pub record Bound {A : Type 0} (named : ℕ → Bool) (w : (ℕ → ℕ) → ℕ) (numbering : Ids → Naming (A × Ids)) (value : List ℕ → A) (next top : ℕ) (locals undo old ids : List ℕ) (next′ : ℕ) (locals′ undo′ old′ ids′ : List ℕ) : Type 0 where
+pub record Bound {A : Type 0} (named : ℕ → Bool) (w : (ℕ → ℕ) → ℕ) (numbering : Ids → Naming (A × Ids)) (value : List ℕ → A) (next top : ℕ)
+    (locals undo old ids : List ℕ) (next′ : ℕ) (locals′ undo′ old′ ids′ : List ℕ) : Type 0 where
   pub more : next ≤ next′
   pub few : next′ ≤ next + w each
   pub undo-below : SameBelow top undo undo′
@@ -136,10 +140,12 @@ pub record Bound {A : Type 0} (named : ℕ → Bool) (w : (ℕ → ℕ) → ℕ)
   pub unwinds : unwound undo′ old′ top (next′ - next) locals′ ≡ locals
   pub elsewhere : Else w ids ids′
   pub unnamed : (j : ℕ) → named j ≡ false → getD ids′ j 0 ≡ getD ids j 0
-  pub numbers : (l : Ids) (g : Names) (final : List ℕ) → Holds locals l → g .next ≡ next → Agree w ids′ final → (l′ : Ids) × ((numbering l g ≡ ((value final, l′), names (g .globals) next′)) × Holds locals′ l′)
+  pub numbers : (l : Ids) (g : Names) (final : List ℕ) → Holds locals l → g .next ≡ next → Agree w ids′ final
+      → (l′ : Ids) × ((numbering l g ≡ ((value final, l′), names (g .globals) next′)) × Holds locals′ l′)
 
 -- what it leaves of expressions: the locals are as they were
-pub record Walked {A : Type 0} (named : ℕ → Bool) (w : (ℕ → ℕ) → ℕ) (numbering : Ids → Naming A) (value : List ℕ → A) (next top : ℕ) (locals globals undo old ids : List ℕ) (next′ : ℕ) (locals′ globals′ undo′ old′ ids′ : List ℕ) : Type 0 where
+pub record Walked {A : Type 0} (named : ℕ → Bool) (w : (ℕ → ℕ) → ℕ) (numbering : Ids → Naming A) (value : List ℕ → A) (next top : ℕ)
+    (locals globals undo old ids : List ℕ) (next′ : ℕ) (locals′ globals′ undo′ old′ ids′ : List ℕ) : Type 0 where
   pub more : next ≤ next′
   pub few : next′ ≤ next + w each
   pub undo-below : SameBelow top undo undo′
@@ -149,25 +155,33 @@ pub record Walked {A : Type 0} (named : ℕ → Bool) (w : (ℕ → ℕ) → ℕ
   pub same-locals : locals′ ≡ locals
   pub elsewhere : Else w ids ids′
   pub unnamed : (j : ℕ) → named j ≡ false → getD ids′ j 0 ≡ getD ids j 0
-  pub numbers : (l : Ids) (g : Names) (final : List ℕ) → Holds locals l → Holds globals (g .globals) → g .next ≡ next → Agree w ids′ final → (gs : Ids) × ((numbering l g ≡ (value final, names gs next′)) × Holds globals′ gs)
+  pub numbers : (l : Ids) (g : Names) (final : List ℕ) → Holds locals l → Holds globals (g .globals) → g .next ≡ next → Agree w ids′ final
+      → (gs : Ids) × ((numbering l g ≡ (value final, names gs next′)) × Holds globals′ gs)
 
 -- what is left by the walk over a variable of no pattern
 pub record Chosen (x next : ℕ) (locals globals : List ℕ) (id next′ : ℕ) (globals′ : List ℕ) : Type 0 where
   pub more : next ≤ next′
   pub few : next′ ≤ next + 1
   pub row : length globals′ ≡ NAMES
-  pub numbers : (l : Ids) (g : Names) → Holds locals l → Holds globals (g .globals) → g .next ≡ next → (gs : Ids) × ((numberVariable x l g ≡ (id, names gs next′)) × Holds globals′ gs)
+  pub numbers : (l : Ids) (g : Names) → Holds locals l → Holds globals (g .globals) → g .next ≡ next
+      → (gs : Ids) × ((numberVariable x l g ≡ (id, names gs next′)) × Holds globals′ gs)
 
 -- ---- the walks, by the definitions
 
 abbrev pub PatternWalk : List ℕ → ℕ → ℕ → ℕ → ℕ → ℕ → List ℕ → List ℕ → List ℕ → List ℕ → ℕ → List ℕ → List ℕ → List ℕ → List ℕ → Type 0
-PatternWalk b at n k = Bound (λ j. bears (entryOf b at j)) (λ own. weight b at own k) (numberPatternVariables (tree b at n k .pattern)) (λ ids. numberedTree ids b at n k .pattern)
+PatternWalk b at n k =
+    Bound (λ j. bears (entryOf b at j)) (λ own. weight b at own k) (numberPatternVariables (tree b at n k .pattern))
+    (λ ids. numberedTree ids b at n k .pattern)
 
 abbrev pub ParameterWalk : List ℕ → ℕ → ℕ → ℕ → ℕ → ℕ → List ℕ → List ℕ → List ℕ → List ℕ → ℕ → List ℕ → List ℕ → List ℕ → List ℕ → Type 0
-ParameterWalk b at n l = Bound (λ j. bears (entryOf b at j)) (λ own. chainWeight b at n own Chain.Parameters l) (numberParameters (tree b at n l .parameters)) (λ ids. numberedTree ids b at n l .parameters)
+ParameterWalk b at n l =
+    Bound (λ j. bears (entryOf b at j)) (λ own. chainWeight b at n own Chain.Parameters l) (numberParameters (tree b at n l .parameters))
+    (λ ids. numberedTree ids b at n l .parameters)
 
 abbrev pub ExpressionWalk : List ℕ → ℕ → ℕ → ℕ → ℕ → ℕ → List ℕ → List ℕ → List ℕ → List ℕ → List ℕ → ℕ → List ℕ → List ℕ → List ℕ → List ℕ → List ℕ → Type 0
-ExpressionWalk b at n k = Walked (λ j. bears (entryOf b at j)) (λ own. weight b at own k) (numberExprVariables (tree b at n k .expression)) (λ ids. numberedTree ids b at n k .expression)
+ExpressionWalk b at n k =
+    Walked (λ j. bears (entryOf b at j)) (λ own. weight b at own k) (numberExprVariables (tree b at n k .expression))
+    (λ ids. numberedTree ids b at n k .expression)
 
 -- two expressions; a pattern, and an expression in its scope
 unfoldable pub numberTwo : Expr → Expr → Ids → Naming (Expr × Expr)
@@ -183,10 +197,14 @@ numberScope p e locals = do
   return (p′, e′)
 
 abbrev pub TwoWalk : List ℕ → ℕ → ℕ → ℕ → ℕ → ℕ → ℕ → List ℕ → List ℕ → List ℕ → List ℕ → List ℕ → ℕ → List ℕ → List ℕ → List ℕ → List ℕ → List ℕ → Type 0
-TwoWalk b at n x y = Walked (λ j. bears (entryOf b at j)) (λ own. weight b at own x + weight b at own y) (numberTwo (tree b at n x .expression) (tree b at n y .expression)) (λ ids. (numberedTree ids b at n x .expression, numberedTree ids b at n y .expression))
+TwoWalk b at n x y =
+    Walked (λ j. bears (entryOf b at j)) (λ own. weight b at own x + weight b at own y) (numberTwo (tree b at n x .expression) (tree b at n y .expression))
+    (λ ids. (numberedTree ids b at n x .expression, numberedTree ids b at n y .expression))
 
 abbrev pub ScopeWalk : List ℕ → ℕ → ℕ → ℕ → ℕ → ℕ → ℕ → List ℕ → List ℕ → List ℕ → List ℕ → List ℕ → ℕ → List ℕ → List ℕ → List ℕ → List ℕ → List ℕ → Type 0
-ScopeWalk b at n p y = Walked (λ j. bears (entryOf b at j)) (λ own. weight b at own p + weight b at own y) (numberScope (tree b at n p .pattern) (tree b at n y .expression)) (λ ids. (numberedTree ids b at n p .pattern, numberedTree ids b at n y .expression))
+ScopeWalk b at n p y =
+    Walked (λ j. bears (entryOf b at j)) (λ own. weight b at own p + weight b at own y) (numberScope (tree b at n p .pattern) (tree b at n y .expression))
+    (λ ids. (numberedTree ids b at n p .pattern, numberedTree ids b at n y .expression))
 
 unfoldable pub numberFunction : List Pat → Expr → Ids → Naming (List Pat × Expr)
 numberFunction ps e locals = do
@@ -195,13 +213,19 @@ numberFunction ps e locals = do
   return (ps′, e′)
 
 abbrev pub FunctionWalk : List ℕ → ℕ → ℕ → ℕ → ℕ → ℕ → ℕ → List ℕ → List ℕ → List ℕ → List ℕ → List ℕ → ℕ → List ℕ → List ℕ → List ℕ → List ℕ → List ℕ → Type 0
-FunctionWalk b at n l y = Walked (λ j. bears (entryOf b at j)) (λ own. chainWeight b at n own Chain.Parameters l + weight b at own y) (numberFunction (tree b at n l .parameters) (tree b at n y .expression)) (λ ids. (numberedTree ids b at n l .parameters, numberedTree ids b at n y .expression))
+FunctionWalk b at n l y =
+    Walked (λ j. bears (entryOf b at j)) (λ own. chainWeight b at n own Chain.Parameters l + weight b at own y) (numberFunction (tree b at n l .parameters)
+    (tree b at n y .expression)) (λ ids. (numberedTree ids b at n l .parameters, numberedTree ids b at n y .expression))
 
 abbrev pub ItemWalk : List ℕ → ℕ → ℕ → ℕ → ℕ → ℕ → List ℕ → List ℕ → List ℕ → List ℕ → List ℕ → ℕ → List ℕ → List ℕ → List ℕ → List ℕ → List ℕ → Type 0
-ItemWalk b at n l = Walked (λ j. bears (entryOf b at j)) (λ own. chainWeight b at n own Chain.Items l) (numberItems (tree b at n l .items)) (λ ids. numberedTree ids b at n l .items)
+ItemWalk b at n l =
+    Walked (λ j. bears (entryOf b at j)) (λ own. chainWeight b at n own Chain.Items l) (numberItems (tree b at n l .items))
+    (λ ids. numberedTree ids b at n l .items)
 
 abbrev pub ArmWalk : List ℕ → ℕ → ℕ → ℕ → ℕ → ℕ → List ℕ → List ℕ → List ℕ → List ℕ → List ℕ → ℕ → List ℕ → List ℕ → List ℕ → List ℕ → List ℕ → Type 0
-ArmWalk b at n l = Walked (λ j. bears (entryOf b at j)) (λ own. chainWeight b at n own Chain.Arms l) (numberArms (tree b at n l .arms)) (λ ids. numberedTree ids b at n l .arms)
+ArmWalk b at n l =
+    Walked (λ j. bears (entryOf b at j)) (λ own. chainWeight b at n own Chain.Arms l) (numberArms (tree b at n l .arms))
+    (λ ids. numberedTree ids b at n l .arms)
 
 -- ---- the lists of a module
 
@@ -218,25 +242,35 @@ abbrev pub expressionsWeight : List ℕ → ℕ → ℕ → ℕ → ℕ → (ℕ
 expressionsWeight b at list m i own = sumFrom m i (λ k. weight b at own (expressionRoot b list k))
 
 -- what a walk over definitions leaves: their names are locals from then on
-pub record Defined {A : Type 0} (named : ℕ → Bool) (w : (ℕ → ℕ) → ℕ) (numbering : Ids → Naming (A × Ids)) (value : List ℕ → A) (next : ℕ) (locals globals ids : List ℕ) (next′ : ℕ) (locals′ globals′ undo′ old′ ids′ : List ℕ) : Type 0 where
+pub record Defined {A : Type 0} (named : ℕ → Bool) (w : (ℕ → ℕ) → ℕ) (numbering : Ids → Naming (A × Ids)) (value : List ℕ → A) (next : ℕ)
+    (locals globals ids : List ℕ) (next′ : ℕ) (locals′ globals′ undo′ old′ ids′ : List ℕ) : Type 0 where
   pub more : next ≤ next′
   pub few : next′ ≤ next + w each
   pub sizes : Sizes locals′ undo′ old′ ids′
   pub row : length globals′ ≡ NAMES
   pub elsewhere : Else w ids ids′
   pub unnamed : (j : ℕ) → named j ≡ false → getD ids′ j 0 ≡ getD ids j 0
-  pub numbers : (l : Ids) (g : Names) (final : List ℕ) → Holds locals l → Holds globals (g .globals) → g .next ≡ next → Agree w ids′ final → (l′ : Ids) × ((gs : Ids) × ((numbering l g ≡ ((value final, l′), names gs next′)) × (Holds locals′ l′ × Holds globals′ gs)))
+  pub numbers : (l : Ids) (g : Names) (final : List ℕ) → Holds locals l → Holds globals (g .globals) → g .next ≡ next → Agree w ids′ final
+      → (l′ : Ids) × ((gs : Ids) × ((numbering l g ≡ ((value final, l′), names gs next′)) × (Holds locals′ l′ × Holds globals′ gs)))
 
 -- definition (p, v)
 abbrev pub DefinitionWalk : List ℕ → ℕ → ℕ → ℕ → ℕ → ℕ → List ℕ → List ℕ → List ℕ → ℕ → List ℕ → List ℕ → List ℕ → List ℕ → List ℕ → Type 0
-DefinitionWalk b at n p v = Defined (λ j. bears (entryOf b at j)) (λ own. weight b at own p + weight b at own v) (numberDefVariables (tree b at n p .pattern, tree b at n v .expression)) (λ ids. (numberedTree ids b at n p .pattern, numberedTree ids b at n v .expression))
+DefinitionWalk b at n p v =
+    Defined (λ j. bears (entryOf b at j)) (λ own. weight b at own p + weight b at own v)
+    (numberDefVariables (tree b at n p .pattern, tree b at n v .expression))
+    (λ ids. (numberedTree ids b at n p .pattern, numberedTree ids b at n v .expression))
 
 -- m definitions, m expressions from the i-th on
 abbrev pub DefinitionsWalk : List ℕ → ℕ → ℕ → ℕ → ℕ → ℕ → ℕ → List ℕ → List ℕ → List ℕ → ℕ → List ℕ → List ℕ → List ℕ → List ℕ → List ℕ → Type 0
-DefinitionsWalk b at n list m i = Defined (λ j. bears (entryOf b at j)) (definitionsWeight b at list m i) (numberDefinitions (rows m i (definitionAt b at n list))) (λ ids. rows m i (numberedDefinition ids b at n list))
+DefinitionsWalk b at n list m i =
+    Defined (λ j. bears (entryOf b at j)) (definitionsWeight b at list m i) (numberDefinitions (rows m i (definitionAt b at n list)))
+    (λ ids. rows m i (numberedDefinition ids b at n list))
 
-abbrev pub ExpressionsWalk : List ℕ → ℕ → ℕ → ℕ → ℕ → ℕ → ℕ → ℕ → List ℕ → List ℕ → List ℕ → List ℕ → List ℕ → ℕ → List ℕ → List ℕ → List ℕ → List ℕ → List ℕ → Type 0
-ExpressionsWalk b at n list m i = Walked (λ j. bears (entryOf b at j)) (expressionsWeight b at list m i) (numberExpressions (rows m i (expressionAt b at n list))) (λ ids. rows m i (numberedExpression ids b at n list))
+abbrev pub ExpressionsWalk : List ℕ → ℕ → ℕ → ℕ → ℕ → ℕ → ℕ → ℕ → List ℕ → List ℕ → List ℕ → List ℕ → List ℕ → ℕ → List ℕ → List ℕ → List ℕ
+    → List ℕ → List ℕ → Type 0
+ExpressionsWalk b at n list m i =
+    Walked (λ j. bears (entryOf b at j)) (expressionsWeight b at list m i) (numberExpressions (rows m i (expressionAt b at n list)))
+    (λ ids. rows m i (numberedExpression ids b at n list))
 
 pub record ReadyDefinitions (b : List ℕ) (at n list m i next : ℕ) : Type 0 where
   pub walk : Walkable b at n

@@ -17,7 +17,8 @@ ghost use Prim.Native.Nat.{_+_, _-_, _≤_, _<_};
 ghost use lib.ListN.{length};
 ghost use Rattle.source.specs.declared.Chain.the-variants.{Arms, Items};
 ghost use Rattle.source.specs.Nodes.{isExpression, isPattern};
-ghost use Rattle.numbering.specs.Walks.{Sizes, Ready, ReadyTwo, ReadyFunction, ReadyChain, ExpressionWalk, TwoWalk, ScopeWalk, FunctionWalk, ItemWalk, ArmWalk};
+ghost use Rattle.numbering.specs.Walks.{Sizes, Ready, ReadyTwo, ReadyFunction, ReadyChain, ExpressionWalk};
+ghost use Rattle.numbering.specs.Walks.{TwoWalk, ScopeWalk, FunctionWalk, ItemWalk, ArmWalk};
 ghost use Rattle.records.specs.SourceRecord.{NAMES};
 
 // The expressions of nodes x and y, which stand before node k.
@@ -37,7 +38,8 @@ fn number_sides(
     top: u32,
 ) -> u32
     requires { ⌜ ReadyTwo (now s) at n isExpression k x y next top × (Sizes (now locals) (now undo) (now old) (now ids) × (length (now globals) ≡ NAMES)) ⌝ }
-    ensures { λ r. ⌜ TwoWalk (now (s .entry)) at n x y next top (now (locals .entry)) (now (globals .entry)) (now (undo .entry)) (now (old .entry)) (now (ids .entry)) r (now (locals .exit)) (now (globals .exit)) (now (undo .exit)) (now (old .exit)) (now (ids .exit)) ⌝ }
+    ensures { λ r. ⌜ TwoWalk (now (s .entry)) at n x y next top (now (locals .entry)) (now (globals .entry)) (now (undo .entry)) (now (old .entry))
+        (now (ids .entry)) r (now (locals .exit)) (now (globals .exit)) (now (undo .exit)) (now (old .exit)) (now (ids .exit)) ⌝ }
 {
     let one = number_expr_variables(s, at, n, x, locals, globals, undo, old, ids, next, top);
     number_expr_variables(s, at, n, y, locals, globals, undo, old, ids, one, top)
@@ -59,7 +61,8 @@ fn number_scope(
     top: u32,
 ) -> u32
     requires { ⌜ ReadyTwo (now s) at n isPattern n p y next top × (Sizes (now locals) (now undo) (now old) (now ids) × (length (now globals) ≡ NAMES)) ⌝ }
-    ensures { λ r. ⌜ ScopeWalk (now (s .entry)) at n p y next top (now (locals .entry)) (now (globals .entry)) (now (undo .entry)) (now (old .entry)) (now (ids .entry)) r (now (locals .exit)) (now (globals .exit)) (now (undo .exit)) (now (old .exit)) (now (ids .exit)) ⌝ }
+    ensures { λ r. ⌜ ScopeWalk (now (s .entry)) at n p y next top (now (locals .entry)) (now (globals .entry)) (now (undo .entry)) (now (old .entry))
+        (now (ids .entry)) r (now (locals .exit)) (now (globals .exit)) (now (undo .exit)) (now (old .exit)) (now (ids .exit)) ⌝ }
 {
     let one = number_pattern_variables(s, at, n, p, locals, undo, old, ids, next, top);
     let two = number_expr_variables(
@@ -94,7 +97,8 @@ fn number_items(
     top: u32,
 ) -> u32
     requires { ⌜ ReadyChain (now s) at n Items l next top × (Sizes (now locals) (now undo) (now old) (now ids) × (length (now globals) ≡ NAMES)) ⌝ }
-    ensures { λ r. ⌜ ItemWalk (now (s .entry)) at n l next top (now (locals .entry)) (now (globals .entry)) (now (undo .entry)) (now (old .entry)) (now (ids .entry)) r (now (locals .exit)) (now (globals .exit)) (now (undo .exit)) (now (old .exit)) (now (ids .exit)) ⌝ }
+    ensures { λ r. ⌜ ItemWalk (now (s .entry)) at n l next top (now (locals .entry)) (now (globals .entry)) (now (undo .entry)) (now (old .entry))
+        (now (ids .entry)) r (now (locals .exit)) (now (globals .exit)) (now (undo .exit)) (now (old .exit)) (now (ids .exit)) ⌝ }
 {
     match node_at(s, at, l) {
         Entry::Link(item, rest, _) => {
@@ -137,7 +141,8 @@ fn number_arms(
     top: u32,
 ) -> u32
     requires { ⌜ ReadyChain (now s) at n Arms l next top × (Sizes (now locals) (now undo) (now old) (now ids) × (length (now globals) ≡ NAMES)) ⌝ }
-    ensures { λ r. ⌜ ArmWalk (now (s .entry)) at n l next top (now (locals .entry)) (now (globals .entry)) (now (undo .entry)) (now (old .entry)) (now (ids .entry)) r (now (locals .exit)) (now (globals .exit)) (now (undo .exit)) (now (old .exit)) (now (ids .exit)) ⌝ }
+    ensures { λ r. ⌜ ArmWalk (now (s .entry)) at n l next top (now (locals .entry)) (now (globals .entry)) (now (undo .entry)) (now (old .entry))
+        (now (ids .entry)) r (now (locals .exit)) (now (globals .exit)) (now (undo .exit)) (now (old .exit)) (now (ids .exit)) ⌝ }
 {
     match node_at(s, at, l) {
         Entry::Link(item, rest, result) => {
@@ -182,7 +187,8 @@ fn number_function(
     top: u32,
 ) -> u32
     requires { ⌜ ReadyFunction (now s) at n l y next top × (Sizes (now locals) (now undo) (now old) (now ids) × (length (now globals) ≡ NAMES)) ⌝ }
-    ensures { λ r. ⌜ FunctionWalk (now (s .entry)) at n l y next top (now (locals .entry)) (now (globals .entry)) (now (undo .entry)) (now (old .entry)) (now (ids .entry)) r (now (locals .exit)) (now (globals .exit)) (now (undo .exit)) (now (old .exit)) (now (ids .exit)) ⌝ }
+    ensures { λ r. ⌜ FunctionWalk (now (s .entry)) at n l y next top (now (locals .entry)) (now (globals .entry)) (now (undo .entry)) (now (old .entry))
+        (now (ids .entry)) r (now (locals .exit)) (now (globals .exit)) (now (undo .exit)) (now (old .exit)) (now (ids .exit)) ⌝ }
 {
     let one = number_parameters(s, at, n, l, locals, undo, old, ids, next, top);
     let two = number_expr_variables(
@@ -217,7 +223,8 @@ pub fn number_expr_variables(
     top: u32,
 ) -> u32
     requires { ⌜ Ready (now s) at n isExpression k next top × (Sizes (now locals) (now undo) (now old) (now ids) × (length (now globals) ≡ NAMES)) ⌝ }
-    ensures { λ r. ⌜ ExpressionWalk (now (s .entry)) at n k next top (now (locals .entry)) (now (globals .entry)) (now (undo .entry)) (now (old .entry)) (now (ids .entry)) r (now (locals .exit)) (now (globals .exit)) (now (undo .exit)) (now (old .exit)) (now (ids .exit)) ⌝ }
+    ensures { λ r. ⌜ ExpressionWalk (now (s .entry)) at n k next top (now (locals .entry)) (now (globals .entry)) (now (undo .entry)) (now (old .entry))
+        (now (ids .entry)) r (now (locals .exit)) (now (globals .exit)) (now (undo .exit)) (now (old .exit)) (now (ids .exit)) ⌝ }
 {
     match node_at(s, at, k) {
         Entry::Expression(form) => match form {

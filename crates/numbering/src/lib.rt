@@ -70,7 +70,8 @@ fn no_publics() -> [u32; PUBLICS]
 fn register_intrinsics(s: &[u8], text: usize, count: usize, globals: &mut [u32; NAMES])
     requires { ⌜ (namesFit (now s) text count ≡ true) × (4 * (HEADER + NAME-WORDS * count) ≤ length (now s)) ⌝ }
     requires { ⌜ (count ≤ NAMES) × (length (now globals) ≡ NAMES) ⌝ }
-    ensures { λ r. ⌜ (length (now (globals .exit)) ≡ NAMES) × (Holds (now (globals .entry)) [] → Holds (now (globals .exit)) (registered (rows count 0 (nameOf (now (s .entry)) text)) .globals)) ⌝ }
+    ensures { λ r. ⌜ (length (now (globals .exit)) ≡ NAMES)
+        × (Holds (now (globals .entry)) [] → Holds (now (globals .exit)) (registered (rows count 0 (nameOf (now (s .entry)) text)) .globals)) ⌝ }
 {
     register(s, text, count, b"fresh", FRESH_ID, globals);
     register(s, text, count, b"iter", ITER_ID, globals);
@@ -85,7 +86,8 @@ fn number_lists(
     ids: &mut [u32; NODES],
     publics: &mut [u32; PUBLICS],
 ) -> u32
-    requires { ⌜ (Readable (now s) × (l ≡ layoutOf (now s))) × ((length (now globals) ≡ NAMES) × ((length (now ids) ≡ NODES) × (length (now publics) ≡ PUBLICS))) ⌝ }
+    requires { ⌜ (Readable (now s) × (l ≡ layoutOf (now s)))
+        × ((length (now globals) ≡ NAMES) × ((length (now ids) ≡ NODES) × (length (now publics) ≡ PUBLICS))) ⌝ }
     requires { ⌜ Holds (now globals) (registered (rows (l .names) 0 (nameOf (now s) (l .«text_at»))) .globals) ⌝ }
     ensures { λ r. ⌜ NumberedIn (now (s .entry)) (now (ids .entry)) (now (publics .entry)) r (now (ids .exit)) (now (publics .exit)) ⌝ }
 {

@@ -29,7 +29,8 @@ fn number_def_variables(
     next: u32,
 ) -> u32
     requires { ⌜ ReadyTwo (now s) at n isPattern n p v next 0 × (Sizes (now locals) (now undo) (now old) (now ids) × (length (now globals) ≡ NAMES)) ⌝ }
-    ensures { λ r. ⌜ DefinitionWalk (now (s .entry)) at n p v next (now (locals .entry)) (now (globals .entry)) (now (ids .entry)) r (now (locals .exit)) (now (globals .exit)) (now (undo .exit)) (now (old .exit)) (now (ids .exit)) ⌝ }
+    ensures { λ r. ⌜ DefinitionWalk (now (s .entry)) at n p v next (now (locals .entry)) (now (globals .entry)) (now (ids .entry)) r (now (locals .exit))
+        (now (globals .exit)) (now (undo .exit)) (now (old .exit)) (now (ids .exit)) ⌝ }
 {
     let one = number_expr_variables(s, at, n, v, locals, globals, undo, old, ids, next, 0);
     number_pattern_variables(s, at, n, p, locals, undo, old, ids, one, 0)
@@ -51,7 +52,8 @@ pub fn number_definitions(
 ) -> u32
     requires { ⌜ (4 * (list + DEFINITION-WORDS * count) ≤ length (now s)) × (definitionsFit (now s) at n list count ≡ true) ⌝ }
     requires { ⌜ ReadyDefinitions (now s) at n list count 0 next × (Sizes (now locals) (now undo) (now old) (now ids) × (length (now globals) ≡ NAMES)) ⌝ }
-    ensures { λ r. ⌜ DefinitionsWalk (now (s .entry)) at n list count 0 next (now (locals .entry)) (now (globals .entry)) (now (ids .entry)) r (now (locals .exit)) (now (globals .exit)) (now (undo .exit)) (now (old .exit)) (now (ids .exit)) ⌝ }
+    ensures { λ r. ⌜ DefinitionsWalk (now (s .entry)) at n list count 0 next (now (locals .entry)) (now (globals .entry)) (now (ids .entry)) r
+        (now (locals .exit)) (now (globals .exit)) (now (undo .exit)) (now (old .exit)) (now (ids .exit)) ⌝ }
 {
     let mut i = 0usize;
     let mut one = next;
@@ -79,8 +81,10 @@ pub fn number_expressions(
     ids: &mut [u32; NODES],
     next: u32,
 ) -> u32
-    requires { ⌜ ((4 * (list + count) ≤ length (now s)) × (expressionsFit (now s) at n list count ≡ true)) × (ReadyExpressions (now s) at n list count 0 next × (Sizes (now locals) (now undo) (now old) (now ids) × (length (now globals) ≡ NAMES))) ⌝ }
-    ensures { λ r. ⌜ ExpressionsWalk (now (s .entry)) at n list count 0 next 0 (now (locals .entry)) (now (globals .entry)) (now (undo .entry)) (now (old .entry)) (now (ids .entry)) r (now (locals .exit)) (now (globals .exit)) (now (undo .exit)) (now (old .exit)) (now (ids .exit)) ⌝ }
+    requires { ⌜ ((4 * (list + count) ≤ length (now s)) × (expressionsFit (now s) at n list count ≡ true))
+        × (ReadyExpressions (now s) at n list count 0 next × (Sizes (now locals) (now undo) (now old) (now ids) × (length (now globals) ≡ NAMES))) ⌝ }
+    ensures { λ r. ⌜ ExpressionsWalk (now (s .entry)) at n list count 0 next 0 (now (locals .entry)) (now (globals .entry)) (now (undo .entry))
+        (now (old .entry)) (now (ids .entry)) r (now (locals .exit)) (now (globals .exit)) (now (undo .exit)) (now (old .exit)) (now (ids .exit)) ⌝ }
 {
     let mut i = 0usize;
     let mut one = next;

@@ -27,7 +27,8 @@ pub fn number_pattern_variables(
     top: u32,
 ) -> u32
     requires { ⌜ Ready (now s) at n isPattern k next top × Sizes (now locals) (now undo) (now old) (now ids) ⌝ }
-    ensures { λ r. ⌜ PatternWalk (now (s .entry)) at n k next top (now (locals .entry)) (now (undo .entry)) (now (old .entry)) (now (ids .entry)) r (now (locals .exit)) (now (undo .exit)) (now (old .exit)) (now (ids .exit)) ⌝ }
+    ensures { λ r. ⌜ PatternWalk (now (s .entry)) at n k next top (now (locals .entry)) (now (undo .entry)) (now (old .entry)) (now (ids .entry)) r
+        (now (locals .exit)) (now (undo .exit)) (now (old .exit)) (now (ids .exit)) ⌝ }
 {
     match node_at(s, at, k) {
         Entry::Pattern(shape) => match shape {
@@ -90,7 +91,8 @@ pub fn number_parameters(
     top: u32,
 ) -> u32
     requires { ⌜ ReadyChain (now s) at n Parameters l next top × Sizes (now locals) (now undo) (now old) (now ids) ⌝ }
-    ensures { λ r. ⌜ ParameterWalk (now (s .entry)) at n l next top (now (locals .entry)) (now (undo .entry)) (now (old .entry)) (now (ids .entry)) r (now (locals .exit)) (now (undo .exit)) (now (old .exit)) (now (ids .exit)) ⌝ }
+    ensures { λ r. ⌜ ParameterWalk (now (s .entry)) at n l next top (now (locals .entry)) (now (undo .entry)) (now (old .entry)) (now (ids .entry)) r
+        (now (locals .exit)) (now (undo .exit)) (now (old .exit)) (now (ids .exit)) ⌝ }
 {
     match node_at(s, at, l) {
         Entry::Link(item, rest, _) => {

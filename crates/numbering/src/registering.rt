@@ -64,8 +64,10 @@ pub fn number_publics(
     publics: &mut [u32; PUBLICS],
     next: u32,
 ) -> u32
-    requires { ⌜ ((4 * (list + count) ≤ length (now s)) × (publicsFit (now s) names list count ≡ true)) × (((names ≤ NAMES) × (count ≤ PUBLICS)) × ((length (now globals) ≡ NAMES) × ((length (now publics) ≡ PUBLICS) × (next ≤ FIRST-FREE-ID)))) ⌝ }
-    ensures { λ r. ⌜ Published (now (s .entry)) list count 0 next (now (locals .entry)) (now (globals .entry)) (now (publics .entry)) r (now (globals .exit)) (now (publics .exit)) ⌝ }
+    requires { ⌜ ((4 * (list + count) ≤ length (now s)) × (publicsFit (now s) names list count ≡ true))
+        × (((names ≤ NAMES) × (count ≤ PUBLICS)) × ((length (now globals) ≡ NAMES) × ((length (now publics) ≡ PUBLICS) × (next ≤ FIRST-FREE-ID)))) ⌝ }
+    ensures { λ r. ⌜ Published (now (s .entry)) list count 0 next (now (locals .entry)) (now (globals .entry)) (now (publics .entry)) r (now (globals .exit))
+        (now (publics .exit)) ⌝ }
 {
     let mut i = 0usize;
     let mut one = next;

@@ -57,7 +57,10 @@ pub fn bind(
     top: u32,
 ) -> u32
     requires { ⌜ ((x < NAMES) × (k < NODES)) × ((next < IDS) × (top < NODES)) ⌝ }
-    ensures { λ r. ⌜ ((r ≡ next + 1) × (now (locals .exit) ≡ set (now (locals .entry)) x (next + 1))) × ((now (undo .exit) ≡ set (now (undo .entry)) top x) × (now (old .exit) ≡ set (now (old .entry)) top (getD (now (locals .entry)) x 0)) × (now (ids .exit) ≡ set (now (ids .entry)) k next)) ⌝ }
+    ensures { λ r. ⌜ ((r ≡ next + 1) × (now (locals .exit) ≡ set (now (locals .entry)) x (next + 1)))
+        × ((now (undo .exit) ≡ set (now (undo .entry)) top x)
+        × (now (old .exit) ≡ set (now (old .entry)) top (getD (now (locals .entry)) x 0))
+        × (now (ids .exit) ≡ set (now (ids .entry)) k next)) ⌝ }
 {
     let t = top as usize;
     undo[t] = x as u32;

@@ -10,7 +10,8 @@ use borrow.Author.Tests.{eq-eqb, ne-eqb}
 use Rattle.flat.specs.Trees.{Flat, Definition, treeNodes, definitionsNodes}
 use Rattle.flat.specs.Record.{moduleOf}
 use Rattle.constraint.specs.declared.Term.{Term}
-use Rattle.pass_trees.specs.Passes.{member, keepIf, those, Usage, isNever, usage, Substitutions, copyPropagateDef, copyPropagateDefs, Cuts, cutsOf, joined, flattenDefTo3ac, flattenDefs}
+use Rattle.pass_trees.specs.Passes.{member, keepIf, those, Usage, isNever, usage, Substitutions, copyPropagateDef}
+use Rattle.pass_trees.specs.Passes.{copyPropagateDefs, Cuts, cutsOf, joined, flattenDefTo3ac, flattenDefs}
 use Rattle.pass_trees.proofs.Loops.{those-append, copies-append, defs-append}
 use Rattle.pass_classify.specs.Arrays.{usageAt, usageOf, marked, Classified}
 use Rattle.pass_copies.specs.Substituted.{SUBSTITUTION-WORDS, substOf, putDefinition, putDefinitions}
@@ -82,7 +83,8 @@ module _ (b : List ℕ) (k : ℕ) (s : Substitutions) (id : ℕ) (e : Flat) (n :
   cut-prover h p = rw (used-so h, p)
 
   -- counted
-  pub cut-counted : isNever (usage (moduleOf b) id) ≡ false → member id (proversOf b) ≡ false → defsCut b k s (the ∷ []) n ≡ cutsOf (treeCut (Given (Term.Variable id)) k s e n)
+  pub cut-counted : isNever (usage (moduleOf b) id) ≡ false → member id (proversOf b) ≡ false
+      → defsCut b k s (the ∷ []) n ≡ cutsOf (treeCut (Given (Term.Variable id)) k s e n)
   unfolding defsCut copyPropagateDefs copyPropagateDef flattenDefs flattenDefTo3ac treeCut targetOf
   cut-counted h p = rw (used-so h, p) (joined-none _)
 
@@ -109,7 +111,8 @@ module _ (b : List ℕ) (k : ℕ) where
   unfolding defsCut usedOf those copyPropagateDefs flattenDefs
   defs-none s n = refl
 
-  pub defs-first : (s : Substitutions) (d : Definition) (ds : List Definition) (n : ℕ) → defsCut b k s (d ∷ ds) n ≡ joined (defsCut b k s (d ∷ []) n .equalities) (defsCut b k (defsAfter b k s (d ∷ [])) ds (defsCut b k s (d ∷ []) n .next))
+  pub defs-first : (s : Substitutions) (d : Definition) (ds : List Definition) (n : ℕ)
+      → defsCut b k s (d ∷ ds) n ≡ joined (defsCut b k s (d ∷ []) n .equalities) (defsCut b k (defsAfter b k s (d ∷ [])) ds (defsCut b k s (d ∷ []) n .next))
   unfolding defsCut defsAfter
   defs-first s d ds n = rw (used-first d ds, copies-append (proversOf b) k (usedOf b (d ∷ [])) (usedOf b ds) s) (defs-append (proversOf b) _ _ n)
 

@@ -9,7 +9,8 @@ use lib.ListN.{length, length-append}
 use Rattle.flat.specs.Trees.{Flat, Equation, treeNodes, equationsNodes}
 use Rattle.constraint.specs.declared.Term.{Term}
 use Rattle.constraint.specs.Record.{EQUALITY-WORDS}
-use Rattle.pass_trees.specs.Passes.{keepIf, Substitutions, copyPropagateExpr, copyPropagateEquations, dead, alive, Cut as Cutting, copied, Cuts, cutsOf, joined, Sides as SidesOf, into, both, sides, flattenSides, flattenEquations}
+use Rattle.pass_trees.specs.Passes.{keepIf, Substitutions, copyPropagateExpr, copyPropagateEquations, dead, alive, Cut as Cutting}
+use Rattle.pass_trees.specs.Passes.{copied, Cuts, cutsOf, joined, Sides as SidesOf, into, both, sides, flattenSides, flattenEquations}
 use Rattle.pass_trees.proofs.Loops.{copied-equations-append, alive-append, equations-append}
 use Rattle.pass_copies.specs.declared.Copied.{Copied}
 use Rattle.pass_copies.specs.Substituted.{copiedOf, deadRoots}
@@ -114,7 +115,9 @@ module _ (k : ℕ) (s : Substitutions) (l r : Flat) (n : ℕ) where
   unfolding sidesBy
   cut-neither = refl
 
-  cut-both : (a b : Cutting) → a ≡ treeCut New k s l n → b ≡ treeCut New k s r (a .next) → flattenSides (both x y) n ≡ joined (cutsOf a .equalities) (joined (cutsOf b .equalities) (cutsOf (copied (targetOf (Given (a .term))) (b .term) (b .next))))
+  cut-both : (a b : Cutting) → a ≡ treeCut New k s l n → b ≡ treeCut New k s r (a .next)
+      → flattenSides (both x y) n
+      ≡ joined (cutsOf a .equalities) (joined (cutsOf b .equalities) (cutsOf (copied (targetOf (Given (a .term))) (b .term) (b .next))))
   unfolding flattenSides treeCut targetOf cutsOf
   cut-both a b p q = rw (q, p, term-cut)
 
@@ -155,19 +158,23 @@ module _ (k : ℕ) (s : Substitutions) (l r : Flat) (n : ℕ) where
       side-is : sidesOf (copiedOf x) (copiedOf y) ≡ z
       side-is = sym (f ∙ ap₂ sidesOf p q)
 
-      pub way-left : (b : List ℕ) {b′ : List ℕ} (at : ℕ) {t : Term} {u : Place} → z ≡ Left t → Puts b b′ at (cutsOf (treeCut (Given t) k s r n)) u → Puts b b′ at (equationsCut k s (the ∷ []) n) u
+      pub way-left : (b : List ℕ) {b′ : List ℕ} (at : ℕ) {t : Term} {u : Place} → z ≡ Left t → Puts b b′ at (cutsOf (treeCut (Given t) k s r n)) u
+          → Puts b b′ at (equationsCut k s (the ∷ []) n) u
       way-left b at {t} g w = rw (cut-by (Left t) (side-is ∙ g) (dead-is ∙ h) ∙ cut-left t) w
 
-      pub way-right : (b : List ℕ) {b′ : List ℕ} (at : ℕ) {t : Term} {u : Place} → z ≡ Right t → Puts b b′ at (cutsOf (treeCut (Given t) k s l n)) u → Puts b b′ at (equationsCut k s (the ∷ []) n) u
+      pub way-right : (b : List ℕ) {b′ : List ℕ} (at : ℕ) {t : Term} {u : Place} → z ≡ Right t → Puts b b′ at (cutsOf (treeCut (Given t) k s l n)) u
+          → Puts b b′ at (equationsCut k s (the ∷ []) n) u
       way-right b at {t} g w = rw (cut-by (Right t) (side-is ∙ g) (dead-is ∙ h) ∙ cut-right t) w
 
-      pub way-neither : (b : List ℕ) {b′ : List ℕ} (at : ℕ) {u : Place} → z ≡ Neither → Puts b b′ at (flattenSides (both x y) n) u → Puts b b′ at (equationsCut k s (the ∷ []) n) u
+      pub way-neither : (b : List ℕ) {b′ : List ℕ} (at : ℕ) {u : Place} → z ≡ Neither → Puts b b′ at (flattenSides (both x y) n) u
+          → Puts b b′ at (equationsCut k s (the ∷ []) n) u
       way-neither b at g w = rw (cut-by Neither (side-is ∙ g) (dead-is ∙ h) ∙ cut-neither) w
 
 -- ---- both sides cut
 
 module _ (k : ℕ) (s : Substitutions) (l r : Flat) (b : List ℕ) {c : List ℕ} (at n : ℕ) {r1 : Cut} (l1 : Leaves b c at (treeCut New k s l n) r1) where
-  pub room-both : {d : List ℕ} {r2 : Cut} → Leaves c d (r1 .at) (treeCut New k s r (r1 .next)) r2 → Room (treeNodes l + treeNodes r) at n b → 4 * (r2 .at + EQUALITY-WORDS) ≤ length d
+  pub room-both : {d : List ℕ} {r2 : Cut} → Leaves c d (r1 .at) (treeCut New k s r (r1 .next)) r2 → Room (treeNodes l + treeNodes r) at n b
+      → 4 * (r2 .at + EQUALITY-WORDS) ≤ length d
   unfolding after
   room-both {d} {r2} l2 h =
       let a : Cutting = treeCut New k s l n in
@@ -179,13 +186,18 @@ module _ (k : ℕ) (s : Substitutions) (l r : Flat) (b : List ℕ) {c : List ℕ
       let g : length d ≡ length b = ap length (l2 .0) ∙ length-put c (r1 .at) (y .equalities) ∙ ap length (l1 .0) ∙ length-put b at (a .equalities) in
       omega (arith, h .words)
 
-  pub way-both : {d f : List ℕ} {r2 r3 : Cut} → Leaves c d (r1 .at) (treeCut New k s r (r1 .next)) r2 → Leaves d f (r2 .at) (copied (targetOf (Given (r1 .term))) (r2 .term) (r2 .next)) r3 → Puts b f at (flattenSides (both (copyPropagateExpr k s l) (copyPropagateExpr k s r)) n) (record { next = r3 .next; at = r3 .at })
+  pub way-both : {d f : List ℕ} {r2 r3 : Cut} → Leaves c d (r1 .at) (treeCut New k s r (r1 .next)) r2
+      → Leaves d f (r2 .at) (copied (targetOf (Given (r1 .term))) (r2 .term) (r2 .next)) r3
+      → Puts b f at (flattenSides (both (copyPropagateExpr k s l) (copyPropagateExpr k s r)) n) (record { next = r3 .next; at = r3 .at })
   way-both {d} {f} {r2} {r3} l2 l3 =
       let a : Cutting = treeCut New k s l n in
       let y : Cutting = treeCut New k s r (r1 .next) in
       let z : Cutting = copied (targetOf (Given (r1 .term))) (r2 .term) (r2 .next) in
-      let e : flattenSides (both (copyPropagateExpr k s l) (copyPropagateExpr k s r)) n ≡ joined (cutsOf a .equalities) (joined (cutsOf y .equalities) (cutsOf z)) = cut-both k s l r n a y refl (ap (treeCut New k s r) (its-next at a (l1 .1))) ∙ rw (its-term at a (l1 .1), its-term (r1 .at) y (l2 .1), its-next (r1 .at) y (l2 .1)) in
-      rw e (puts-join b at (cutsOf a) (joined (cutsOf y .equalities) (cutsOf z)) (puts-tree b at a l1) (puts-join c (r1 .at) (cutsOf y) (cutsOf z) (puts-tree c (r1 .at) y l2) (puts-tree d (r2 .at) z l3)))
+      let e : flattenSides (both (copyPropagateExpr k s l) (copyPropagateExpr k s r)) n
+      ≡ joined (cutsOf a .equalities) (joined (cutsOf y .equalities) (cutsOf z)) = cut-both k s l r n a y refl (ap (treeCut New k s r) (its-next at a (l1 .1)))
+      ∙ rw (its-term at a (l1 .1), its-term (r1 .at) y (l2 .1), its-next (r1 .at) y (l2 .1)) in
+      rw e (puts-join b at (cutsOf a) (joined (cutsOf y .equalities) (cutsOf z)) (puts-tree b at a l1)
+      (puts-join c (r1 .at) (cutsOf y) (cutsOf z) (puts-tree c (r1 .at) y l2) (puts-tree d (r2 .at) z l3)))
 
 -- ---- lists
 
@@ -194,9 +206,11 @@ module _ (k : ℕ) (s : Substitutions) where
   unfolding equationsCut copyPropagateEquations alive flattenEquations
   equations-cut-none n = refl
 
-  pub equations-first : (e : Equation) (es : List Equation) (n : ℕ) → equationsCut k s (e ∷ es) n ≡ joined (equationsCut k s (e ∷ []) n .equalities) (equationsCut k s es (equationsCut k s (e ∷ []) n .next))
+  pub equations-first : (e : Equation) (es : List Equation) (n : ℕ)
+      → equationsCut k s (e ∷ es) n ≡ joined (equationsCut k s (e ∷ []) n .equalities) (equationsCut k s es (equationsCut k s (e ∷ []) n .next))
   unfolding equationsCut
-  equations-first e es n = ap (λ (z : List Equation). flattenEquations z n) (ap alive (copied-equations-append k s (e ∷ []) es) ∙ alive-append _ _) ∙ equations-append _ _ n
+  equations-first e es n =
+      ap (λ (z : List Equation). flattenEquations z n) (ap alive (copied-equations-append k s (e ∷ []) es) ∙ alive-append _ _) ∙ equations-append _ _ n
 
   pub few-equations : (es : List Equation) (n : ℕ) → Few (equationsCut k s es n) (equationsNodes es) n
   unfolding equationsNodes
@@ -207,13 +221,16 @@ module _ (k : ℕ) (s : Substitutions) where
   pub put-equations-none : (c : List ℕ) (at n : ℕ) → Puts c c at (equationsCut k s [] n) (record { next = n; at = at })
   put-equations-none c at n = rw (equations-cut-none n) (puts-none c at n)
 
-  pub put-equations-join : (e : Equation) (es : List Equation) (c : List ℕ) {c1 c2 : List ℕ} (at n : ℕ) {r1 r2 : Place} → Puts c c1 at (equationsCut k s (e ∷ []) n) r1 → Puts c1 c2 (r1 .at) (equationsCut k s es (r1 .next)) r2 → Puts c c2 at (equationsCut k s (e ∷ es) n) r2
+  pub put-equations-join : (e : Equation) (es : List Equation) (c : List ℕ) {c1 c2 : List ℕ} (at n : ℕ) {r1 r2 : Place}
+      → Puts c c1 at (equationsCut k s (e ∷ []) n) r1 → Puts c1 c2 (r1 .at) (equationsCut k s es (r1 .next)) r2 → Puts c c2 at (equationsCut k s (e ∷ es) n) r2
   put-equations-join e es c at n {r1 = r1} l1 l2 =
       let C : Cuts = equationsCut k s (e ∷ []) n in
       let D : Cuts = equationsCut k s es (r1 .next) in
-      let w : equationsCut k s (e ∷ es) n ≡ joined (C .equalities) D = equations-first e es n ∙ ap (λ (y : ℕ). joined (C .equalities) (equationsCut k s es y)) (sym (place-next at C (l1 .1))) in
+      let w : equationsCut k s (e ∷ es) n ≡ joined (C .equalities) D =
+      equations-first e es n ∙ ap (λ (y : ℕ). joined (C .equalities) (equationsCut k s es y)) (sym (place-next at C (l1 .1))) in
       rw w (puts-join c at C D l1 l2)
 
   -- the room that they leave
-  pub room-equations : (es : List Equation) {c c′ : List ℕ} {at n : ℕ} {r : Place} (p : ℕ) → Puts c c′ at (equationsCut k s es n) r → Room (equationsNodes es + p) at n c → Room p (r .at) (r .next) c′
+  pub room-equations : (es : List Equation) {c c′ : List ℕ} {at n : ℕ} {r : Place} (p : ℕ) → Puts c c′ at (equationsCut k s es n) r
+      → Room (equationsNodes es + p) at n c → Room p (r .at) (r .next) c′
   room-equations es {n = n} p l h = room-puts (equationsCut k s es n) (equationsNodes es) p (few-equations es n) l h

@@ -32,17 +32,20 @@ unfolding placeFrom
 puts-none b at n = (sym (put-none b at), ap (λ (m : ℕ). record { next = n; at = m }) (sym (after-none at)))
 
 -- a tree's
-pub puts-tree : (b : List ℕ) {b′ : List ℕ} (at : ℕ) (c : Cutting) {r : Cut} → Leaves b b′ at c r → Puts b b′ at (cutsOf c) (record { next = r .next; at = r .at })
+pub puts-tree : (b : List ℕ) {b′ : List ℕ} (at : ℕ) (c : Cutting) {r : Cut} → Leaves b b′ at c r
+    → Puts b b′ at (cutsOf c) (record { next = r .next; at = r .at })
 unfolding cutsOf placeFrom
 puts-tree b at c l = (l .0, ap₂ (λ (x y : ℕ). record { next = x; at = y }) (its-next at c (l .1)) (its-at at c (l .1)))
 
 -- one after the other
-pub puts-join : (b : List ℕ) {b1 b2 : List ℕ} (at : ℕ) (c d : Cuts) {r1 r2 : Place} → Puts b b1 at c r1 → Puts b1 b2 (r1 .at) d r2 → Puts b b2 at (joined (c .equalities) d) r2
+pub puts-join : (b : List ℕ) {b1 b2 : List ℕ} (at : ℕ) (c d : Cuts) {r1 r2 : Place} → Puts b b1 at c r1 → Puts b1 b2 (r1 .at) d r2
+    → Puts b b2 at (joined (c .equalities) d) r2
 unfolding joined placeFrom
 puts-join b at c d l m =
     let i = place-at at c (l .1) in (
       m .0 ∙ ap₂ (λ (x : List ℕ) (y : ℕ). putEqualities x y (d .equalities)) (l .0) i ∙ sym (put-append b at (c .equalities) (d .equalities)),
-      m .1 ∙ ap (λ (x : ℕ). record { next = d .next; at = x }) (ap (λ (x : ℕ). after x (d .equalities)) i ∙ sym (after-append at (c .equalities) (d .equalities))),
+      m .1 ∙ ap (λ (x : ℕ). record { next = d .next; at = x })
+          (ap (λ (x : ℕ). after x (d .equalities)) i ∙ sym (after-append at (c .equalities) (d .equalities))),
     )
 
 pub joined-none : (c : Cuts) → joined (c .equalities) (record { next = c .next; equalities = [] }) ≡ c
@@ -59,13 +62,15 @@ few-none n = record { equalities = omega arith; ids = omega arith }
 
 pub few-join : (c d : Cuts) {m n next : ℕ} → Few c m next → Few d n (c .next) → Few (joined (c .equalities) d) (m + n) next
 unfolding joined
-few-join c d f g = record { equalities = omega (arith, length-append (c .equalities) (d .equalities), f .equalities, g .equalities); ids = omega (arith, f .ids, g .ids) }
+few-join c d f g =
+    record { equalities = omega (arith, length-append (c .equalities) (d .equalities), f .equalities, g .equalities); ids = omega (arith, f .ids, g .ids) }
 
 pub few-less : (c : Cuts) {m n next : ℕ} → Few c m next → m ≤ n → Few c n next
 few-less c f l = record { equalities = omega (arith, f .equalities); ids = omega (arith, f .ids) }
 
 -- what is left of the room for them and more
-pub room-puts : {b b′ : List ℕ} {at next : ℕ} (c : Cuts) {r : Place} (m n : ℕ) → Few c m next → Puts b b′ at c r → Room (m + n) at next b → Room n (r .at) (r .next) b′
+pub room-puts : {b b′ : List ℕ} {at next : ℕ} (c : Cuts) {r : Place} (m n : ℕ) → Few c m next → Puts b b′ at c r → Room (m + n) at next b
+    → Room n (r .at) (r .next) b′
 unfolding after
 room-puts {b} {at = at} c m n f l h =
     let i = place-at at c (l .1) in

@@ -41,7 +41,8 @@ pub length-put : (b : List ℕ) (at : ℕ) (qs : List Equality) → length (putE
 unfolding putEqualities
 length-put b at qs = length-setWords (equalitiesWords qs) b at
 
-pub put-one : (b : List ℕ) (at : ℕ) (l : Term) (r : Side) → setWords b at (writtenWords (equalityOf l r)) ≡ putEqualities b at (record { left = l; right = r } ∷ [])
+pub put-one : (b : List ℕ) (at : ℕ) (l : Term) (r : Side)
+    → setWords b at (writtenWords (equalityOf l r)) ≡ putEqualities b at (record { left = l; right = r } ∷ [])
 unfolding putEqualities equalitiesWords equalityWords equalityOf
 put-one b at l r = ap (setWords b at) (sym (append-nil _))
 
@@ -60,10 +61,17 @@ unfolding targetOf orVariable
 left-given t n e = rw e
 
 module _ (b : List ℕ) (at n : ℕ) (target : Target) (t : Term) where
-  pub placed-new : target ≡ New → (b ≡ putEqualities b at (copied (targetOf target) t n .equalities)) × (record { term = t; next = n; at = at } ≡ cutFrom at (copied (targetOf target) t n))
+  pub placed-new : target ≡ New
+      → (b ≡ putEqualities b at (copied (targetOf target) t n .equalities))
+      × (record { term = t; next = n; at = at } ≡ cutFrom at (copied (targetOf target) t n))
   unfolding targetOf copied cutFrom
   placed-new e = rw e (sym (put-none b at), ap (λ (m : ℕ). record { term = t; next = n; at = m }) (sym (after-none at)))
 
-  pub placed-given : {l : Term} {q : Written} {c : List ℕ} → target ≡ Given l → q ≡ equalityOf l (Side.copy t) → c ≡ setWords b at (writtenWords q) → (c ≡ putEqualities b at (copied (targetOf target) t n .equalities)) × (record { term = l; next = n; at = at + EQUALITY-WORDS } ≡ cutFrom at (copied (targetOf target) t n))
+  pub placed-given : {l : Term} {q : Written} {c : List ℕ} → target ≡ Given l → q ≡ equalityOf l (Side.copy t) → c ≡ setWords b at (writtenWords q)
+      → (c ≡ putEqualities b at (copied (targetOf target) t n .equalities))
+      × (record { term = l; next = n; at = at + EQUALITY-WORDS } ≡ cutFrom at (copied (targetOf target) t n))
   unfolding targetOf copied cutFrom
-  placed-given {l} e p q = rw e (q ∙ ap (λ (w : Written). setWords b at (writtenWords w)) p ∙ put-one b at l (Side.copy t), ap (λ (m : ℕ). record { term = l; next = n; at = m }) (sym (after-one at _)))
+  placed-given {l} e p q = rw e (
+    q ∙ ap (λ (w : Written). setWords b at (writtenWords w)) p ∙ put-one b at l (Side.copy t),
+    ap (λ (m : ℕ). record { term = l; next = n; at = m }) (sym (after-one at _)),
+  )

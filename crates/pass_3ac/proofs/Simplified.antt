@@ -52,7 +52,8 @@ module _ (l a b : Term) {q : Written} {op o : InfixOp} (e : op ≡ o) where
   pub by-operator : q ≡ equalityOf l (infixOp o a b) → q ≡ equalityOf l (infixOp op a b)
   by-operator p = p ∙ ap (λ (x : InfixOp). equalityOf l (infixOp x a b)) (sym e)
 
-  pub by-unless : infixOp o a b ≡ when (isOne b) (Side.copy a) (Side.infixed o a b) → q ≡ equalityOf l (when (isOne b) (Side.copy a) (Side.infixed op a b)) → q ≡ equalityOf l (infixOp op a b)
+  pub by-unless : infixOp o a b ≡ when (isOne b) (Side.copy a) (Side.infixed o a b) → q ≡ equalityOf l (when (isOne b) (Side.copy a) (Side.infixed op a b))
+      → q ≡ equalityOf l (infixOp op a b)
   by-unless f p = by-operator (p ∙ ap (λ (x : InfixOp). equalityOf l (when (isOne b) (Side.copy a) (Side.infixed x a b))) e ∙ ap (equalityOf l) (sym f))
 
   pub by-plain : infixOp o a b ≡ Side.infixed o a b → q ≡ equalityOf l (Side.infixed op a b) → q ≡ equalityOf l (infixOp op a b)

@@ -35,11 +35,13 @@ term-cut out (Term.Variable v) n = refl
 term-cut out (Term.Constant c) n = refl
 
 module _ (target : Target) (k : ℕ) (s : Substitutions) {e : Flat} (n : ℕ) where
-  pub cut-infix : {o : InfixOp} {a b : Flat} (x y : Cut) → e ≡ Flat.infixed o a b → x ≡ treeCut New k s a n → y ≡ treeCut New k s b (x .next) → treeCut target k s e n ≡ pushConstraintDef (targetOf target) (x .equalities ++ y .equalities) (y .next) (infixOp o (x .term) (y .term))
+  pub cut-infix : {o : InfixOp} {a b : Flat} (x y : Cut) → e ≡ Flat.infixed o a b → x ≡ treeCut New k s a n → y ≡ treeCut New k s b (x .next)
+      → treeCut target k s e n ≡ pushConstraintDef (targetOf target) (x .equalities ++ y .equalities) (y .next) (infixOp o (x .term) (y .term))
   unfolding treeCut copyPropagateExpr flattenExprTo3ac targetOf
   cut-infix x y p q r = rw (p, r, q)
 
-  pub cut-negate : {a : Flat} (x : Cut) → e ≡ Flat.negate a → x ≡ treeCut New k s a n → treeCut target k s e n ≡ pushConstraintDef (targetOf target) (x .equalities) (x .next) (Side.negate (x .term))
+  pub cut-negate : {a : Flat} (x : Cut) → e ≡ Flat.negate a → x ≡ treeCut New k s a n
+      → treeCut target k s e n ≡ pushConstraintDef (targetOf target) (x .equalities) (x .next) (Side.negate (x .term))
   unfolding treeCut copyPropagateExpr flattenExprTo3ac targetOf
   cut-negate x p q = rw (p, q)
 

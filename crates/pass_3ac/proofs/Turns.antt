@@ -11,7 +11,8 @@ use Rattle.flat.specs.Layout.{definitions, equations, definitionEntry, equation
 use Rattle.flat.specs.Record.{tree, moduleOf}
 use Rattle.flat.specs.Readable.{Readable}
 use Rattle.pass_trees.specs.Passes.{Substitutions}
-use Rattle.pass_classify.proofs.Lists.{definitionsFrom, equationsFrom, definitions-none, equations-none, definitions-whole, equations-whole, OverDefinitions, OverEquations, definition-small, definitions-more, equations-more}
+use Rattle.pass_classify.proofs.Lists.{definitionsFrom, equationsFrom, definitions-none, equations-none, definitions-whole}
+use Rattle.pass_classify.proofs.Lists.{equations-whole, OverDefinitions, OverEquations, definition-small, definitions-more, equations-more}
 use Rattle.pass_copies.specs.Substituted.{SUBSTITUTION-WORDS, substOf}
 use Rattle.pass_copies.proofs.After.{storable-tree}
 use Rattle.pass_3ac.specs.declared.Place.{Place}
@@ -31,7 +32,8 @@ DefsFrom b k m₀ c₀ at₀ n₀ m c at n j = (m′ c′ : List ℕ) (r : Place
 pub defs-start : (b : List ℕ) (k : ℕ) (m c : List ℕ) (at n : ℕ) → DefsFrom b k m c at n m c at n 0
 defs-start b k m c at n m′ c′ r l = rw (definitions-whole b) l
 
-pub room-start : (b : List ℕ) {at n : ℕ} {c : List ℕ} → Room (definitionsNodes (moduleOf b .definitions)) at n c → Room (definitionsNodes (definitionsFrom b 0)) at n c
+pub room-start : (b : List ℕ) {at n : ℕ} {c : List ℕ} → Room (definitionsNodes (moduleOf b .definitions)) at n c
+    → Room (definitionsNodes (definitionsFrom b 0)) at n c
 room-start b h = rw (definitions-whole b) at h
 
 module _ {b : List ℕ} {count d nodes j : ℕ} (o : OverDefinitions b count d nodes j) where
@@ -64,24 +66,28 @@ module _ {b : List ℕ} {count d nodes j : ℕ} (o : OverDefinitions b count d n
           f m′ c′ z (rw (definitions-more r o h read) (leave-join b k this (definitionsFrom b (j + 1)) m m1 m′ c at n long s l1 l2))
 
       pub room-turn : Room (definitionsNodes (definitionsFrom b j)) at n c → Room (definitionsNodes (definitionsFrom b (j + 1))) (a .at) (a .next) c1
-      room-turn g = room-puts (defsCut b k (substOf m) (this ∷ []) n) (treeNodes right) _ (few-def b k (substOf m) (entry .id) right n) (l1 .0, l1 .1) (rw size at g)
+      room-turn g =
+          room-puts (defsCut b k (substOf m) (this ∷ []) n) (treeNodes right) _ (few-def b k (substOf m) (entry .id) right n) (l1 .0, l1 .1) (rw size at g)
 
 -- ---- equations
 
 abbrev pub EquationsFrom : List ℕ → ℕ → Substitutions → List ℕ → ℕ → ℕ → List ℕ → ℕ → ℕ → ℕ → Type 0
-EquationsFrom b k s c₀ at₀ n₀ c at n j = (c′ : List ℕ) (r : Place) → Puts c c′ at (equationsCut k s (equationsFrom b j) n) r → Puts c₀ c′ at₀ (equationsCut k s (moduleOf b .equations) n₀) r
+EquationsFrom b k s c₀ at₀ n₀ c at n j =
+    (c′ : List ℕ) (r : Place) → Puts c c′ at (equationsCut k s (equationsFrom b j) n) r → Puts c₀ c′ at₀ (equationsCut k s (moduleOf b .equations) n₀) r
 
 pub equations-start : (b : List ℕ) (k : ℕ) (s : Substitutions) (c : List ℕ) (at n : ℕ) → EquationsFrom b k s c at n c at n 0
 equations-start b k s c at n c′ r l = rw (equations-whole b) l
 
-pub room-equations-start : (b : List ℕ) {at n : ℕ} {c : List ℕ} → Room (equationsNodes (moduleOf b .equations)) at n c → Room (equationsNodes (equationsFrom b 0)) at n c
+pub room-equations-start : (b : List ℕ) {at n : ℕ} {c : List ℕ} → Room (equationsNodes (moduleOf b .equations)) at n c
+    → Room (equationsNodes (equationsFrom b 0)) at n c
 room-equations-start b h = rw (equations-whole b) at h
 
 module _ {b : List ℕ} {count d nodes j : ℕ} (o : OverEquations b count d nodes j) where
   pub over-equations-next : j < count → OverEquations b count d nodes (j + 1)
   over-equations-next h = record { count = o .count; place = o .place; trees = o .trees; within = omega arith }
 
-  pub equations-end : count ≤ j → (k : ℕ) (s : Substitutions) (c₀ : List ℕ) (at₀ n₀ : ℕ) (c : List ℕ) (at n : ℕ) → EquationsFrom b k s c₀ at₀ n₀ c at n j → Puts c₀ c at₀ (equationsCut k s (moduleOf b .equations) n₀) (record { next = n; at = at })
+  pub equations-end : count ≤ j → (k : ℕ) (s : Substitutions) (c₀ : List ℕ) (at₀ n₀ : ℕ) (c : List ℕ) (at n : ℕ) → EquationsFrom b k s c₀ at₀ n₀ c at n j
+      → Puts c₀ c at₀ (equationsCut k s (moduleOf b .equations) n₀) (record { next = n; at = at })
   equations-end h k s c₀ at₀ n₀ c at n f = f c _ (rw (equations-none b j (omega (arith, o .count))) (put-equations-none k s c at n))
 
   module _ {entry : EquationEntry} (r : Readable b) (h : j < count) (read : entry ≡ equationEntry b d j) where
@@ -98,9 +104,12 @@ module _ {b : List ℕ} {count d nodes j : ℕ} (o : OverEquations b count d nod
     pub room-equation : {at n : ℕ} {c : List ℕ} → Room (equationsNodes (equationsFrom b j)) at n c → Room (treeNodes x + treeNodes y) at n c
     room-equation g = room-less _ g (omega (arith, sizes))
 
-    module _ (k : ℕ) (s : Substitutions) (c : List ℕ) {c1 : List ℕ} (at n : ℕ) {a : Place} (l1 : Puts c c1 at (equationsCut k s (record { left = x; right = y } ∷ []) n) a) where
+    module _ (k : ℕ) (s : Substitutions) (c : List ℕ) {c1 : List ℕ} (at n : ℕ) {a : Place}
+        (l1 : Puts c c1 at (equationsCut k s (record { left = x; right = y } ∷ []) n) a) where
       pub equations-turn : (c₀ : List ℕ) (at₀ n₀ : ℕ) → EquationsFrom b k s c₀ at₀ n₀ c at n j → EquationsFrom b k s c₀ at₀ n₀ c1 (a .at) (a .next) (j + 1)
-      equations-turn c₀ at₀ n₀ f c′ z l2 = f c′ z (rw (equations-more r o h read) (put-equations-join k s (record { left = x; right = y }) (equationsFrom b (j + 1)) c at n l1 l2))
+      equations-turn c₀ at₀ n₀ f c′ z l2 =
+          f c′ z (rw (equations-more r o h read) (put-equations-join k s (record { left = x; right = y }) (equationsFrom b (j + 1)) c at n l1 l2))
 
       pub room-equations-turn : Room (equationsNodes (equationsFrom b j)) at n c → Room (equationsNodes (equationsFrom b (j + 1))) (a .at) (a .next) c1
-      room-equations-turn g = room-puts (equationsCut k s (record { left = x; right = y } ∷ []) n) (treeNodes x + treeNodes y) _ (few-equation k s x y n) l1 (rw sizes at g)
+      room-equations-turn g =
+          room-puts (equationsCut k s (record { left = x; right = y } ∷ []) n) (treeNodes x + treeNodes y) _ (few-equation k s x y n) l1 (rw sizes at g)

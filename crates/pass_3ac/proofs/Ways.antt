@@ -41,13 +41,19 @@ module _ (at : ℕ) (c : Cutting) {r : Cut} (e : r ≡ cutFrom at c) where
   its-at = ap (λ (x : Cut). x .at) e
 
 -- an equality after those of the parts
-pushed : (b : List ℕ) (at n : ℕ) (out : Option Term) (es : List Equality) (side : Side) {c d : List ℕ} {m : ℕ} {q : Written} {l : Term} → l ≡ orVariable out n → q ≡ equalityOf l side → c ≡ putEqualities b at es → m ≡ after at es → d ≡ setWords c m (writtenWords q) → Leaves b d at (pushConstraintDef out es n side) (record { term = q .left; next = n + 1; at = m + EQUALITY-WORDS })
+pushed : (b : List ℕ) (at n : ℕ) (out : Option Term) (es : List Equality) (side : Side) {c d : List ℕ} {m : ℕ} {q : Written} {l : Term}
+    → l ≡ orVariable out n → q ≡ equalityOf l side → c ≡ putEqualities b at es → m ≡ after at es → d ≡ setWords c m (writtenWords q)
+    → Leaves b d at (pushConstraintDef out es n side) (record { term = q .left; next = n + 1; at = m + EQUALITY-WORDS })
 unfolding pushConstraintDef cutFrom
 pushed b at n out es side {c} {d} {m} {q} {l} p e f g h =
     let k : q .left ≡ orVariable out n = ap (λ (x : Written). x .left) e ∙ unfold equalityOf written in p in
-    let w : d ≡ putEqualities c m (record { left = orVariable out n; right = side } ∷ []) = h ∙ ap (λ (x : Written). setWords c m (writtenWords x)) (e ∙ ap (λ (t : Term). equalityOf t side) p) ∙ put-one c m (orVariable out n) side in
-    let u : m + EQUALITY-WORDS ≡ after at (es ++ (record { left = orVariable out n; right = side } ∷ [])) = sym (after-append at es _ ∙ after-one (after at es) _ ∙ ap (λ (x : ℕ). x + EQUALITY-WORDS) (sym g)) in
-    (w ∙ ap₂ (λ (x : List ℕ) (y : ℕ). putEqualities x y (record { left = orVariable out n; right = side } ∷ [])) f g ∙ sym (put-append b at es _), rw (k, u, add-one))
+    let w : d ≡ putEqualities c m (record { left = orVariable out n; right = side } ∷ []) =
+    h ∙ ap (λ (x : Written). setWords c m (writtenWords x)) (e ∙ ap (λ (t : Term). equalityOf t side) p) ∙ put-one c m (orVariable out n) side in
+    let u : m + EQUALITY-WORDS ≡ after at (es ++ (record { left = orVariable out n; right = side } ∷ [])) =
+    sym (after-append at es _ ∙ after-one (after at es) _ ∙ ap (λ (x : ℕ). x + EQUALITY-WORDS) (sym g)) in (
+      w ∙ ap₂ (λ (x : List ℕ) (y : ℕ). putEqualities x y (record { left = orVariable out n; right = side } ∷ [])) f g ∙ sym (put-append b at es _),
+      rw (k, u, add-one),
+    )
 
 -- ---- room
 
@@ -88,7 +94,8 @@ module _ (e : Flat) {b : List ℕ} {at n : ℕ} (h : Room (treeNodes e) at n b) 
       pub room-second : Room (treeNodes y) (r .at) (r .next) c
       room-second = room-less (treeNodes y + 1) rest (omega arith)
 
-      pub room-third : {d : List ℕ} {q : Cut} → Leaves c d (r .at) (treeCut New k s y (r .next)) q → (4 * (q .at + EQUALITY-WORDS) ≤ length d) × (q .next < DRAWN)
+      pub room-third : {d : List ℕ} {q : Cut} → Leaves c d (r .at) (treeCut New k s y (r .next)) q
+          → (4 * (q .at + EQUALITY-WORDS) ≤ length d) × (q .next < DRAWN)
       room-third m = room-one (room-on New k s y m 1 rest) (omega arith)
 
   module _ {x : Flat} (p : e ≡ Flat.negate x) where
@@ -99,7 +106,8 @@ module _ (e : Flat) {b : List ℕ} {at n : ℕ} (h : Room (treeNodes e) at n b) 
     pub room-negated : Room (treeNodes x) at n b
     room-negated = room-less (treeNodes e) h (omega (arith, sized))
 
-    pub room-pushed : (k : ℕ) (s : Substitutions) {c : List ℕ} {r : Cut} → Leaves b c at (treeCut New k s x n) r → (4 * (r .at + EQUALITY-WORDS) ≤ length c) × (r .next < DRAWN)
+    pub room-pushed : (k : ℕ) (s : Substitutions) {c : List ℕ} {r : Cut} → Leaves b c at (treeCut New k s x n) r
+        → (4 * (r .at + EQUALITY-WORDS) ≤ length c) × (r .next < DRAWN)
     room-pushed k s l = room-one (room-on New k s x l 1 (rw sized at h)) (omega arith)
 
   pub room-term : 4 * (at + EQUALITY-WORDS) ≤ length b
@@ -108,27 +116,40 @@ module _ (e : Flat) {b : List ℕ} {at n : ℕ} (h : Room (treeNodes e) at n b) 
 -- ---- ways
 
 module _ (target : Target) (k : ℕ) (s : Substitutions) (e : Flat) (b : List ℕ) (at n : ℕ) where
-  pub way-infix : {o : InfixOp} {x y : Flat} {c d f : List ℕ} {r1 r2 r : Cut} {l : Term} {q : Written} → e ≡ Flat.infixed o x y → Leaves b c at (treeCut New k s x n) r1 → Leaves c d (r1 .at) (treeCut New k s y (r1 .next)) r2 → l ≡ orVariable (targetOf target) (r2 .next) → q ≡ equalityOf l (infixOp o (r1 .term) (r2 .term)) → (f ≡ setWords d (r2 .at) (writtenWords q)) × (r ≡ record { term = q .left; next = r2 .next + 1; at = r2 .at + EQUALITY-WORDS }) → Leaves b f at (treeCut target k s e n) r
+  pub way-infix : {o : InfixOp} {x y : Flat} {c d f : List ℕ} {r1 r2 r : Cut} {l : Term} {q : Written}
+      → e ≡ Flat.infixed o x y → Leaves b c at (treeCut New k s x n) r1 → Leaves c d (r1 .at) (treeCut New k s y (r1 .next)) r2
+      → l ≡ orVariable (targetOf target) (r2 .next) → q ≡ equalityOf l (infixOp o (r1 .term) (r2 .term))
+      → (f ≡ setWords d (r2 .at) (writtenWords q)) × (r ≡ record { term = q .left; next = r2 .next + 1; at = r2 .at + EQUALITY-WORDS })
+      → Leaves b f at (treeCut target k s e n) r
   way-infix {o} {x} {y} {c} {d} {f} {r1} {r2} {r} p l1 l2 lt qt w =
       let X : Cutting = treeCut New k s x n in
       let Y : Cutting = treeCut New k s y (r1 .next) in
       let n1 = its-next at X (l1 .1) in
-      let z : treeCut target k s e n ≡ pushConstraintDef (targetOf target) (X .equalities ++ Y .equalities) (r2 .next) (infixOp o (r1 .term) (r2 .term)) = cut-infix target k s n X Y p refl (ap (treeCut New k s y) n1) ∙ rw (its-term at X (l1 .1), its-term (r1 .at) Y (l2 .1), its-next (r1 .at) Y (l2 .1)) in
+      let z : treeCut target k s e n ≡ pushConstraintDef (targetOf target) (X .equalities ++ Y .equalities) (r2 .next) (infixOp o (r1 .term) (r2 .term)) =
+      cut-infix target k s n X Y p refl (ap (treeCut New k s y) n1) ∙ rw (its-term at X (l1 .1), its-term (r1 .at) Y (l2 .1), its-next (r1 .at) Y (l2 .1)) in
       let i : r1 .at ≡ after at (X .equalities) = its-at at X (l1 .1) in
-      let body : d ≡ putEqualities b at (X .equalities ++ Y .equalities) = l2 .0 ∙ ap₂ (λ (u : List ℕ) (v : ℕ). putEqualities u v (Y .equalities)) (l1 .0) i ∙ sym (put-append b at (X .equalities) (Y .equalities)) in
-      let place : r2 .at ≡ after at (X .equalities ++ Y .equalities) = its-at (r1 .at) Y (l2 .1) ∙ ap (λ (v : ℕ). after v (Y .equalities)) i ∙ sym (after-append at (X .equalities) (Y .equalities)) in
+      let body : d ≡ putEqualities b at (X .equalities ++ Y .equalities) =
+      l2 .0 ∙ ap₂ (λ (u : List ℕ) (v : ℕ). putEqualities u v (Y .equalities)) (l1 .0) i ∙ sym (put-append b at (X .equalities) (Y .equalities)) in
+      let place : r2 .at ≡ after at (X .equalities ++ Y .equalities) =
+      its-at (r1 .at) Y (l2 .1) ∙ ap (λ (v : ℕ). after v (Y .equalities)) i ∙ sym (after-append at (X .equalities) (Y .equalities)) in
       let g = pushed b at (r2 .next) (targetOf target) (X .equalities ++ Y .equalities) (infixOp o (r1 .term) (r2 .term)) lt qt body place (w .0) in
       rw z (g .0, w .1 ∙ g .1)
 
-  pub way-negate : {x : Flat} {c f : List ℕ} {r1 r : Cut} {l : Term} {q : Written} → e ≡ Flat.negate x → Leaves b c at (treeCut New k s x n) r1 → l ≡ orVariable (targetOf target) (r1 .next) → q ≡ equalityOf l (Side.negate (r1 .term)) → (f ≡ setWords c (r1 .at) (writtenWords q)) × (r ≡ record { term = q .left; next = r1 .next + 1; at = r1 .at + EQUALITY-WORDS }) → Leaves b f at (treeCut target k s e n) r
+  pub way-negate : {x : Flat} {c f : List ℕ} {r1 r : Cut} {l : Term} {q : Written} → e ≡ Flat.negate x
+      → Leaves b c at (treeCut New k s x n) r1 → l ≡ orVariable (targetOf target) (r1 .next) → q ≡ equalityOf l (Side.negate (r1 .term))
+      → (f ≡ setWords c (r1 .at) (writtenWords q)) × (r ≡ record { term = q .left; next = r1 .next + 1; at = r1 .at + EQUALITY-WORDS })
+      → Leaves b f at (treeCut target k s e n) r
   way-negate {x} {c} {f} {r1} {r} p l1 lt qt w =
       let X : Cutting = treeCut New k s x n in
-      let z : treeCut target k s e n ≡ pushConstraintDef (targetOf target) (X .equalities) (r1 .next) (Side.negate (r1 .term)) = cut-negate target k s n X p refl ∙ rw (its-term at X (l1 .1), its-next at X (l1 .1)) in
+      let z : treeCut target k s e n ≡ pushConstraintDef (targetOf target) (X .equalities) (r1 .next) (Side.negate (r1 .term)) =
+      cut-negate target k s n X p refl ∙ rw (its-term at X (l1 .1), its-next at X (l1 .1)) in
       let g = pushed b at (r1 .next) (targetOf target) (X .equalities) (Side.negate (r1 .term)) lt qt (l1 .0) (its-at at X (l1 .1)) (w .0) in
       rw z (g .0, w .1 ∙ g .1)
 
-  pub way-constant : {z w : ℤ} {c : List ℕ} {r : Cut} → e ≡ Flat.constant z → w ≡ z → Leaves b c at (copied (targetOf target) (Term.Constant w) n) r → Leaves b c at (treeCut target k s e n) r
+  pub way-constant : {z w : ℤ} {c : List ℕ} {r : Cut} → e ≡ Flat.constant z → w ≡ z → Leaves b c at (copied (targetOf target) (Term.Constant w) n) r
+      → Leaves b c at (treeCut target k s e n) r
   way-constant p q l = rw (cut-constant target k s n p, ← q) l
 
-  pub way-variable : {v : ℕ} {t : Term} {c : List ℕ} {r : Cut} → e ≡ Flat.variable v → t ≡ walk k s (Term.Variable v) → Leaves b c at (copied (targetOf target) t n) r → Leaves b c at (treeCut target k s e n) r
+  pub way-variable : {v : ℕ} {t : Term} {c : List ℕ} {r : Cut} → e ≡ Flat.variable v → t ≡ walk k s (Term.Variable v)
+      → Leaves b c at (copied (targetOf target) t n) r → Leaves b c at (treeCut target k s e n) r
   way-variable p q l = rw (cut-variable target k s n p, ← q) l

@@ -11,7 +11,8 @@ use Rattle.constraint.specs.declared.Term.{Term}
 use Rattle.constraint.specs.declared.Equality.{Equality as Written}
 use Rattle.constraint.specs.Trees.{Side, Equality, written}
 use Rattle.constraint.specs.Record.{EQUALITY-WORDS, equalitiesWords}
-use Rattle.pass_trees.specs.Passes.{Substitutions, copyPropagateExpr, copyPropagateDefs, afterDefs, copyPropagateEquations, alive, flattenExprTo3ac, flattenDefs, flattenEquations, Cut as Cutting, Cuts}
+use Rattle.pass_trees.specs.Passes.{Substitutions, copyPropagateExpr, copyPropagateDefs, afterDefs, copyPropagateEquations}
+use Rattle.pass_trees.specs.Passes.{alive, flattenExprTo3ac, flattenDefs, flattenEquations, Cut as Cutting, Cuts}
 use Rattle.pass_classify.specs.Arrays.{proversOf, usedOf, countedOf}
 use Rattle.pass_copies.specs.declared.Copied.{Copied}
 use Rattle.pass_copies.specs.Substituted.{substOf, putDefinitions}

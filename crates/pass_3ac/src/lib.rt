@@ -33,7 +33,8 @@ ghost use Rattle.constraint.specs.Record.{EQUALITY-WORDS, writtenWords};
 ghost use Rattle.pass_trees.specs.Passes.{counted, copyPropagateExpr, orVariable, copied, cutsOf, both, flattenSides};
 ghost use Rattle.pass_classify.specs.Arrays.{Classified};
 ghost use Rattle.pass_copies.specs.Substituted.{substOf, putDefinitions, SUBSTITUTION-WORDS};
-ghost use Rattle.pass_3ac.specs.Cutting.{DRAWN, targetOf, treeCut, CutPut, Room, putEqualities, placeFrom, CutsPut, DefsPut, recordDefs, equationsCut, recordEquations, sidesOf};
+ghost use Rattle.pass_3ac.specs.Cutting.{DRAWN, targetOf, treeCut, CutPut, Room, putEqualities, placeFrom};
+ghost use Rattle.pass_3ac.specs.Cutting.{CutsPut, DefsPut, recordDefs, equationsCut, recordEquations, sidesOf};
 ghost use Rattle.records.specs.FlatRecord.{IDS};
 
 // The left side of what is cut: a new variable, or the term that is given.
@@ -61,7 +62,8 @@ fn left_term(target: Target, next: u32) -> Term
 // An equality of an operation: an id is drawn, also where the left side is given.
 fn push_constraint_def(body: &mut [u8], at: usize, next: u32, equality: Equality) -> Cut
     requires { ⌜ (4 * (at + EQUALITY-WORDS) ≤ length (now body)) × (next < DRAWN) ⌝ }
-    ensures { λ r. ⌜ (now (body .exit) ≡ setWords (now (body .entry)) at (writtenWords equality)) × (r ≡ record { term = equality .left; next = next + 1; at = at + EQUALITY-WORDS }) ⌝ }
+    ensures { λ r. ⌜ (now (body .exit) ≡ setWords (now (body .entry)) at (writtenWords equality))
+        × (r ≡ record { term = equality .left; next = next + 1; at = at + EQUALITY-WORDS }) ⌝ }
 {
     let term = equality.left;
     put_equality(body, at, equality);
@@ -101,7 +103,8 @@ fn flatten_expr_to_3ac(
     target: Target,
 ) -> Cut
     requires { ⌜ Inside (now s) nodes k × Room (treeNodes (tree (now s) nodes (k + 1) k)) at next (now body) ⌝ }
-    ensures { λ r. ⌜ CutPut (now (body .entry)) (now (body .exit)) at (treeCut target steps (substOf (now (subs .entry))) (tree (now (s .entry)) nodes (k + 1) k) next) r ⌝ }
+    ensures { λ r. ⌜ CutPut (now (body .entry))
+        (now (body .exit)) at (treeCut target steps (substOf (now (subs .entry))) (tree (now (s .entry)) nodes (k + 1) k) next) r ⌝ }
 {
     let node = flat::node_at(s, nodes, k);
     match node {
@@ -145,8 +148,11 @@ fn flatten_def_to_3ac(
     at: usize,
     next: u32,
 ) -> Place
-    requires { ⌜ Inside (now s) nodes k × Classified (now s) (now usage) (now provers) × (id < IDS) × (length (now subs) ≡ SUBSTITUTION-WORDS) × Room (treeNodes (tree (now s) nodes (k + 1) k)) at next (now body) ⌝ }
-    ensures { λ r. ⌜ DefsPut (now (s .entry)) steps (record { id = id; right = tree (now (s .entry)) nodes (k + 1) k } ∷ []) (now (subs .entry)) (now (subs .exit)) (now (body .entry)) (now (body .exit)) at next r ⌝ }
+    requires { ⌜ Inside (now s) nodes k
+        × Classified (now s) (now usage) (now provers) × (id < IDS) × (length (now subs) ≡ SUBSTITUTION-WORDS)
+        × Room (treeNodes (tree (now s) nodes (k + 1) k)) at next (now body) ⌝ }
+    ensures { λ r. ⌜ DefsPut (now (s .entry)) steps (record { id = id; right = tree (now (s .entry)) nodes (k + 1) k } ∷ []) (now (subs .entry))
+        (now (subs .exit)) (now (body .entry)) (now (body .exit)) at next r ⌝ }
 {
     let i = id as usize;
     if usage[i] == NEVER {
@@ -178,7 +184,11 @@ pub fn flatten_defs(
     at: usize,
     next: u32,
 ) -> Place
-    requires { ⌜ Readable (now s) × Classified (now s) (now usage) (now provers) × (definitions ≡ definitionsAt (now s)) × (n ≡ definitionCount (now s)) × (nodes ≡ nodesAt (now s)) ⌝ }
+    requires { ⌜ Readable (now s)
+        × Classified (now s) (now usage) (now provers)
+        × (definitions ≡ definitionsAt (now s))
+        × (n ≡ definitionCount (now s))
+        × (nodes ≡ nodesAt (now s)) ⌝ }
     requires { ⌜ (length (now subs) ≡ SUBSTITUTION-WORDS) × Room (definitionsNodes (moduleOf (now s) .definitions)) at next (now body) ⌝ }
     ensures { λ _. ⌜ now (body .exit) ≡ putEqualities (now (body .entry)) at (recordDefs (now (s .entry)) steps (now (subs .entry)) next .equalities) ⌝ }
     ensures { λ r. ⌜ r ≡ placeFrom at (recordDefs (now (s .entry)) steps (now (subs .entry)) next) ⌝ }
@@ -251,7 +261,8 @@ fn flatten_into(
     left: Term,
 ) -> Place
     requires { ⌜ Inside (now s) nodes k × Room (treeNodes (tree (now s) nodes (k + 1) k)) at next (now body) ⌝ }
-    ensures { λ r. ⌜ CutsPut (now (body .entry)) (now (body .exit)) at (cutsOf (treeCut (Target.Given left) steps (substOf (now (subs .entry))) (tree (now (s .entry)) nodes (k + 1) k) next)) r ⌝ }
+    ensures { λ r. ⌜ CutsPut (now (body .entry))
+        (now (body .exit)) at (cutsOf (treeCut (Target.Given left) steps (substOf (now (subs .entry))) (tree (now (s .entry)) nodes (k + 1) k) next)) r ⌝ }
 {
     let target = Target::Given(left);
     let c = flatten_expr_to_3ac(s, nodes, k, subs, steps, body, at, next, target);
@@ -273,8 +284,12 @@ fn flatten_both(
     at: usize,
     next: u32,
 ) -> Place
-    requires { ⌜ Inside (now s) nodes left × Inside (now s) nodes right × Room (treeNodes (tree (now s) nodes (left + 1) left) + treeNodes (tree (now s) nodes (right + 1) right)) at next (now body) ⌝ }
-    ensures { λ r. ⌜ CutsPut (now (body .entry)) (now (body .exit)) at (flattenSides (both (copyPropagateExpr steps (substOf (now (subs .entry))) (tree (now (s .entry)) nodes (left + 1) left)) (copyPropagateExpr steps (substOf (now (subs .entry))) (tree (now (s .entry)) nodes (right + 1) right))) next) r ⌝ }
+    requires { ⌜ Inside (now s) nodes left
+        × Inside (now s) nodes right
+        × Room (treeNodes (tree (now s) nodes (left + 1) left) + treeNodes (tree (now s) nodes (right + 1) right)) at next (now body) ⌝ }
+    ensures { λ r. ⌜ CutsPut (now (body .entry))
+        (now (body .exit)) at (flattenSides (both (copyPropagateExpr steps (substOf (now (subs .entry))) (tree (now (s .entry)) nodes (left + 1) left))
+        (copyPropagateExpr steps (substOf (now (subs .entry))) (tree (now (s .entry)) nodes (right + 1) right))) next) r ⌝ }
 {
     let a = flatten_expr_to_3ac(s, nodes, left, subs, steps, body, at, next, Target::New);
     let x = a.term;
@@ -300,8 +315,11 @@ fn flatten_equation(
     at: usize,
     next: u32,
 ) -> Place
-    requires { ⌜ Inside (now s) nodes left × Inside (now s) nodes right × Room (treeNodes (tree (now s) nodes (left + 1) left) + treeNodes (tree (now s) nodes (right + 1) right)) at next (now body) ⌝ }
-    ensures { λ r. ⌜ CutsPut (now (body .entry)) (now (body .exit)) at (equationsCut steps (substOf (now (subs .entry))) (record { left = tree (now (s .entry)) nodes (left + 1) left; right = tree (now (s .entry)) nodes (right + 1) right } ∷ []) next) r ⌝ }
+    requires { ⌜ Inside (now s) nodes left
+        × Inside (now s) nodes right
+        × Room (treeNodes (tree (now s) nodes (left + 1) left) + treeNodes (tree (now s) nodes (right + 1) right)) at next (now body) ⌝ }
+    ensures { λ r. ⌜ CutsPut (now (body .entry)) (now (body .exit)) at (equationsCut steps (substOf (now (subs .entry)))
+        (record { left = tree (now (s .entry)) nodes (left + 1) left; right = tree (now (s .entry)) nodes (right + 1) right } ∷ []) next) r ⌝ }
 {
     let a = copy_expr(s, nodes, left, subs, steps);
     let b = copy_expr(s, nodes, right, subs, steps);
@@ -328,7 +346,11 @@ pub fn flatten_equations(
     at: usize,
     next: u32,
 ) -> Place
-    requires { ⌜ Readable (now s) × (equations ≡ equationsAt (now s)) × (n ≡ equationCount (now s)) × (nodes ≡ nodesAt (now s)) × Room (equationsNodes (moduleOf (now s) .equations)) at next (now body) ⌝ }
+    requires { ⌜ Readable (now s)
+        × (equations ≡ equationsAt (now s))
+        × (n ≡ equationCount (now s))
+        × (nodes ≡ nodesAt (now s))
+        × Room (equationsNodes (moduleOf (now s) .equations)) at next (now body) ⌝ }
     ensures { λ _. ⌜ now (body .exit) ≡ putEqualities (now (body .entry)) at (recordEquations (now (s .entry)) steps (now (subs .entry)) next .equalities) ⌝ }
     ensures { λ r. ⌜ r ≡ placeFrom at (recordEquations (now (s .entry)) steps (now (subs .entry)) next) ⌝ }
 {

@@ -8,7 +8,8 @@ use Rattle.flat.specs.declared.Layout.{Layout}
 use Rattle.flat.specs.declared.entries.DefinitionEntry.{DefinitionEntry}
 use Rattle.flat.specs.declared.entries.EquationEntry.{EquationEntry}
 use Rattle.flat.specs.Trees.{Definition, Equation}
-use Rattle.flat.specs.Layout.{next, provers, definitions, equations, nodes, proversAt, definitionsAt, equationsAt, nodesAt, layoutOf, proverAt, definitionEntry, equationEntry}
+use Rattle.flat.specs.Layout.{next, provers, definitions, equations, nodes, proversAt, definitionsAt}
+use Rattle.flat.specs.Layout.{equationsAt, nodesAt, layoutOf, proverAt, definitionEntry, equationEntry}
 use Rattle.flat.specs.Record.{rows, tree, definitionAt, equationAt, moduleOf}
 use Rattle.flat.specs.Readable.{Readable, Inside}
 use Rattle.flat.proofs.Nodes.{settled}

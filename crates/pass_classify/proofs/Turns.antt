@@ -16,10 +16,13 @@ use Rattle.flat.specs.Layout.{provers, definitions, equations, proverAt, defini
 use Rattle.flat.specs.Record.{tree, moduleOf}
 use Rattle.flat.specs.Readable.{Readable}
 use Rattle.flat.proofs.Laws.{split, alike}
-use Rattle.pass_trees.specs.Passes.{member, keepIf, those, Usage, isNever, isWitness, markUsed, usedIn, override, classifyDef, classified, classifyDefs, cuttableExpr, cuttableDefs, cuttableEquations, counted}
+use Rattle.pass_trees.specs.Passes.{member, keepIf, those, Usage, isNever, isWitness, markUsed, usedIn, override, classifyDef}
+use Rattle.pass_trees.specs.Passes.{classified, classifyDefs, cuttableExpr, cuttableDefs, cuttableEquations, counted}
 use Rattle.pass_classify.specs.Arrays.{usageAt, codeOf, usageOf, marked, Codes, Uses, Marks, proversOf, usedOf, countedOf, Classified}
 use Rattle.pass_classify.proofs.Arrays.{at-code, marked-set}
-use Rattle.pass_classify.proofs.Lists.{over-from-last, proversFrom, definitionsFrom, equationsFrom, provers-none, definitions-none, equations-none, provers-whole, definitions-whole, equations-whole, OverProvers, OverDefinitions, OverEquations, prover-small, provers-more, definitions-more, equations-more}
+use Rattle.pass_classify.proofs.Lists.{over-from-last, proversFrom, definitionsFrom, equationsFrom, provers-none, definitions-none}
+use Rattle.pass_classify.proofs.Lists.{equations-none, provers-whole, definitions-whole, equations-whole, OverProvers}
+use Rattle.pass_classify.proofs.Lists.{OverDefinitions, OverEquations, prover-small, provers-more, definitions-more, equations-more}
 
 -- ---- the equations are marked
 
@@ -42,7 +45,8 @@ used-turn {b} {at = at} {k = k} {entry = entry} m₀ m r o h read i x y =
 pub used-end : {b : List ℕ} {n e at k : ℕ} (m₀ m : List ℕ) → OverEquations b n e at k → n ≤ k → UsedFrom b m₀ m k → Codes 2 m →
     Uses m (usedIn (moduleOf b .equations) (usageOf m₀))
 unfolding usedIn
-used-end {b} {k = k} m₀ m o h i l = record { says = sym (ap (λ (es : List Equation). usedIn es (usageOf m)) (equations-none b k (omega arith))) ∙ i; codes = l }
+used-end {b} {k = k} m₀ m o h i l =
+    record { says = sym (ap (λ (es : List Equation). usedIn es (usageOf m)) (equations-none b k (omega arith))) ∙ i; codes = l }
 
 -- ---- the definitions are marked, the last first
 
@@ -53,7 +57,8 @@ pub classified-start : {b : List ℕ} {n d at : ℕ} (m : List ℕ) → OverDefi
 unfolding classified
 classified-start {b} {n} m o = sym (ap (λ (ds : List Definition). classified (moduleOf b .provers) ds (usageOf m)) (definitions-none b (n - 0) (omega arith)))
 
-classify-def : (ps : List ℕ) (f : ℕ → Usage) (id : ℕ) (right : Flat) (u : Usage) → u ≡ override (member id ps) (f id) → markUsed u right (update f id u) ≡ classifyDef ps (record { id = id; right = right }) f
+classify-def : (ps : List ℕ) (f : ℕ → Usage) (id : ℕ) (right : Flat) (u : Usage) → u ≡ override (member id ps) (f id)
+    → markUsed u right (update f id u) ≡ classifyDef ps (record { id = id; right = right }) f
 unfolding classifyDef
 classify-def ps f id right u e = ap (λ (x : Usage). markUsed x right (update f id x)) e
 
@@ -142,7 +147,8 @@ either false true false true = refl
 either false true false false = refl
 either false false y z = refl
 
-pub witnesses-turn : (u m₀ m : List ℕ) {m′ : List ℕ} (n : ℕ) → WitnessesTo u m₀ m n → Marks m′ (λ w. marked m w || (eqb w n && isWitness (usageOf u w))) → WitnessesTo u m₀ m′ (n + 1)
+pub witnesses-turn : (u m₀ m : List ℕ) {m′ : List ℕ} (n : ℕ) → WitnessesTo u m₀ m n → Marks m′ (λ w. marked m w || (eqb w n && isWitness (usageOf u w)))
+    → WitnessesTo u m₀ m′ (n + 1)
 witnesses-turn u m₀ m n i h w =
     ap (λ (f : ℕ → Bool). f w) (h .says)
     ∙ ap (λ (c : Bool). c || (eqb w n && isWitness (usageOf u w))) (i w)
@@ -188,7 +194,8 @@ pub counted-start : (b : List ℕ) → CountedFrom b 0
 unfolding countedOf usedOf proversOf counted classifyDefs
 counted-start b = ap (λ (ds : List Definition). cuttableDefs (countedOf b ds)) (sym (definitions-whole b))
 
-counted-step : (s t : ℕ → Bool) (d : Definition) (ds : List Definition) (a c : Bool) → t (d .id) ≡ not a → s (d .id) ≡ not c → cuttableDefs (those s (those t (d ∷ ds))) ≡ ((a || (c || cuttableExpr (d .right))) && cuttableDefs (those s (those t ds)))
+counted-step : (s t : ℕ → Bool) (d : Definition) (ds : List Definition) (a c : Bool) → t (d .id) ≡ not a → s (d .id) ≡ not c
+    → cuttableDefs (those s (those t (d ∷ ds))) ≡ ((a || (c || cuttableExpr (d .right))) && cuttableDefs (those s (those t ds)))
 unfolding those keepIf cuttableDefs
 counted-step s t d ds true c e f = rw e
 counted-step s t d ds false true e f = rw (e, those, f)
@@ -196,14 +203,16 @@ counted-step s t d ds false false e f = rw (e, those, f)
 
 module _ {b : List ℕ} {n d at k : ℕ} {entry : DefinitionEntry} {u m : List ℕ} {x : Bool} (r : Readable b) (w : Classified b u m)
     (o : OverDefinitions b n d at k) (h : k < n) (read : entry ≡ definitionEntry b d k)
-    (f : x ≡ (isNever (usageOf u (entry .id)) || (marked m (entry .id) || cuttableExpr (tree b at (entry .node + 1) (entry .node))))) (i : CountedFrom b k) where
+    (f : x ≡ (isNever (usageOf u (entry .id)) || (marked m (entry .id) || cuttableExpr (tree b at (entry .node + 1) (entry .node)))))
+    (i : CountedFrom b k) where
   counted-next : (x && cuttableDefs (countedOf b (definitionsFrom b (k + 1)))) ≡ cuttableDefs (counted (moduleOf b))
   unfolding countedOf usedOf proversOf
   counted-next =
       let id : ℕ = entry .id in
       let e : Definition = record { id = id; right = tree b at (entry .node + 1) (entry .node) } in
       ap (λ (c : Bool). c && cuttableDefs (countedOf b (definitionsFrom b (k + 1)))) f
-      ∙ sym (counted-step _ _ e (definitionsFrom b (k + 1)) (isNever (usageOf u id)) (marked m id) (ap (λ (c : ℕ → Usage). not (isNever (c id))) (sym (w .used))) (ap (λ (c : ℕ → Bool). not (c id)) (sym (w .proved))))
+      ∙ sym (counted-step _ _ e (definitionsFrom b (k + 1)) (isNever (usageOf u id)) (marked m id)
+      (ap (λ (c : ℕ → Usage). not (isNever (c id))) (sym (w .used))) (ap (λ (c : ℕ → Bool). not (c id)) (sym (w .proved))))
       ∙ sym (ap (λ (ds : List Definition). cuttableDefs (countedOf b ds)) (definitions-more r o h read))
       ∙ i
 

@@ -37,14 +37,19 @@ module _ {b : List ℕ} {at k : ℕ} (i : Inside b at k) where
   id-small e = omega (arith, id-below e, i .readable .next-small)
 
   -- the variables of its tree are marked
-  pub used-infix : (u : Usage) (m : List ℕ) {o : InfixOp} {x y : ℕ} {m′ m″ : List ℕ} → nodeOf b at k ≡ Infix o x y → Uses m′ (markUsed u (tree b at (x + 1) x) (usageOf m)) → Uses m″ (markUsed u (tree b at (y + 1) y) (usageOf m′)) → Uses m″ (markUsed u (tree b at (k + 1) k) (usageOf m))
+  pub used-infix : (u : Usage) (m : List ℕ) {o : InfixOp} {x y : ℕ} {m′ m″ : List ℕ} → nodeOf b at k ≡ Infix o x y
+      → Uses m′ (markUsed u (tree b at (x + 1) x) (usageOf m)) → Uses m″ (markUsed u (tree b at (y + 1) y) (usageOf m′))
+      → Uses m″ (markUsed u (tree b at (k + 1) k) (usageOf m))
   unfolding markUsed
   used-infix u m {y = y} e p q = record {
-    says = q .says ∙ ap (markUsed u (tree b at (y + 1) y)) (p .says) ∙ sym (ap (λ (t : Flat). markUsed u t (usageOf m)) (tree-infix b at k e (left-inside e .0) (right-inside e .0)));
+    says =
+        q .says ∙ ap (markUsed u (tree b at (y + 1) y)) (p .says)
+        ∙ sym (ap (λ (t : Flat). markUsed u t (usageOf m)) (tree-infix b at k e (left-inside e .0) (right-inside e .0)));
     codes = q .codes;
   }
 
-  pub used-negate : (u : Usage) (m : List ℕ) {x : ℕ} {m′ : List ℕ} → nodeOf b at k ≡ Negate x → Uses m′ (markUsed u (tree b at (x + 1) x) (usageOf m)) → Uses m′ (markUsed u (tree b at (k + 1) k) (usageOf m))
+  pub used-negate : (u : Usage) (m : List ℕ) {x : ℕ} {m′ : List ℕ} → nodeOf b at k ≡ Negate x → Uses m′ (markUsed u (tree b at (x + 1) x) (usageOf m))
+      → Uses m′ (markUsed u (tree b at (k + 1) k) (usageOf m))
   unfolding markUsed
   used-negate u m e p = record {
     says = p .says ∙ sym (ap (λ (t : Flat). markUsed u t (usageOf m)) (tree-negate b at k e (child-inside e .0)));
@@ -56,20 +61,24 @@ module _ {b : List ℕ} {at k : ℕ} (i : Inside b at k) where
   unfolding markUsed
   used-constant u m e l = record { says = sym (ap (λ (t : Flat). markUsed u t (usageOf m)) (tree-constant b at k e)); codes = l }
 
-  pub used-variable : (u : Usage) (m : List ℕ) {v : ℕ} {m′ : List ℕ} → nodeOf b at k ≡ Variable v → Uses m′ (update (usageOf m) v (most (usageOf m v) u)) → Uses m′ (markUsed u (tree b at (k + 1) k) (usageOf m))
+  pub used-variable : (u : Usage) (m : List ℕ) {v : ℕ} {m′ : List ℕ} → nodeOf b at k ≡ Variable v → Uses m′ (update (usageOf m) v (most (usageOf m v) u))
+      → Uses m′ (markUsed u (tree b at (k + 1) k) (usageOf m))
   unfolding markUsed
   used-variable u m e p = record { says = p .says ∙ sym (ap (λ (t : Flat). markUsed u t (usageOf m)) (tree-variable b at k e)); codes = p .codes }
 
   -- its tree has neither `^` nor `=`
-  pub cuttable-operator-no : {o : InfixOp} {x y : ℕ} {r : Bool} → nodeOf b at k ≡ Infix o x y → r ≡ cuttable o → r ≡ false → false ≡ cuttableExpr (tree b at (k + 1) k)
+  pub cuttable-operator-no : {o : InfixOp} {x y : ℕ} {r : Bool} → nodeOf b at k ≡ Infix o x y → r ≡ cuttable o → r ≡ false
+      → false ≡ cuttableExpr (tree b at (k + 1) k)
   unfolding cuttableExpr
   cuttable-operator-no {o} e h n = rw (tree-infix b at k e (left-inside e .0) (right-inside e .0), ← h, n)
 
-  pub cuttable-left-no : {o : InfixOp} {x y : ℕ} {r l : Bool} → nodeOf b at k ≡ Infix o x y → r ≡ cuttable o → r ≡ true → l ≡ cuttableExpr (tree b at (x + 1) x) → l ≡ false → false ≡ cuttableExpr (tree b at (k + 1) k)
+  pub cuttable-left-no : {o : InfixOp} {x y : ℕ} {r l : Bool} → nodeOf b at k ≡ Infix o x y → r ≡ cuttable o → r ≡ true
+      → l ≡ cuttableExpr (tree b at (x + 1) x) → l ≡ false → false ≡ cuttableExpr (tree b at (k + 1) k)
   unfolding cuttableExpr
   cuttable-left-no e h n g z = rw (tree-infix b at k e (left-inside e .0) (right-inside e .0), ← h, n, ← g, z)
 
-  pub cuttable-infix : {o : InfixOp} {x y : ℕ} {r l t : Bool} → nodeOf b at k ≡ Infix o x y → r ≡ cuttable o → r ≡ true → l ≡ cuttableExpr (tree b at (x + 1) x) → l ≡ true → t ≡ cuttableExpr (tree b at (y + 1) y) → t ≡ cuttableExpr (tree b at (k + 1) k)
+  pub cuttable-infix : {o : InfixOp} {x y : ℕ} {r l t : Bool} → nodeOf b at k ≡ Infix o x y → r ≡ cuttable o → r ≡ true
+      → l ≡ cuttableExpr (tree b at (x + 1) x) → l ≡ true → t ≡ cuttableExpr (tree b at (y + 1) y) → t ≡ cuttableExpr (tree b at (k + 1) k)
   unfolding cuttableExpr
   cuttable-infix e h n g z f = rw (tree-infix b at k e (left-inside e .0) (right-inside e .0), ← h, n, ← g, z) f
 

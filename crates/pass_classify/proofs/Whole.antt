@@ -17,7 +17,8 @@ use Rattle.flat.specs.Readable.{Readable}
 use Rattle.flat.proofs.Laws.{split, alike}
 use Rattle.flat.proofs.Rows.{length-rows, rows-at}
 use Rattle.flat.proofs.Wellformed.{readable-provers, readable-definitions, readable-equations}
-use Rattle.pass_trees.specs.Passes.{member, keepIf, those, Usage, Never, Constraint, isNever, isWitness, counted, markUsed, override, classifyDef, usedIn, classified, usage, idsFrom, classifyDefs}
+use Rattle.pass_trees.specs.Passes.{member, keepIf, those, Usage, Never, Constraint, isNever, isWitness, counted}
+use Rattle.pass_trees.specs.Passes.{markUsed, override, classifyDef, usedIn, classified, usage, idsFrom, classifyDefs}
 use Rattle.pass_trees.proofs.Lists.{update-other}
 use Rattle.pass_classify.specs.Arrays.{usageAt, codeOf, usageOf, marked, Codes, Uses, Marks, noMarks, proversOf, usagesOf, marksOf, Classified}
 use Rattle.pass_classify.proofs.Arrays.{at-code, code-at, table-is, none-used, none-marked}
@@ -32,7 +33,9 @@ keep-member v false a ws = refl
 ids-without : (t : ℕ → Bool) (v a k : ℕ) → ((j : ℕ) → a ≤ j → j < a + k → v ≡ j → ⊥) → member v (idsFrom t a k) ≡ false
 unfolding idsFrom member
 ids-without t v a zero h = refl
-ids-without t v a (suc k) h = keep-member v (t a) a (idsFrom t (suc a) k) ∙ rw (ne-eqb v a (h a (omega arith) (omega arith)), ids-without t v (suc a) k (λ j l m. h j (omega arith) (omega arith))) (none (t a))
+ids-without t v a (suc k) h =
+    keep-member v (t a) a (idsFrom t (suc a) k)
+    ∙ rw (ne-eqb v a (h a (omega arith) (omega arith)), ids-without t v (suc a) k (λ j l m. h j (omega arith) (omega arith))) (none (t a))
   where
     none : (x : Bool) → ((x && false) || false) ≡ false
     none true = refl
@@ -59,7 +62,9 @@ ids-in t v a (suc k) l h = keep-member v (t a) a (idsFrom t (suc a) k) ∙ go (i
 
 -- the ids below n that pass a test
 pub ids-member : (t : ℕ → Bool) (v n : ℕ) → member v (idsFrom t 0 n) ≡ (ltb v n && t v)
-ids-member t v n = ⊎-elim (λ (l : v < n). rw (lt-ltb v n l) (ids-in t v 0 n (omega arith) (omega arith))) (λ (l : n ≤ v). rw (le-ltb v n l) (ids-without t v 0 n (λ j h m q. omega arith))) (split v n)
+ids-member t v n =
+    ⊎-elim (λ (l : v < n). rw (lt-ltb v n l) (ids-in t v 0 n (omega arith) (omega arith)))
+    (λ (l : n ≤ v). rw (le-ltb v n l) (ids-without t v 0 n (λ j h m q. omega arith))) (split v n)
 
 ids-same : (s t : ℕ → Bool) (a k : ℕ) → ((j : ℕ) → a ≤ j → j < a + k → s j ≡ t j) → idsFrom s a k ≡ idsFrom t a k
 unfolding idsFrom
@@ -74,7 +79,8 @@ past (w ∷ ws) v n h l = rw (ne-eqb v w (λ e. omega (arith, h .0)), past ws v 
 
 -- ---- classify_defs
 
-pub provers-after : {b : List ℕ} → Readable b → (v : ℕ) → (member v (moduleOf b .provers) || (ltb v (next b) && isWitness (usage (moduleOf b) v))) ≡ member v (classifyDefs (moduleOf b) .provers)
+pub provers-after : {b : List ℕ} → Readable b → (v : ℕ)
+    → (member v (moduleOf b .provers) || (ltb v (next b) && isWitness (usage (moduleOf b) v))) ≡ member v (classifyDefs (moduleOf b) .provers)
 unfolding classifyDefs moduleOf
 provers-after {b} r v =
     ⊎-elim
@@ -84,10 +90,12 @@ provers-after {b} r v =
     ∙ sym (ids-member (λ w. member w (moduleOf b .provers) || isWitness (usage (moduleOf b) w)) v (next b))
 
 -- the prover ids that the record gives, marked in a clear array
-pub provers-marked : (b p : List ℕ) {p′ : List ℕ} → marked p ≡ (λ _. false) → Marks p′ (λ v. marked p v || member v (moduleOf b .provers)) → marked p′ ≡ (λ v. member v (moduleOf b .provers))
+pub provers-marked : (b p : List ℕ) {p′ : List ℕ} → marked p ≡ (λ _. false) → Marks p′ (λ v. marked p v || member v (moduleOf b .provers))
+    → marked p′ ≡ (λ v. member v (moduleOf b .provers))
 provers-marked b p c x = x .says ∙ ap (λ (f : ℕ → Bool). λ (v : ℕ). f v || member v (moduleOf b .provers)) c
 
-usages-whole : (b m : List ℕ) {m′ m″ : List ℕ} → usageOf m ≡ (λ _. Never) → Uses m′ (usedIn (moduleOf b .equations) (usageOf m)) → Uses m″ (classified (moduleOf b .provers) (moduleOf b .definitions) (usageOf m′)) → usageOf m″ ≡ usage (moduleOf b)
+usages-whole : (b m : List ℕ) {m′ m″ : List ℕ} → usageOf m ≡ (λ _. Never) → Uses m′ (usedIn (moduleOf b .equations) (usageOf m))
+    → Uses m″ (classified (moduleOf b .provers) (moduleOf b .definitions) (usageOf m′)) → usageOf m″ ≡ usage (moduleOf b)
 unfolding usage
 usages-whole b m c y z = z .says ∙ ap (classified (moduleOf b .provers) (moduleOf b .definitions)) (y .says ∙ ap (usedIn (moduleOf b .equations)) c)
 

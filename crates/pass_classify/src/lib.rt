@@ -13,7 +13,8 @@ ghost use lib.Dec.{eqb, ltb};
 ghost use Rattle.flat.specs.Meaning.{update};
 ghost use Rattle.flat.specs.Record.{tree, moduleOf};
 ghost use Rattle.flat.specs.Readable.{Readable, Inside};
-ghost use Rattle.pass_trees.specs.Passes.{member, most, isNever, isWitness, markUsed, usedIn, override, classified, cuttable, cuttableExpr, cuttableDefs, cuttableEquations, counted};
+ghost use Rattle.pass_trees.specs.Passes.{member, most, isNever, isWitness, markUsed, usedIn, override, classified};
+ghost use Rattle.pass_trees.specs.Passes.{cuttable, cuttableExpr, cuttableDefs, cuttableEquations, counted};
 ghost use Rattle.pass_classify.specs.Arrays.{usageAt, usageOf, codeOf, marked, Codes, Uses, Marks, noMarks, usagesOf, marksOf, Classified};
 ghost use Rattle.records.specs.FlatRecord.{IDS};
 
@@ -98,7 +99,8 @@ fn override_usage(usage: &mut Usages, provers: &Provers, id: usize) -> u8
 // The definitions from the last to the first: each hands its usage on to the variables of its right side.
 fn mark_definitions(s: &[u8], provers: &Provers, usage: &mut Usages)
     requires { ⌜ Readable (now s) × (Codes 2 (now usage) × (marked (now provers) ≡ (λ v. member v (moduleOf (now s) .provers)))) ⌝ }
-    ensures { λ _. ⌜ Uses (now (usage .exit)) (classified (moduleOf (now (s .entry)) .provers) (moduleOf (now (s .entry)) .definitions) (usageOf (now (usage .entry)))) ⌝ }
+    ensures { λ _. ⌜ Uses (now (usage .exit))
+        (classified (moduleOf (now (s .entry)) .provers) (moduleOf (now (s .entry)) .definitions) (usageOf (now (usage .entry)))) ⌝ }
 {
     let layout = flat::layout_of(s);
     let n = layout.definitions;
@@ -244,7 +246,8 @@ fn cuttable_def(
     provers: &Provers,
 ) -> bool
     requires { ⌜ Inside (now s) at node × (id < IDS) ⌝ }
-    ensures { λ r. ⌜ r ≡ (isNever (usageOf (now (usage .entry)) id) || (marked (now (provers .entry)) id || cuttableExpr (tree (now (s .entry)) at (node + 1) node))) ⌝ }
+    ensures { λ r.
+        ⌜ r ≡ (isNever (usageOf (now (usage .entry)) id) || (marked (now (provers .entry)) id || cuttableExpr (tree (now (s .entry)) at (node + 1) node))) ⌝ }
 {
     if usage[id] == NEVER {
         return true;

@@ -29,11 +29,14 @@ use Rattle.pass_copies.specs.Substituted.{copiedOf, sameTerm, deadRoots}
 -- ---- a node of a readable record with the substitutions made, by its kind
 
 module _ {b : List ℕ} {at k : ℕ} (i : Inside b at k) (n : ℕ) (s : Substitutions) where
-  pub copy-infix : {o : InfixOp} {x y : ℕ} → nodeOf b at k ≡ Infix o x y → copyPropagateExpr n s (tree b at (k + 1) k) ≡ Flat.infixed o (copyPropagateExpr n s (tree b at (x + 1) x)) (copyPropagateExpr n s (tree b at (y + 1) y))
+  pub copy-infix : {o : InfixOp} {x y : ℕ} → nodeOf b at k ≡ Infix o x y
+      → copyPropagateExpr n s (tree b at (k + 1) k)
+      ≡ Flat.infixed o (copyPropagateExpr n s (tree b at (x + 1) x)) (copyPropagateExpr n s (tree b at (y + 1) y))
   unfolding copyPropagateExpr
   copy-infix e = ap (copyPropagateExpr n s) (tree-infix b at k e (left-inside i e .0) (right-inside i e .0))
 
-  pub copy-negate : {x : ℕ} → nodeOf b at k ≡ Negate x → copyPropagateExpr n s (tree b at (k + 1) k) ≡ Flat.negate (copyPropagateExpr n s (tree b at (x + 1) x))
+  pub copy-negate : {x : ℕ} → nodeOf b at k ≡ Negate x
+      → copyPropagateExpr n s (tree b at (k + 1) k) ≡ Flat.negate (copyPropagateExpr n s (tree b at (x + 1) x))
   unfolding copyPropagateExpr
   copy-negate e = ap (copyPropagateExpr n s) (tree-negate b at k e (child-inside i e .0))
 
@@ -86,7 +89,8 @@ not-yes false h = refl
 
 pub same-bits : (c d : ℤ) → SFits w32 c → SFits w32 d → eqb (ofZ w32 c) (ofZ w32 d) ≡ sameNumber c d
 same-bits c d f g = ⊎-elim
-    (λ (e : ofZ w32 c ≡ ofZ w32 d). let q : c ≡ d = sym (toZ-ofZ w32 c f) ∙ ap (toZ w32) e ∙ toZ-ofZ w32 d g in eq-eqb _ _ e ∙ sym (same-itself c) ∙ ap (sameNumber c) q)
+    (λ (e : ofZ w32 c ≡ ofZ w32 d). let q : c ≡ d = sym (toZ-ofZ w32 c f) ∙ ap (toZ w32) e ∙ toZ-ofZ w32 d g in
+    eq-eqb _ _ e ∙ sym (same-itself c) ∙ ap (sameNumber c) q)
     (λ (n : ofZ w32 c ≡ ofZ w32 d → ⊥). ne-eqb _ _ n ∙ sym (not-yes (sameNumber c d) (λ t. n (ap (ofZ w32) (same-number c d t)))))
     (alike (ofZ w32 c) (ofZ w32 d))
 

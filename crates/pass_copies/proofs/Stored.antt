@@ -22,7 +22,8 @@ use Rattle.constraint.specs.declared.Term.{Term}
 use Rattle.constraint.specs.Reading.{SignedTerm}
 use Rattle.pass_trees.specs.Passes.{substituting}
 use Rattle.pass_copies.specs.declared.Copied.{Copied}
-use Rattle.pass_copies.specs.Substituted.{ID-WORDS, SUBSTITUTION-WORDS, kindAt, valueAt, putWords, standing, substOf, noSubstitutions, copiedOf, kindOf, valueOf, putTerm, putRoot}
+use Rattle.pass_copies.specs.Substituted.{ID-WORDS, SUBSTITUTION-WORDS, kindAt, valueAt, putWords, standing}
+use Rattle.pass_copies.specs.Substituted.{substOf, noSubstitutions, copiedOf, kindOf, valueOf, putTerm, putRoot}
 use Rattle.pass_copies.proofs.Walks.{stands-past, stands-words, standing-none, standing-variable, standing-constant}
 use Rattle.pass_copies.proofs.Signed.{SignedRoot}
 
@@ -54,7 +55,8 @@ module _ (m : List ℕ) (v kind value : ℕ) (long : length m ≡ SUBSTITUTION-W
   unfolding update
   at-each w = ⊎-elim
       (λ (e : w ≡ v). rw (eq-eqb w v e, e, at-itself))
-      (λ (n : w ≡ v → ⊥). rw (ne-eqb w v n) (⊎-elim (λ (l : w < 65536). at-other w n l) (λ (l : 65536 ≤ w). stands-past changed w l ∙ sym (stands-past m w l)) (split w 65536)))
+      (λ (n : w ≡ v → ⊥).
+      rw (ne-eqb w v n) (⊎-elim (λ (l : w < 65536). at-other w n l) (λ (l : 65536 ≤ w). stands-past changed w l ∙ sym (stands-past m w l)) (split w 65536)))
       (alike w v)
 
   pub changed-is : substOf changed ≡ update (substOf m) v (standing kind value)

@@ -63,7 +63,9 @@ module _ (m : List ℕ) (t : Term) (left id : ℕ) (from : walk left (substOf m)
     pub ends-constant : i < 65536 → 0 < left → (kindAt m i ≡ 0 → ⊥) → (kindAt m i ≡ 1 → ⊥) → {c : ℤ} → c ≡ toZ w32 (valueAt m i) → Term.Constant c ≡ t
     ends-constant h l n0 n1 e =
         let n : ℤ = toZ w32 (valueAt m i) in
-        ap Term.Constant e ∙ sym (walk-resolved (left - 1) (substOf m) (Term.Constant n) tt) ∙ one-more (Term.Constant n) (by-words h ∙ standing-constant _ _ n0 n1) l
+        ap Term.Constant e
+        ∙ sym (walk-resolved (left - 1) (substOf m) (Term.Constant n) tt)
+        ∙ one-more (Term.Constant n) (by-words h ∙ standing-constant _ _ n0 n1) l
 
     pub turns : i < 65536 → 0 < left → kindAt m i ≡ 1 → walk (left - 1) (substOf m) (Term.Variable (valueAt m i)) ≡ t
     turns h l e = one-more (Term.Variable (valueAt m i)) (by-words h ∙ standing-variable _ _ e) l

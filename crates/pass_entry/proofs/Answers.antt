@@ -18,7 +18,8 @@ use Rattle.flat.proofs.Rows.{length-rows}
 use Rattle.flat.proofs.Reading.{checked-accepted, checked-refused, checked-readable}
 use Rattle.flat.proofs.Sizes.{accepted-nodes}
 use Rattle.constraint.specs.Trees.{ConstraintModule}
-use Rattle.pass_trees.specs.Passes.{Outcome, cut, refused, unless, fitting, passes, counted, cuttableDefs, cuttableEquations, cutOf, flattenModuleTo3ac, eliminateDeadEqualities, copyPropagate, classifyDefs}
+use Rattle.pass_trees.specs.Passes.{Outcome, cut, refused, unless, fitting, passes, counted, cuttableDefs, cuttableEquations}
+use Rattle.pass_trees.specs.Passes.{cutOf, flattenModuleTo3ac, eliminateDeadEqualities, copyPropagate, classifyDefs}
 use Rattle.pass_entry.specs.declared.Answer.{Answer}
 use Rattle.pass_entry.specs.declared.Answer.the-variants.{Refused}
 use Rattle.pass_entry.specs.declared.Need.{Need}

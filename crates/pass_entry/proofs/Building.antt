@@ -18,7 +18,8 @@ use Rattle.flat.proofs.Rows.{length-rows}
 use Rattle.constraint.specs.Trees.{ConstraintModule}
 use Rattle.constraint.specs.Record.{EQUALITY-WORDS, KEPT-WORDS, equalitiesWords, definitionsWords, definitionsTrees}
 use Rattle.constraint.proofs.Lengths.{length-equalities, equalities-append}
-use Rattle.pass_trees.specs.Passes.{keepIf, idsFrom, member, those, isNever, usage, classifyDefs, counted, Substitutions, copyPropagateDef, afterDef, copyPropagateDefs, copyPropagate, eliminateDeadEqualities, Cuts, joined, flattenLists, flattenModuleTo3ac, passes}
+use Rattle.pass_trees.specs.Passes.{keepIf, idsFrom, member, those, isNever, usage, classifyDefs, counted, Substitutions, copyPropagateDef, afterDef}
+use Rattle.pass_trees.specs.Passes.{copyPropagateDefs, copyPropagate, eliminateDeadEqualities, Cuts, joined, flattenLists, flattenModuleTo3ac, passes}
 use Rattle.pass_classify.specs.Arrays.{marked, Classified, proversOf, usedOf, countedOf}
 use Rattle.pass_classify.proofs.Whole.{classified-provers}
 use Rattle.pass_3ac.specs.declared.Place.{Place}
@@ -60,7 +61,8 @@ module _ (b : List ℕ) (k : ℕ) where
   }
 
   pub by-parts : k ≡ length (classifyDefs (moduleOf b) .definitions) → passes (moduleOf b) ≡ parts
-  unfolding passes flattenModuleTo3ac eliminateDeadEqualities copyPropagate classifyDefs flattenLists joined defsCut defsAfter equationsCut proversOf usedOf keptOf
+  unfolding passes flattenModuleTo3ac eliminateDeadEqualities copyPropagate classifyDefs flattenLists joined defsCut defsAfter
+      equationsCut proversOf usedOf keptOf
   by-parts e = rw e
 
 built-same : {n n′ s s′ e e′ k k′ t t′ : ℕ} → n ≡ n′ → s ≡ s′ → e ≡ e′ → k ≡ k′ → t ≡ t′ →
@@ -90,7 +92,9 @@ pub record Lists (b provers body body2 : List ℕ) (start : ℕ) : Type 0 where
   pub written : body2 ≡ setWords body 0 (moduleOf b .publics ++ idsFrom (marked provers) 0 (next b))
   pub place : start ≡ publics b + length (idsFrom (marked provers) 0 (next b))
 
-pub lists-made : (b provers body : List ℕ) {body1 body2 : List ℕ} {n m start : ℕ} → n ≡ publics b → m ≡ next b → body1 ≡ setWords body 0 (rows n 0 (publicAt b)) → (body2 ≡ setWords body1 n (idsFrom (marked provers) 0 m)) × (start ≡ n + length (idsFrom (marked provers) 0 m)) → Lists b provers body body2 start
+pub lists-made : (b provers body : List ℕ) {body1 body2 : List ℕ} {n m start : ℕ}
+    → n ≡ publics b → m ≡ next b → body1 ≡ setWords body 0 (rows n 0 (publicAt b))
+    → (body2 ≡ setWords body1 n (idsFrom (marked provers) 0 m)) × (start ≡ n + length (idsFrom (marked provers) 0 m)) → Lists b provers body body2 start
 unfolding moduleOf
 lists-made b provers body {body1 = body1} {n = n} {m = m} e f g h =
     record {
@@ -109,7 +113,8 @@ unfolding those keepIf definitionsNodes
 those-nodes t [] = omega arith
 those-nodes t (d ∷ ds) = go (t (d .id)) (those-nodes t ds)
   where
-    go : (c : Bool) → definitionsNodes (those t ds) ≤ definitionsNodes ds → definitionsNodes (keepIf c d (those t ds)) ≤ treeNodes (d .right) + definitionsNodes ds
+    go : (c : Bool) → definitionsNodes (those t ds) ≤ definitionsNodes ds
+        → definitionsNodes (keepIf c d (those t ds)) ≤ treeNodes (d .right) + definitionsNodes ds
     go true h = omega arith
     go false h = omega arith
 
@@ -170,7 +175,8 @@ KeptLeave b k at m m′ body body′ list list′ o =
 
 -- ---- the rooms that the calls ask for
 
-module _ {b us ps : List ℕ} (r : Readable b) (c : Classified b us ps) (few : moduleNodes (moduleOf b) ≤ 16384) {body body2 : List ℕ} (long : length body ≡ BODY-BYTES) {start : ℕ} (l : Lists b ps body body2 start) (k : ℕ) where
+module _ {b us ps : List ℕ} (r : Readable b) (c : Classified b us ps) (few : moduleNodes (moduleOf b) ≤ 16384) {body body2 : List ℕ}
+    (long : length body ≡ BODY-BYTES) {start : ℕ} (l : Lists b ps body body2 start) (k : ℕ) where
   first-long : length body2 ≡ BODY-BYTES
   first-long = ap length (l .written) ∙ length-setWords (moduleOf b .publics ++ idsFrom (marked ps) 0 (next b)) body 0 ∙ long
 
@@ -312,15 +318,28 @@ module _ {b us ps : List ℕ} (r : Readable b) (c : Classified b us ps) (few : m
             let F : List ℕ = equalitiesWords (cutEquations b k .equalities) in
             let K : List ℕ = definitionsWords 0 (keptDefinitions b k) in
             let s1 = behind (P ++ Q) E body 0 start lists-written (omega (arith, start-is, length-append P Q)) second-written in
-            let s2 = behind ((P ++ Q) ++ E) F body 0 (p .at) s1 (omega (arith, second-place, start-is, length-append P Q, length-append (P ++ Q) E, length-equalities (cutDefinitions b k .equalities))) third-written in
-            let s3 = behind (((P ++ Q) ++ E) ++ F) K body 0 (q .at) s2 (omega (arith, third-place, second-place, start-is, length-append P Q, length-append (P ++ Q) E, length-append ((P ++ Q) ++ E) F, length-equalities (cutDefinitions b k .equalities), length-equalities (cutEquations b k .equalities))) fourth-written in
+            let s2 = behind ((P ++ Q) ++ E) F body 0 (p .at) s1 (omega
+            (arith, second-place, start-is, length-append P Q, length-append (P ++ Q) E, length-equalities (cutDefinitions b k .equalities))) third-written in
+            let s3 = behind (((P ++ Q) ++ E) ++ F) K body 0 (q .at) s2 (omega (
+              arith,
+              third-place,
+              second-place,
+              start-is,
+              length-append P Q,
+              length-append (P ++ Q) E,
+              length-append ((P ++ Q) ++ E) F,
+              length-equalities (cutDefinitions b k .equalities),
+              length-equalities (cutEquations b k .equalities),
+            )) fourth-written in
             let z1 : (((P ++ Q) ++ E) ++ F) ++ K ≡ P ++ (Q ++ ((E ++ F) ++ K)) = simp append-assoc in
-            s3 ∙ ap (setWords body 0) (z1 ∙ ap (λ (x : List ℕ). P ++ (Q ++ (x ++ K))) (sym (equalities-append (cutDefinitions b k .equalities) (cutEquations b k .equalities))))
+            s3 ∙ ap (setWords body 0)
+            (z1 ∙ ap (λ (x : List ℕ). P ++ (Q ++ (x ++ K))) (sym (equalities-append (cutDefinitions b k .equalities) (cutEquations b k .equalities))))
 
         pub body-same : length body5 ≡ length body
         body-same = ap length body-written ∙ length-setWords (bodyWords (parts b k)) body 0
 
-        both-long : length (cutDefinitions b k .equalities ++ cutEquations b k .equalities) ≡ length (cutDefinitions b k .equalities) + length (cutEquations b k .equalities)
+        both-long : length (cutDefinitions b k .equalities ++ cutEquations b k .equalities)
+            ≡ length (cutDefinitions b k .equalities) + length (cutEquations b k .equalities)
         both-long = length-append (cutDefinitions b k .equalities) (cutEquations b k .equalities)
 
         -- THE RECORD IS BUILT: the numbers, the body and the list

@@ -11,7 +11,8 @@ use Rattle.words.specs.Words.{setWords, bytesOf}
 use Rattle.words.proofs.Laws.{setWords-bytes, bytesOf-append, length-bytesOf}
 use Rattle.flat.specs.Record.{pick}
 use Rattle.constraint.specs.Trees.{ConstraintModule}
-use Rattle.constraint.specs.Record.{EQUALITY-WORDS, KEPT-WORDS, headerWords, constraintWords, constraintBytes, equalitiesWords, definitionsWords, definitionsTrees}
+use Rattle.constraint.specs.Record.{EQUALITY-WORDS, KEPT-WORDS, headerWords, constraintWords}
+use Rattle.constraint.specs.Record.{constraintBytes, equalitiesWords, definitionsWords, definitionsTrees}
 use Rattle.flat.specs.Trees.{definitionsNodes}
 use Rattle.constraint.proofs.Lengths.{length-bytes}
 use Rattle.pass_trees.specs.Passes.{cut}
@@ -29,7 +30,8 @@ piece xs out from k n e =
     (take-at xs (drop k out) k e)
     (ap (λ (m : ℕ). drop (m + n) (xs ++ drop k out)) (sym e) ∙ drop-append-add xs (drop k out) n ∙ drop-drop n k out)
 
-three : (xs out body list out1 out2 out3 : List ℕ) (k m n : ℕ) → length xs ≡ k → m ≤ length body → out1 ≡ xs ++ drop k out → out2 ≡ paste out1 k body m → out3 ≡ paste out2 (k + m) list n → out3 ≡ ((xs ++ take m body) ++ take n list) ++ drop (k + m + n) out
+three : (xs out body list out1 out2 out3 : List ℕ) (k m n : ℕ) → length xs ≡ k → m ≤ length body → out1 ≡ xs ++ drop k out → out2 ≡ paste out1 k body m
+    → out3 ≡ paste out2 (k + m) list n → out3 ≡ ((xs ++ take m body) ++ take n list) ++ drop (k + m + n) out
 three xs out body list out1 out2 out3 k m n e l e1 e2 e3 =
     e3
     ∙ ap (λ (o : List ℕ). paste o (k + m) list n) (e2 ∙ ap (λ (o : List ℕ). paste o k body m) e1 ∙ piece xs out body k m e)
@@ -47,10 +49,15 @@ header-long a b d e f g = refl
 -- ---- the record
 
 -- a constraint record is its header, its body and its nodes
-in-parts : (c : ConstraintModule) → constraintBytes c ≡ (bytesOf (headerWords (c .next) (length (c .publics)) (length (c .provers)) (length (c .equalities)) (length (c .kept)) (definitionsNodes (c .kept))) ++ bytesOf (bodyWords c)) ++ bytesOf (definitionsTrees 0 (c .kept))
+in-parts : (c : ConstraintModule)
+    → constraintBytes c
+    ≡ (bytesOf (headerWords (c .next) (length (c .publics)) (length (c .provers)) (length (c .equalities)) (length (c .kept)) (definitionsNodes (c .kept)))
+    ++ bytesOf (bodyWords c))
+    ++ bytesOf (definitionsTrees 0 (c .kept))
 unfolding constraintBytes constraintWords bodyWords
 in-parts c =
-    let h : List ℕ = headerWords (c .next) (length (c .publics)) (length (c .provers)) (length (c .equalities)) (length (c .kept)) (definitionsNodes (c .kept)) in
+    let h : List ℕ =
+    headerWords (c .next) (length (c .publics)) (length (c .provers)) (length (c .equalities)) (length (c .kept)) (definitionsNodes (c .kept)) in
     let p : List ℕ = c .publics in
     let q : List ℕ = c .provers in
     let e : List ℕ = equalitiesWords (c .equalities) in
@@ -66,7 +73,8 @@ module _ (c : ConstraintModule) (built : Built) (body list : List ℕ) (made : M
   size-is = omega (arith, length-bytes c, made .start-is, made .equalities-is, made .kept-is, made .nodes-is)
 
   -- no room
-  pub not-delivered : (out : List ℕ) → length out < 24 + 4 * built .kept + 16 * built .nodes → (Refused 33 ≡ answerFor (length out) (cut c)) × (out ≡ outputFor out (cut c))
+  pub not-delivered : (out : List ℕ) → length out < 24 + 4 * built .kept + 16 * built .nodes
+      → (Refused 33 ≡ answerFor (length out) (cut c)) × (out ≡ outputFor out (cut c))
   unfolding answerFor outputFor pick
   not-delivered out l = let z : length out < length (constraintBytes c) = omega (arith, size-is) in (rw (lt-leb _ _ z), rw (lt-leb _ _ z))
 
@@ -75,7 +83,8 @@ module _ (c : ConstraintModule) (built : Built) (body list : List ℕ) (made : M
     abbrev header : List ℕ
     header = headerWords (built .next) publics (built .start - publics) equalities ((built .kept - built .equalities) / KEPT-WORDS) (built .nodes)
 
-    header-is : header ≡ headerWords (c .next) (length (c .publics)) (length (c .provers)) (length (c .equalities)) (length (c .kept)) (definitionsNodes (c .kept))
+    header-is : header
+        ≡ headerWords (c .next) (length (c .publics)) (length (c .provers)) (length (c .equalities)) (length (c .kept)) (definitionsNodes (c .kept))
     header-is =
         let z1 : built .start - publics ≡ length (c .provers) = omega (arith, made .start-is) in
         let z2 : equalities ≡ length (c .equalities) = omega (arith, made .equalities-is) in
@@ -84,7 +93,8 @@ module _ (c : ConstraintModule) (built : Built) (body list : List ℕ) (made : M
         let z4 = made .nodes-is in
         cc
 
-    pub delivered : (size : ℕ) (out out1 out2 out3 : List ℕ) → size ≡ 24 + 4 * built .kept + 16 * built .nodes → size ≤ length out → 4 * built .kept ≤ length body →
+    pub delivered : (size : ℕ) (out out1 out2 out3 : List ℕ) → size ≡ 24 + 4 * built .kept + 16 * built .nodes → size ≤ length out →
+        4 * built .kept ≤ length body →
         out1 ≡ setWords out 0 header → out2 ≡ paste out1 24 body (4 * built .kept) → out3 ≡ paste out2 (24 + 4 * built .kept) list (16 * built .nodes) →
         (Written size ≡ answerFor (length out) (cut c)) × (out3 ≡ outputFor out (cut c))
     unfolding answerFor outputFor pick

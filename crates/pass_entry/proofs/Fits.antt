@@ -23,7 +23,8 @@ use Rattle.pass_3ac.proofs.Definitions.{few-defs}
 use Rattle.pass_3ac.proofs.Equations.{few-equations}
 use Rattle.pass_entry.specs.declared.body.Built.{Built}
 use Rattle.pass_entry.specs.Body.{BODY-WORDS, BODY-BYTES, LIST-BYTES, bodyWords, builtOf, putBody, putList, Made, Fitting}
-use Rattle.pass_entry.proofs.Building.{none-yet, cutDefinitions, cutEquations, parts, by-parts, ids-few, kept-nodes-few, kept-count-few, definitions-count}
+use Rattle.pass_entry.proofs.Building.{none-yet, cutDefinitions, cutEquations, parts, by-parts}
+use Rattle.pass_entry.proofs.Building.{ids-few, kept-nodes-few, kept-count-few, definitions-count}
 
 -- words from the front on, as bytes
 taken : (ws d : List ℕ) {d1 : List ℕ} (n : ℕ) → d1 ≡ setWords d 0 ws → n ≡ 4 * length ws → n ≤ length d → take n d1 ≡ bytesOf ws
@@ -112,5 +113,6 @@ module _ {c : ConstraintModule} {publics : ℕ} (s : Small c publics) (body list
     kept-is = refl;
     nodes-is = refl;
     body-is = taken (bodyWords c) body (4 * builtOf c .kept) p (omega (arith, words-long)) (omega (arith, s .words));
-    list-is = taken (definitionsTrees 0 (c .kept)) list (16 * builtOf c .nodes) q (omega (arith, length-definitions-trees (c .kept) 0)) (omega (arith, s .nodes));
+    list-is =
+        taken (definitionsTrees 0 (c .kept)) list (16 * builtOf c .nodes) q (omega (arith, length-definitions-trees (c .kept) 0)) (omega (arith, s .nodes));
   })

@@ -27,7 +27,8 @@ rows-none : {A : Type 0} (n k : ℕ) (f : ℕ → A) → n ≤ k → rows (n - k
 unfolding rows
 rows-none n k f l = let z : n - k ≡ 0 = omega arith in ap (λ (m : ℕ). rows m k f) z
 
-pub row-turn : {r : List ℕ} (b : List ℕ) (n k : ℕ) (f : ℕ → ℕ) (w : ℕ) → k < n → w ≡ f k → setWords b k (rows (n - k) k f) ≡ r → setWords (setWord b k w) (k + 1) (rows (n - (k + 1)) (k + 1) f) ≡ r
+pub row-turn : {r : List ℕ} (b : List ℕ) (n k : ℕ) (f : ℕ → ℕ) (w : ℕ) → k < n → w ≡ f k → setWords b k (rows (n - k) k f) ≡ r
+    → setWords (setWord b k w) (k + 1) (rows (n - (k + 1)) (k + 1) f) ≡ r
 unfolding setWords
 row-turn b n k f w l e h = ap (λ (x : ℕ). setWords (setWord b k x) (k + 1) (rows (n - (k + 1)) (k + 1) f)) e ∙ sym (ap (setWords b k) (rows-next n k f l)) ∙ h
 
@@ -98,7 +99,8 @@ writing-start t n at d =
       inside = omega arith;
     }
 
-pub writing-turn : (t : ℕ → Bool) (n at v to to′ : ℕ) (b b′ d : List ℕ) → v < n → b′ ≡ setWords b to (idsFrom t v 1) → to′ ≡ to + length (idsFrom t v 1) → length b′ ≡ length b → Writing t n at v to b d → Writing t n at (v + 1) to′ b′ d
+pub writing-turn : (t : ℕ → Bool) (n at v to to′ : ℕ) (b b′ d : List ℕ) → v < n → b′ ≡ setWords b to (idsFrom t v 1) → to′ ≡ to + length (idsFrom t v 1)
+    → length b′ ≡ length b → Writing t n at v to b d → Writing t n at (v + 1) to′ b′ d
 writing-turn t n at v to to′ b b′ d l e f g w =
     record {
       whole =
@@ -113,7 +115,8 @@ writing-turn t n at v to to′ b b′ d l e f g w =
       inside = omega arith;
     }
 
-pub writing-end : (t : ℕ → Bool) (n at v to : ℕ) (b d : List ℕ) → n ≤ v → Writing t n at v to b d → (b ≡ setWords d at (idsFrom t 0 n)) × (to ≡ at + length (idsFrom t 0 n))
+pub writing-end : (t : ℕ → Bool) (n at v to : ℕ) (b d : List ℕ) → n ≤ v → Writing t n at v to b d
+    → (b ≡ setWords d at (idsFrom t 0 n)) × (to ≡ at + length (idsFrom t 0 n))
 unfolding setWords
 writing-end t n at v to b d l w = (
   sym (ap (setWords b to) (ids-none t n v l)) ∙ w .whole,

@@ -1,4 +1,5 @@
--- What `cut` and `measure` answer, and what `cut` leaves in the output. For a reader with document 01, "Constraint record" and "Numbers by place of the check", beside it.
+-- What `cut` and `measure` answer, and what `cut` leaves in the output. For a reader with document 01, "Constraint record" and "Numbers by place of the
+-- check", beside it.
 use Prim.Native.Nat.{ℕ}
 use mathlib.Core.List.{List, _++_}
 use lib.ListN.{length, drop}

@@ -64,7 +64,8 @@ fn equalities_of(built: Built) -> usize
 // The record that was built, put into the output where it fits.
 fn deliver(built: Built, publics: usize, body: &[u8], list: &[u8], out: &mut [u8]) -> Answer
     requires { ⌜ Fitting built publics (now body) (now list) ⌝ }
-    ensures { λ r. ⌜ ((c : ConstraintModule) → Made c built (now (body .entry)) (now (list .entry)) → publics ≡ length (c .publics) → (r ≡ answerFor (length (now (out .entry))) (accepted c)) × (now (out .exit) ≡ outputFor (now (out .entry)) (accepted c))) ⌝ }
+    ensures { λ r. ⌜ ((c : ConstraintModule) → Made c built (now (body .entry)) (now (list .entry)) → publics ≡ length (c .publics)
+        → (r ≡ answerFor (length (now (out .entry))) (accepted c)) × (now (out .exit) ≡ outputFor (now (out .entry)) (accepted c))) ⌝ }
 {
     let start = built.start;
     let equalities = equalities_of(built);
@@ -91,7 +92,8 @@ fn deliver(built: Built, publics: usize, body: &[u8], list: &[u8], out: &mut [u8
 // The passes on a readable record, lent or made by evaluation.
 pub fn passes(s: &[u8], out: &mut [u8]) -> Answer
     requires { ⌜ Readable (now s) × (moduleNodes (moduleOf (now s)) ≤ NODES) ⌝ }
-    ensures { λ r. ⌜ (r ≡ answerFor (length (now (out .entry))) (cutOf (moduleOf (now (s .entry))))) × (now (out .exit) ≡ outputFor (now (out .entry)) (cutOf (moduleOf (now (s .entry))))) ⌝ }
+    ensures { λ r. ⌜ (r ≡ answerFor (length (now (out .entry))) (cutOf (moduleOf (now (s .entry)))))
+        × (now (out .exit) ≡ outputFor (now (out .entry)) (cutOf (moduleOf (now (s .entry))))) ⌝ }
 {
     let layout = flat::layout_of(s);
     let publics = layout.publics;

@@ -47,7 +47,8 @@ pub fn put_publics(s: &[u8], n: usize, body: &mut [u8])
 // Id v where it is marked.
 fn put_prover(provers: &Provers, v: usize, body: &mut [u8], at: usize) -> usize
     requires { ⌜ (v < IDS) × (4 * (at + 1) ≤ length (now body)) ⌝ }
-    ensures { λ r. ⌜ (now (body .exit) ≡ setWords (now (body .entry)) at (idsFrom (marked (now (provers .entry))) v 1)) × (r ≡ at + length (idsFrom (marked (now (provers .entry))) v 1)) ⌝ }
+    ensures { λ r. ⌜ (now (body .exit) ≡ setWords (now (body .entry)) at (idsFrom (marked (now (provers .entry))) v 1))
+        × (r ≡ at + length (idsFrom (marked (now (provers .entry))) v 1)) ⌝ }
 {
     if provers[v] == 0 {
         return at;
@@ -59,7 +60,8 @@ fn put_prover(provers: &Provers, v: usize, body: &mut [u8], at: usize) -> usize
 // The marked ids below `next`, from word `at` of the body on; answers the word after them.
 pub fn put_provers(provers: &Provers, next: usize, body: &mut [u8], at: usize) -> usize
     requires { ⌜ (next ≤ IDS) × (4 * (at + next) ≤ length (now body)) ⌝ }
-    ensures { λ r. ⌜ (now (body .exit) ≡ setWords (now (body .entry)) at (idsFrom (marked (now (provers .entry))) 0 next)) × (r ≡ at + length (idsFrom (marked (now (provers .entry))) 0 next)) ⌝ }
+    ensures { λ r. ⌜ (now (body .exit) ≡ setWords (now (body .entry)) at (idsFrom (marked (now (provers .entry))) 0 next))
+        × (r ≡ at + length (idsFrom (marked (now (provers .entry))) 0 next)) ⌝ }
 {
     let mut to = at;
     let mut v = 0usize;

@@ -75,7 +75,8 @@ module _ (b : List ℕ) (steps : ℕ) (s : Substitutions) (d : Definition) where
     prover-kept m = kept-is ∙ rw m
 
   -- at most one, with as many nodes as its right side
-  small : (t : Bool) → (length (keepIf t (copyPropagateDef steps s d) []) ≤ 1) × (definitionsNodes (keepIf t (copyPropagateDef steps s d) []) ≤ treeNodes (d .right))
+  small : (t : Bool)
+      → (length (keepIf t (copyPropagateDef steps s d) []) ≤ 1) × (definitionsNodes (keepIf t (copyPropagateDef steps s d) []) ≤ treeNodes (d .right))
   unfolding keepIf definitionsNodes copyPropagateDef
   small true = (omega arith, omega (arith, copied-nodes steps s (d .right)))
   small false = (omega arith, omega arith)
@@ -84,7 +85,8 @@ module _ (b : List ℕ) (steps : ℕ) (s : Substitutions) (d : Definition) where
   unfolding definitionsNodes
   kept-small = go (isNever (usage (moduleOf b) (d .id))) refl
     where
-      go : (t : Bool) → isNever (usage (moduleOf b) (d .id)) ≡ t → (length (keptOf b steps s (d ∷ [])) ≤ 1) × (definitionsNodes (keptOf b steps s (d ∷ [])) ≤ treeNodes (d .right))
+      go : (t : Bool) → isNever (usage (moduleOf b) (d .id)) ≡ t
+          → (length (keptOf b steps s (d ∷ [])) ≤ 1) × (definitionsNodes (keptOf b steps s (d ∷ [])) ≤ treeNodes (d .right))
       go true e = rw (unused-kept e) (omega arith, omega arith)
       go false e = rw (kept-is e) (small (member (d .id) (proversOf b)))
 
@@ -159,7 +161,8 @@ module _ {b u p : List ℕ} (c : Classified b u p) (steps id : ℕ) (right : Fla
         (prover-kept b steps (substOf m) definition n o) x y z (put-prover b steps m definition n o)
 
 -- the index after the root, of a tree that there is room for
-pub kept-root : (base steps : ℕ) (m : List ℕ) (right : Flat) (list : List ℕ) {after : ℕ} → NodeRoom (treeNodes right) base list → after ≡ nextFrom base (copyPropagateExpr steps (substOf m) right) → (0 < after) × (after ≤ 65536)
+pub kept-root : (base steps : ℕ) (m : List ℕ) (right : Flat) (list : List ℕ) {after : ℕ} → NodeRoom (treeNodes right) base list
+    → after ≡ nextFrom base (copyPropagateExpr steps (substOf m) right) → (0 < after) × (after ≤ 65536)
 kept-root base steps m right list r q =
     let e = q ∙ next-is base steps (substOf m) right in
     let f = copied-nodes steps (substOf m) right in

@@ -14,7 +14,8 @@ use Rattle.flat.specs.Readable.{Readable}
 use Rattle.flat.specs.declared.entries.DefinitionEntry.{DefinitionEntry}
 use Rattle.constraint.specs.Record.{KEPT-WORDS, definitionsWords, definitionsTrees}
 use Rattle.constraint.proofs.Lengths.{length-definitions, length-definitions-trees, count-append, definitions-append, definitions-trees-append}
-use Rattle.pass_trees.specs.Passes.{member, those, classifyDefs, copyPropagate, eliminateDeadEqualities, flattenModuleTo3ac, passes, Substitutions, copyPropagateDefs, afterDefs}
+use Rattle.pass_trees.specs.Passes.{member, those, classifyDefs, copyPropagate, eliminateDeadEqualities}
+use Rattle.pass_trees.specs.Passes.{flattenModuleTo3ac, passes, Substitutions, copyPropagateDefs, afterDefs}
 use Rattle.pass_trees.proofs.Loops.{those-append, copies-append}
 use Rattle.pass_classify.proofs.Lists.{definitionsFrom, definitions-none, definitions-whole, OverDefinitions, definition-small, definitions-more}
 use Rattle.pass_copies.specs.Substituted.{SUBSTITUTION-WORDS, substOf, putDefinitions}
@@ -50,17 +51,22 @@ module _ (b : List ℕ) (steps : ℕ) where
 -- ---- places after a first part
 
 module _ (xs ys : List Definition) where
-  put-kept-append : (body : List ℕ) (at base : ℕ) → putKept body at base (xs ++ ys) ≡ putKept (putKept body at base xs) (at + KEPT-WORDS * length xs) (base + definitionsNodes xs) ys
+  put-kept-append : (body : List ℕ) (at base : ℕ)
+      → putKept body at base (xs ++ ys) ≡ putKept (putKept body at base xs) (at + KEPT-WORDS * length xs) (base + definitionsNodes xs) ys
   unfolding putKept
   put-kept-append body at base =
       let e : at + length (definitionsWords base xs) ≡ at + KEPT-WORDS * length xs = omega (arith, length-definitions xs base) in
-      ap (setWords body at) (definitions-append xs ys base) ∙ setWords-append (definitionsWords base xs) (definitionsWords (base + definitionsNodes xs) ys) body at ∙ ap (λ (i : ℕ). setWords (setWords body at (definitionsWords base xs)) i (definitionsWords (base + definitionsNodes xs) ys)) e
+      ap (setWords body at) (definitions-append xs ys base)
+      ∙ setWords-append (definitionsWords base xs) (definitionsWords (base + definitionsNodes xs) ys) body at
+      ∙ ap (λ (i : ℕ). setWords (setWords body at (definitionsWords base xs)) i (definitionsWords (base + definitionsNodes xs) ys)) e
 
   put-nodes-append : (list : List ℕ) (base : ℕ) → putNodes list base (xs ++ ys) ≡ putNodes (putNodes list base xs) (base + definitionsNodes xs) ys
   unfolding putNodes
   put-nodes-append list base =
       let e : 4 * base + length (definitionsTrees base xs) ≡ 4 * (base + definitionsNodes xs) = omega (arith, length-definitions-trees xs base) in
-      ap (setWords list (4 * base)) (definitions-trees-append xs ys base) ∙ setWords-append (definitionsTrees base xs) (definitionsTrees (base + definitionsNodes xs) ys) list (4 * base) ∙ ap (λ (i : ℕ). setWords (setWords list (4 * base) (definitionsTrees base xs)) i (definitionsTrees (base + definitionsNodes xs) ys)) e
+      ap (setWords list (4 * base)) (definitions-trees-append xs ys base)
+      ∙ setWords-append (definitionsTrees base xs) (definitionsTrees (base + definitionsNodes xs) ys) list (4 * base)
+      ∙ ap (λ (i : ℕ). setWords (setWords list (4 * base) (definitionsTrees base xs)) i (definitionsTrees (base + definitionsNodes xs) ys)) e
 
   kept-from-append : (at base : ℕ) → keptFrom at base (xs ++ ys) ≡ keptFrom (at + KEPT-WORDS * length xs) (base + definitionsNodes xs) ys
   unfolding keptFrom
@@ -100,7 +106,8 @@ module _ (b : List ℕ) (steps n at : ℕ) (m₀ body₀ list₀ : List ℕ) whe
     pub node-room : NodeRoom (definitionsNodes (definitionsFrom b k)) base list
     pub within : k ≤ n
 
-  pub going-start : length m₀ ≡ SUBSTITUTION-WORDS → WordRoom n at body₀ → NodeRoom (definitionsNodes (moduleOf b .definitions)) 0 list₀ → Going at 0 0 m₀ body₀ list₀
+  pub going-start : length m₀ ≡ SUBSTITUTION-WORDS → WordRoom n at body₀ → NodeRoom (definitionsNodes (moduleOf b .definitions)) 0 list₀
+      → Going at 0 0 m₀ body₀ list₀
   going-start l w r =
       let e : definitionsFrom b 0 ≡ moduleOf b .definitions = sym (definitions-whole b) in
       record {
@@ -145,12 +152,17 @@ module _ (b : List ℕ) (steps n at : ℕ) (m₀ body₀ list₀ : List ℕ) whe
       size = ap definitionsNodes from-is
 
       pub first-room : WordRoom 1 to body × NodeRoom (treeNodes (first .right)) base list
-      first-room = (record { long = omega (arith, g .word-room .long) }, record { long = omega (arith, size, g .node-room .long); few = omega (arith, size, g .node-room .few) })
+      first-room = (
+        record { long = omega (arith, g .word-room .long) },
+        record { long = omega (arith, size, g .node-room .long); few = omega (arith, size, g .node-room .few) },
+      )
 
-      pub going-turn : {m′ body′ list′ : List ℕ} {a : Kept} → Keeps b steps (first ∷ []) to base m body list m′ body′ list′ a → Going (a .at) (a .nodes) (k + 1) m′ body′ list′
+      pub going-turn : {m′ body′ list′ : List ℕ} {a : Kept} → Keeps b steps (first ∷ []) to base m body list m′ body′ list′ a
+          → Going (a .at) (a .nodes) (k + 1) m′ body′ list′
       unfolding keptFrom
       going-turn {m′} {body′} {list′} {a} w =
-          let says = after-says b steps m first (g .subs-long) (storable-tree b nodesAt (entry .node + 1) (entry .node) (definition-small r o h read)) (w .subs-are) in
+          let says =
+          after-says b steps m first (g .subs-long) (storable-tree b nodesAt (entry .node + 1) (entry .node) (definition-small r o h read)) (w .subs-are) in
           let K₁ : List Definition = keptOf b steps (substOf m) (first ∷ []) in
           let K₂ : List Definition = keptOf b steps (substOf m′) (definitionsFrom b (k + 1)) in
           let both : keptOf b steps (substOf m) (definitionsFrom b k) ≡ K₁ ++ K₂ = ap (keptOf b steps (substOf m)) from-is
@@ -161,9 +173,11 @@ module _ (b : List ℕ) (steps n at : ℕ) (m₀ body₀ list₀ : List ℕ) whe
           let few = kept-small b steps (substOf m) first in
           let bl : length body′ ≡ length body = ap length (w .body-is) ∙ put-kept-length body to base K₁ in
           let ll : length list′ ≡ length list = ap length (w .list-is) ∙ put-nodes-length list base K₁ in
-          let pw : putKept body′ (a .at) (a .nodes) K₂ ≡ putKept (putKept body to base K₁) (to + KEPT-WORDS * length K₁) (base + definitionsNodes K₁) K₂ = rw (w .body-is, at-is, nodes-is) in
+          let pw : putKept body′ (a .at) (a .nodes) K₂ ≡ putKept (putKept body to base K₁) (to + KEPT-WORDS * length K₁) (base + definitionsNodes K₁) K₂ =
+          rw (w .body-is, at-is, nodes-is) in
           let pn : putNodes list′ (a .nodes) K₂ ≡ putNodes (putNodes list base K₁) (base + definitionsNodes K₁) K₂ = rw (w .list-is, nodes-is) in
-          let pa : keptFrom (a .at) (a .nodes) K₂ ≡ keptFrom (to + KEPT-WORDS * length K₁) (base + definitionsNodes K₁) K₂ = ap₂ (λ (i j : ℕ). keptFrom i j K₂) at-is nodes-is in
+          let pa : keptFrom (a .at) (a .nodes) K₂ ≡ keptFrom (to + KEPT-WORDS * length K₁) (base + definitionsNodes K₁) K₂ =
+          ap₂ (λ (i j : ℕ). keptFrom i j K₂) at-is nodes-is in
           record {
             words = pw ∙ sym (ap (putKept body to base) both ∙ put-kept-append K₁ K₂ body to base) ∙ g .words;
             nodes = pn ∙ sym (ap (putNodes list base) both ∙ put-nodes-append K₁ K₂ list base) ∙ g .nodes;

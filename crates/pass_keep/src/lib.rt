@@ -59,7 +59,9 @@ fn put_tree(
     base: usize,
 ) -> usize
     requires { ⌜ Inside (now s) nodes k × NodeRoom (treeNodes (tree (now s) nodes (k + 1) k)) base (now list) ⌝ }
-    ensures { λ r. ⌜ (now (list .exit) ≡ putTree (now (list .entry)) base (copyPropagateExpr steps (substOf (now (subs .entry))) (tree (now (s .entry)) nodes (k + 1) k))) × (r ≡ nextFrom base (copyPropagateExpr steps (substOf (now (subs .entry))) (tree (now (s .entry)) nodes (k + 1) k))) ⌝ }
+    ensures { λ r.
+        ⌜ (now (list .exit) ≡ putTree (now (list .entry)) base (copyPropagateExpr steps (substOf (now (subs .entry))) (tree (now (s .entry)) nodes (k + 1) k)))
+        × (r ≡ nextFrom base (copyPropagateExpr steps (substOf (now (subs .entry))) (tree (now (s .entry)) nodes (k + 1) k))) ⌝ }
 {
     let node = flat::node_at(s, nodes, k);
     match node {
@@ -116,7 +118,8 @@ fn keep_def(
 ) -> Kept
     requires { ⌜ Inside (now s) nodes k × Classified (now s) (now usage) (now provers) × (id < IDS) × (length (now subs) ≡ SUBSTITUTION-WORDS) ⌝ }
     requires { ⌜ WordRoom 1 at (now body) × NodeRoom (treeNodes (tree (now s) nodes (k + 1) k)) base (now list) ⌝ }
-    ensures { λ r. ⌜ Keeps (now (s .entry)) steps (record { id = id; right = tree (now (s .entry)) nodes (k + 1) k } ∷ []) at base (now (subs .entry)) (now (body .entry)) (now (list .entry)) (now (subs .exit)) (now (body .exit)) (now (list .exit)) r ⌝ }
+    ensures { λ r. ⌜ Keeps (now (s .entry)) steps (record { id = id; right = tree (now (s .entry)) nodes (k + 1) k } ∷ []) at base (now (subs .entry))
+        (now (body .entry)) (now (list .entry)) (now (subs .exit)) (now (body .exit)) (now (list .exit)) r ⌝ }
 {
     let i = id as usize;
     if usage[i] == NEVER {
@@ -148,8 +151,14 @@ pub fn keep_defs(
     at: usize,
     list: &mut [u8],
 ) -> Kept
-    requires { ⌜ Readable (now s) × Classified (now s) (now usage) (now provers) × (definitions ≡ definitionsAt (now s)) × (n ≡ definitionCount (now s)) × (nodes ≡ nodesAt (now s)) ⌝ }
-    requires { ⌜ (length (now subs) ≡ SUBSTITUTION-WORDS) × WordRoom n at (now body) × NodeRoom (definitionsNodes (moduleOf (now s) .definitions)) 0 (now list) ⌝ }
+    requires { ⌜ Readable (now s)
+        × Classified (now s) (now usage) (now provers)
+        × (definitions ≡ definitionsAt (now s))
+        × (n ≡ definitionCount (now s))
+        × (nodes ≡ nodesAt (now s)) ⌝ }
+    requires { ⌜ (length (now subs) ≡ SUBSTITUTION-WORDS)
+        × WordRoom n at (now body)
+        × NodeRoom (definitionsNodes (moduleOf (now s) .definitions)) 0 (now list) ⌝ }
     ensures { λ _. ⌜ now (body .exit) ≡ putKept (now (body .entry)) at 0 (recordKept (now (s .entry)) steps (now (subs .entry))) ⌝ }
     ensures { λ _. ⌜ now (list .exit) ≡ putNodes (now (list .entry)) 0 (recordKept (now (s .entry)) steps (now (subs .entry))) ⌝ }
     ensures { λ r. ⌜ r ≡ keptFrom at 0 (recordKept (now (s .entry)) steps (now (subs .entry))) ⌝ }

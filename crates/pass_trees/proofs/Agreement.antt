@@ -14,9 +14,12 @@ use Rattle.flat.specs.Rules.{All, Every, Ordered, WellFormed}
 use Rattle.flat.specs.Meaning.{Assignment, DefinitionHolds, EquationHolds}
 use Rattle.constraint.specs.Trees.{ConstraintModule}
 use Rattle.constraint.specs.Meaning.{InEquality, EqualityHolds, Solution}
-use Rattle.pass_trees.specs.Passes.{member, those, classifyDefs, copyPropagateDefs, afterDefs, copyPropagateEquations, copyPropagate, alive, eliminateDeadEqualities, Cuts, flattenLists, flattenModuleTo3ac, cuttableDefs, cuttableEquations, counted, Outcome, cut, unless, fitting, passes, cutOf}
+use Rattle.pass_trees.specs.Passes.{member, those, classifyDefs, copyPropagateDefs, afterDefs, copyPropagateEquations}
+use Rattle.pass_trees.specs.Passes.{copyPropagate, alive, eliminateDeadEqualities, Cuts, flattenLists, flattenModuleTo3ac}
+use Rattle.pass_trees.specs.Passes.{cuttableDefs, cuttableEquations, counted, Outcome, cut, unless, fitting, passes, cutOf}
 use Rattle.pass_trees.specs.Meaning.{Known, Inputs, worked}
-use Rattle.pass_trees.specs.Statements.{KeepsMeaning, CutKeepsMeaning, CutKeepsMeaningAt, Fulfils, Extension, PassesKeepSolutions, InputsUncounted, InputsGiven}
+use Rattle.pass_trees.specs.Statements.{KeepsMeaning, CutKeepsMeaning, CutKeepsMeaningAt, Fulfils}
+use Rattle.pass_trees.specs.Statements.{Extension, PassesKeepSolutions, InputsUncounted, InputsGiven}
 use Rattle.pass_trees.proofs.Lists.{bool-not, every-map, every-both, all-those, both-true, all-map}
 use Rattle.pass_trees.proofs.Copied.{CountedIn, none-entries, copies-hold, equations-copied, alive-hold, copies-in, equations-in, alive-in}
 use Rattle.pass_trees.proofs.Classified.{all-both, all-defined, those-back, inputs-given as given-inputs}
@@ -37,7 +40,8 @@ module _ (f : FlatModule) where
   copiedEquations : List Equation
   copiedEquations = alive (copyPropagateEquations (length ds) (afterDefs ps (length ds) (λ _. none) ds) (f .equations))
 
-  fulfils-copied : (σ : Assignment) → Fulfils f σ ↔ (All (DefinitionHolds σ) (those (λ v. not (member v ps)) copiedDefs) × All (EquationHolds σ) copiedEquations)
+  fulfils-copied : (σ : Assignment)
+      → Fulfils f σ ↔ (All (DefinitionHolds σ) (those (λ v. not (member v ps)) copiedDefs) × All (EquationHolds σ) copiedEquations)
   unfolding counted ps ds copiedDefs copiedEquations
   fulfils-copied σ =
       let c = copies-hold σ ps (length ds) ds (λ _. none) (none-entries _) in (
@@ -46,11 +50,13 @@ module _ (f : FlatModule) where
       )
 
   -- the whole cut is one piece, over any update of ids below the next id that has the variables of counted definitions and equations
-  whole-in : (S : ℕ → Type 0) → ((v : ℕ) → S v → v < f .next) → All (CountedIn S ps) ds → All (λ e. Every S (e .left) × Every S (e .right)) (f .equations) → Piece (f .next) S (Fulfils f) (flattenLists ps copiedDefs copiedEquations)
+  whole-in : (S : ℕ → Type 0) → ((v : ℕ) → S v → v < f .next) → All (CountedIn S ps) ds → All (λ e. Every S (e .left) × Every S (e .right)) (f .equations)
+      → Piece (f .next) S (Fulfils f) (flattenLists ps copiedDefs copiedEquations)
   unfolding copiedDefs copiedEquations
   whole-in S low h i =
       let c = copies-in S ps (length ds) ds (λ _. none) (none-entries _) h in
-      renamed (f .next) S low (module-piece (f .next) S low ps copiedDefs copiedEquations (c .0) (alive-in _ _ (equations-in S (length ds) _ (c .1) (f .equations) i)))
+      renamed (f .next) S low
+      (module-piece (f .next) S low ps copiedDefs copiedEquations (c .0) (alive-in _ _ (equations-in S (length ds) _ (c .1) (f .equations) i)))
       (λ σ. fulfils-copied σ .1) (λ σ. fulfils-copied σ .0)
 
   cut-equalities : passes f .equalities ≡ flattenLists ps copiedDefs copiedEquations (f .next) .equalities
@@ -78,9 +84,15 @@ passes-keep-solutions f h i =
       reads = λ σ el k. piece .reads σ el (f .next) (subst (All (EqualityHolds σ)) (cut-equalities f) k);
       extends = λ σ el k.
           let x : Extension σ (f .next) (cutList .equalities) = piece .writes σ el (f .next) (le-refl (f .next)) k in
-          record { assignment = x .assignment; elements = x .elements; same = x .same; holds = subst (All (EqualityHolds (x .assignment))) (sym (cut-equalities f)) (x .holds) };
+          record {
+            assignment = x .assignment;
+            elements = x .elements;
+            same = x .same;
+            holds = subst (All (EqualityHolds (x .assignment))) (sym (cut-equalities f)) (x .holds);
+          };
       determines = λ σ τ s k l.
-          subst (All (InEquality (λ v. σ v ≡ τ v))) (sym (cut-equalities f)) (piece .determines σ τ s (f .next) (subst (All (EqualityHolds σ)) (cut-equalities f) k) (subst (All (EqualityHolds τ)) (cut-equalities f) l));
+          subst (All (InEquality (λ v. σ v ≡ τ v))) (sym (cut-equalities f))
+          (piece .determines σ τ s (f .next) (subst (All (EqualityHolds σ)) (cut-equalities f) k) (subst (All (EqualityHolds τ)) (cut-equalities f) l));
     }
   where
     cutList : Cuts
@@ -115,19 +127,24 @@ module _ (f : FlatModule) (w : WellFormed f) (I : ℕ → Type 0) (inputs : Inpu
 
   equations-matter : All (λ e. Every Matters (e .left) × Every Matters (e .right)) (f .equations)
   equations-matter =
-      all-map (λ e h. (every-both (λ v. v < f .next) (Known f I) (e .left) (h .0 .0) (h .1 .0), every-both (λ v. v < f .next) (Known f I) (e .right) (h .0 .1) (h .1 .1))) (f .equations)
+      all-map (λ e h.
+      (every-both (λ v. v < f .next) (Known f I) (e .left) (h .0 .0) (h .1 .0), every-both (λ v. v < f .next) (Known f I) (e .right) (h .0 .1) (h .1 .1)))
+      (f .equations)
       (all-both _ _ (f .equations) (w .equations-below) (inputs .equations))
 
   whole : Piece (f .next) Matters (Fulfils f) (flattenLists (ps f) (copiedDefs f) (copiedEquations f))
   unfolding ps ds counted
   whole =
       whole-in f Matters low
-      (all-map (λ d h n. h (ap not n)) (classifyDefs f .definitions) (those-back _ (λ v. not (member v (classifyDefs f .provers))) (classifyDefs f .definitions) counted-matter))
+      (all-map (λ d h n. h (ap not n)) (classifyDefs f .definitions)
+      (those-back _ (λ v. not (member v (classifyDefs f .provers))) (classifyDefs f .definitions) counted-matter))
       equations-matter
 
   -- two assignments under which the counted definitions hold and which agree on the inputs agree on all ids that matter, and so on the equations
-  pub matters-same : (σ τ : Assignment) → All (DefinitionHolds σ) (counted f) → All (DefinitionHolds τ) (counted f) → ((v : ℕ) → I v → σ v ≡ τ v) → (v : ℕ) → Matters v → σ v ≡ τ v
-  matters-same σ τ h i s = agree-all Matters σ τ (counted f) (counted-ordered f w) (all-map (λ d k. k .1) (counted f) counted-matter) h i (λ v r n. s v (r .1 n))
+  pub matters-same : (σ τ : Assignment) → All (DefinitionHolds σ) (counted f) → All (DefinitionHolds τ) (counted f) → ((v : ℕ) → I v → σ v ≡ τ v)
+      → (v : ℕ) → Matters v → σ v ≡ τ v
+  matters-same σ τ h i s =
+      agree-all Matters σ τ (counted f) (counted-ordered f w) (all-map (λ d k. k .1) (counted f) counted-matter) h i (λ v r n. s v (r .1 n))
 
   pub equations-same : (σ τ : Assignment) → ((v : ℕ) → Matters v → τ v ≡ σ v) → All (EquationHolds σ) (f .equations) → All (EquationHolds τ) (f .equations)
   equations-same σ τ s h = equations-piece (f .next) Matters low (f .equations) equations-matter .local σ τ s h
@@ -135,7 +152,8 @@ module _ (f : FlatModule) (w : WellFormed f) (I : ℕ → Type 0) (inputs : Inpu
 -- for any values τ that the counted definitions have with ρ
 pub cut-keeps-meaning-at : CutKeepsMeaningAt
 unfolding ps ds
-cut-keeps-meaning-at f c w e I is ρ τ el given holds = subst (λ (c : ConstraintModule). KeepsMeaning f c I ρ τ) (accepted f c e .1) (record { agrees = (there, back); unique = one })
+cut-keeps-meaning-at f c w e I is ρ τ el given holds =
+    subst (λ (c : ConstraintModule). KeepsMeaning f c I ρ τ) (accepted f c e .1) (record { agrees = (there, back); unique = one })
   where
     cutList : Cuts
     cutList = flattenLists (ps f) (copiedDefs f) (copiedEquations f) (f .next)
@@ -182,8 +200,10 @@ pub inputs-uncounted : InputsUncounted
 unfolding counted classifyDefs
 inputs-uncounted f w =
     record {
-      equations = all-map (λ e h. (every-map (λ v l n. (l, n)) (e .left) (h .0), every-map (λ v l n. (l, n)) (e .right) (h .1))) (f .equations) (w .equations-below);
-      definitions = all-map (λ d h. every-map (λ v l n. (l, n)) (d .right) (h .1)) (counted f) (all-those _ _ _ (all-those _ _ (f .definitions) (w .definitions-below)));
+      equations =
+          all-map (λ e h. (every-map (λ v l n. (l, n)) (e .left) (h .0), every-map (λ v l n. (l, n)) (e .right) (h .1))) (f .equations) (w .equations-below);
+      definitions =
+          all-map (λ d h. every-map (λ v l n. (l, n)) (d .right) (h .1)) (counted f) (all-those _ _ _ (all-those _ _ (f .definitions) (w .definitions-below)));
       only = λ v i. i;
     }
 

@@ -10,9 +10,11 @@ use borrow.Author.Tests.{not-true, eq-eqb, ne-eqb}
 use Rattle.flat.specs.Trees.{Flat, Definition, Equation, FlatModule, defines}
 use Rattle.flat.specs.Meaning.{update}
 use Rattle.flat.specs.Rules.{All, Every, Ordered, WellFormed}
-use Rattle.pass_trees.specs.Passes.{member, keepIf, those, Usage, Never, Witness, Constraint, most, isNever, isWitness, markUsed, usedIn, override, classifyDef, classified, usage, idsFrom, classifyDefs, counted}
+use Rattle.pass_trees.specs.Passes.{member, keepIf, those, Usage, Never, Witness, Constraint, most, isNever, isWitness}
+use Rattle.pass_trees.specs.Passes.{markUsed, usedIn, override, classifyDef, classified, usage, idsFrom, classifyDefs, counted}
 use Rattle.pass_trees.specs.Meaning.{Known, Inputs, Given}
-use Rattle.pass_trees.proofs.Lists.{bool-not, update-all, update-same, update-other, all-map, every-map, every-both, both-false, defines-cons, defines-those}
+use Rattle.pass_trees.proofs.Lists.{bool-not, update-all, update-same, update-other, all-map}
+use Rattle.pass_trees.proofs.Lists.{every-map, every-both, both-false, defines-cons, defines-those}
 
 -- marks are never taken back
 most-top : (u : Usage) → most u Constraint ≡ Constraint
@@ -48,7 +50,8 @@ unfolding usedIn
 used-keeps [] g v h = h
 used-keeps (e ∷ es) g v h = used-keeps es _ v (mark-keeps Constraint (e .right) _ v (mark-keeps Constraint (e .left) g v h))
 
-used-marks : (es : List Equation) (g : ℕ → Usage) → All (λ e. Every (λ v. usedIn es g v ≡ Constraint) (e .left) × Every (λ v. usedIn es g v ≡ Constraint) (e .right)) es
+used-marks : (es : List Equation) (g : ℕ → Usage)
+    → All (λ e. Every (λ v. usedIn es g v ≡ Constraint) (e .left) × Every (λ v. usedIn es g v ≡ Constraint) (e .right)) es
 unfolding usedIn
 used-marks [] g = tt
 used-marks (e ∷ es) g = (
@@ -84,7 +87,8 @@ apart : (ds : List Definition) (v w : ℕ) → defines ds v ≡ true → defines
 apart ds v w h k e = bool-not (sym h ∙ ap (defines ds) e ∙ k)
 
 -- a definition takes the mark only from its own variable, and only where that is a prover variable
-step-keeps : (ps : List ℕ) (d : Definition) (ds : List Definition) (g : ℕ → Usage) (v : ℕ) → Free ps (d ∷ ds) v → g v ≡ Constraint → classifyDef ps d g v ≡ Constraint
+step-keeps : (ps : List ℕ) (d : Definition) (ds : List Definition) (g : ℕ → Usage) (v : ℕ) → Free ps (d ∷ ds) v → g v ≡ Constraint
+    → classifyDef ps d g v ≡ Constraint
 unfolding classifyDef override
 step-keeps ps d ds g v free h = mark-keeps _ (d .right) _ v (go (ℕ-discrete v (d .id)))
   where
@@ -107,7 +111,8 @@ step-other : (ps : List ℕ) (d : Definition) (g : ℕ → Usage) (v : ℕ) → 
 unfolding classifyDef
 step-other ps d g v n h = mark-other _ (d .right) _ v h ∙ update-other g (d .id) _ v n
 
-step-marks : (ps : List ℕ) (d : Definition) (g : ℕ → Usage) → Every (λ w. d .id ≡ w → ⊥) (d .right) → classifyDef ps d g (d .id) ≡ Constraint → Every (λ v. classifyDef ps d g v ≡ Constraint) (d .right)
+step-marks : (ps : List ℕ) (d : Definition) (g : ℕ → Usage) → Every (λ w. d .id ≡ w → ⊥) (d .right) → classifyDef ps d g (d .id) ≡ Constraint
+    → Every (λ v. classifyDef ps d g v ≡ Constraint) (d .right)
 unfolding classifyDef
 step-marks ps d g n h =
     let u : Usage = override (member (d .id) ps) (g (d .id)) in
@@ -115,7 +120,8 @@ step-marks ps d g n h =
     subst (λ (x : Usage). Every (λ v. markUsed x (d .right) (update g (d .id) u) v ≡ Constraint) (d .right)) (sym c) (marks (d .right) (update g (d .id) u))
 
 -- a definition of a constraint hands the mark to its variables
-closed : (ps : List ℕ) (ds : List Definition) → Ordered ds → (g : ℕ → Usage) → All (λ d. classified ps ds g (d .id) ≡ Constraint → Every (λ v. Free ps ds v → classified ps ds g v ≡ Constraint) (d .right)) ds
+closed : (ps : List ℕ) (ds : List Definition) → Ordered ds → (g : ℕ → Usage)
+    → All (λ d. classified ps ds g (d .id) ≡ Constraint → Every (λ v. Free ps ds v → classified ps ds g v ≡ Constraint) (d .right)) ds
 unfolding classified
 closed ps [] o g = tt
 closed ps (d ∷ ds) o g = (first, all-map (λ e h. later e (h .0) (h .1)) ds (both ds (all-defined ds) (closed ps ds (o .2) g)))
@@ -126,16 +132,22 @@ closed ps (d ∷ ds) o g = (first, all-map (λ e h. later e (h .0) (h .1)) ds (b
     after : ℕ → Usage
     after = classifyDef ps d before
 
-    both : (xs : List Definition) → All (λ e. defines ds (e .id) ≡ true) xs → All (λ e. before (e .id) ≡ Constraint → Every (λ v. Free ps ds v → before v ≡ Constraint) (e .right)) xs → All (λ e. (defines ds (e .id) ≡ true) × (before (e .id) ≡ Constraint → Every (λ v. Free ps ds v → before v ≡ Constraint) (e .right))) xs
+    both : (xs : List Definition) → All (λ e. defines ds (e .id) ≡ true) xs
+        → All (λ e. before (e .id) ≡ Constraint → Every (λ v. Free ps ds v → before v ≡ Constraint) (e .right)) xs
+        → All (λ e. (defines ds (e .id) ≡ true) × (before (e .id) ≡ Constraint → Every (λ v. Free ps ds v → before v ≡ Constraint) (e .right))) xs
     both [] h k = tt
     both (x ∷ xs) h k = ((h .0, k .0), both xs (h .1) (k .1))
 
     first : after (d .id) ≡ Constraint → Every (λ v. Free ps (d ∷ ds) v → after v ≡ Constraint) (d .right)
-    first h = every-map (λ v k _. k) (d .right) (step-marks ps d before (every-map (λ w k. apart (d ∷ ds) (d .id) w (defines-here d ds (d .id) refl) k) (d .right) (o .1)) h)
+    first h =
+        every-map (λ v k _. k) (d .right)
+        (step-marks ps d before (every-map (λ w k. apart (d ∷ ds) (d .id) w (defines-here d ds (d .id) refl) k) (d .right) (o .1)) h)
 
-    later : (e : Definition) → defines ds (e .id) ≡ true → (before (e .id) ≡ Constraint → Every (λ v. Free ps ds v → before v ≡ Constraint) (e .right)) → after (e .id) ≡ Constraint → Every (λ v. Free ps (d ∷ ds) v → after v ≡ Constraint) (e .right)
+    later : (e : Definition) → defines ds (e .id) ≡ true → (before (e .id) ≡ Constraint → Every (λ v. Free ps ds v → before v ≡ Constraint) (e .right))
+        → after (e .id) ≡ Constraint → Every (λ v. Free ps (d ∷ ds) v → after v ≡ Constraint) (e .right)
     later e here ih h =
-        let same : after (e .id) ≡ before (e .id) = step-other ps d before (e .id) (apart ds (e .id) (d .id) here (o .0)) (every-map (λ w k. apart ds (e .id) w here (defines-cons d ds w k .1)) (d .right) (o .1)) in
+        let same : after (e .id) ≡ before (e .id) = step-other ps d before (e .id) (apart ds (e .id) (d .id) here (o .0))
+        (every-map (λ w k. apart ds (e .id) w here (defines-cons d ds w k .1)) (d .right) (o .1)) in
         every-map (λ v k free. step-keeps ps d ds before v free (k (λ i. free (defines-later d ds v i)))) (e .right) (ih (sym same ∙ h))
 
 -- the prover ids after classification
@@ -180,7 +192,8 @@ those-with t (d ∷ ds) v h k = go (those-with t ds v h) (ℕ-discrete v (d .id)
     go : (defines ds v ≡ true → defines (those t ds) v ≡ true) → Dec (v ≡ d .id) → (b : Bool) → t (d .id) ≡ b → defines (keepIf b d (those t ds)) v ≡ true
     go ih (yes i) true e = ap (λ (b : Bool). b || defines (those t ds) v) (eq-eqb v (d .id) i)
     go ih (yes i) false e = bool-not (sym h ∙ ap t i ∙ e)
-    go ih (no n) true e = ap (λ (b : Bool). b || defines (those t ds) v) (ne-eqb v (d .id) n) ∙ ih (sym (ap (λ (b : Bool). b || defines ds v) (ne-eqb v (d .id) n)) ∙ k)
+    go ih (no n) true e =
+        ap (λ (b : Bool). b || defines (those t ds) v) (ne-eqb v (d .id) n) ∙ ih (sym (ap (λ (b : Bool). b || defines ds v) (ne-eqb v (d .id) n)) ∙ k)
     go ih (no n) false e = ih (sym (ap (λ (b : Bool). b || defines ds v) (ne-eqb v (d .id) n)) ∙ k)
 
 pub those-all : (Q : Definition → Type 0) (t : ℕ → Bool) (ds : List Definition) → All Q ds → All (λ d. (t (d .id) ≡ true) × Q d) (those t ds)
@@ -197,7 +210,8 @@ unfolding those keepIf
 those-back Q t [] h = tt
 those-back Q t (d ∷ ds) h = go (those-back Q t ds) (t (d .id)) h
   where
-    go : (All Q (those t ds) → All (λ d. t (d .id) ≡ true → Q d) ds) → (b : Bool) → All Q (keepIf b d (those t ds)) → (b ≡ true → Q d) × All (λ d. t (d .id) ≡ true → Q d) ds
+    go : (All Q (those t ds) → All (λ d. t (d .id) ≡ true → Q d) ds) → (b : Bool) → All Q (keepIf b d (those t ds))
+        → (b ≡ true → Q d) × All (λ d. t (d .id) ≡ true → Q d) ds
     go ih true k = ((λ _. k .0), ih (k .1))
     go ih false k = ((λ e. bool-not (sym e)), ih k)
 
@@ -247,7 +261,8 @@ module _ (f : FlatModule) (w : WellFormed f) where
       let c : usage f (d .id) ≡ Constraint = constraint-left (usage f (d .id)) (h .0) (no-prover (d .id) (h .1 .0 .0) n .1) in
       ((h .1 .0 .0, λ _. c), every-both (λ v. v < f .next) _ (d .right) (h .1 .0 .1) (h .1 .1 c)))
       (those (λ v. not (isNever (usage f v))) (f .definitions))
-      (those-all _ (λ v. not (isNever (usage f v))) (f .definitions) (all-both _ _ (f .definitions) (w .definitions-below) (closed (f .provers) (f .definitions) (w .ordered) (usedIn (f .equations) (λ _. Never)))))
+      (those-all _ (λ v. not (isNever (usage f v))) (f .definitions)
+      (all-both _ _ (f .definitions) (w .definitions-below) (closed (f .provers) (f .definitions) (w .ordered) (usedIn (f .equations) (λ _. Never)))))
 
   pub relevant-equations : All (λ e. Every (Relevant f) (e .left) × Every (Relevant f) (e .right)) (f .equations)
   unfolding usage
@@ -283,7 +298,9 @@ module _ (f : FlatModule) (w : WellFormed f) where
   inputs-given =
       record {
         equations = all-map (λ e h. (every-map known (e .left) (h .0), every-map known (e .right) (h .1))) (f .equations) relevant-equations;
-        definitions = all-map (λ d h. every-map known (d .right) (h .1 (not-true _ (h .0)) .1)) (counted f) (those-all _ _ (classifyDefs f .definitions) relevant-definitions);
+        definitions =
+            all-map (λ d h. every-map known (d .right) (h .1 (not-true _ (h .0)) .1)) (counted f)
+            (those-all _ _ (classifyDefs f .definitions) relevant-definitions);
         only = λ v i. (i .0, input-uncounted v i);
       }
     where

@@ -17,7 +17,8 @@ use Rattle.flat.specs.Meaning.{update, Assignment, value, negated, DefinitionHo
 use Rattle.flat.specs.Rules.{All, Every}
 use Rattle.constraint.specs.declared.Term.{Term}
 use Rattle.constraint.specs.Meaning.{InTerm, termValue}
-use Rattle.pass_trees.specs.Passes.{member, keepIf, those, Substitutions, follow, walk, toExpr, copyPropagateExpr, substituting, copyPropagateDef, afterDef, copyPropagateDefs, afterDefs, copyPropagateEquations, dead, alive}
+use Rattle.pass_trees.specs.Passes.{member, keepIf, those, Substitutions, follow, walk, toExpr, copyPropagateExpr, substituting}
+use Rattle.pass_trees.specs.Passes.{copyPropagateDef, afterDef, copyPropagateDefs, afterDefs, copyPropagateEquations, dead, alive}
 use Rattle.pass_trees.proofs.Lists.{update-all, bool-not, same-number, all-keep}
 
 -- a property of the entries of a substitution
@@ -32,7 +33,8 @@ update-entries Q s v t h k =
     update-all (λ w o. (u : Term) → o ≡ some u → Q w u) s v (some t) (λ u e. let i : t ≡ u = cc in subst (Q v) i h) k
 
 -- the entry that a definition makes
-pub substituting-entries : (Q : ℕ → Term → Type 0) (b : Bool) (v : ℕ) (e : Flat) (s : Substitutions) → ((t : Term) → b ≡ false → e ≡ toExpr t → Q v t) → Entries Q s → Entries Q (substituting b v e s)
+pub substituting-entries : (Q : ℕ → Term → Type 0) (b : Bool) (v : ℕ) (e : Flat) (s : Substitutions) → ((t : Term) → b ≡ false → e ≡ toExpr t → Q v t)
+    → Entries Q s → Entries Q (substituting b v e s)
 unfolding substituting toExpr
 substituting-entries Q true v e s h k = k
 substituting-entries Q false v (Flat.infixed o a b) s h k = k
@@ -96,7 +98,8 @@ module _ (σ : Assignment) where
   copy-value k s h (Flat.variable v) = flat-value σ (walk k s (Term.Variable v)) ∙ ap Value (walk-value s h k (Term.Variable v))
 
   -- a definition that holds makes a sound entry
-  after-sound : (b : Bool) (k : ℕ) (s : Substitutions) → Sound s → (d : Definition) → (b ≡ false → DefinitionHolds σ d) → Sound (substituting b (d .id) (copyPropagateExpr k s (d .right)) s)
+  after-sound : (b : Bool) (k : ℕ) (s : Substitutions) → Sound s → (d : Definition) → (b ≡ false → DefinitionHolds σ d)
+      → Sound (substituting b (d .id) (copyPropagateExpr k s (d .right)) s)
   after-sound b k s h d holds =
       substituting-entries (λ v t. σ v ≡ termValue σ t) b (d .id) (copyPropagateExpr k s (d .right)) s
       (λ t p e.
@@ -108,7 +111,10 @@ module _ (σ : Assignment) where
   CountedHold ps ds = All (DefinitionHolds σ) (those (λ v. not (member v ps)) ds)
 
   -- the counted definitions hold just if their copies do, and then the substitutions are sound after them
-  pub copies-hold : (ps : List ℕ) (k : ℕ) (ds : List Definition) (s : Substitutions) → Sound s → (CountedHold ps ds → CountedHold ps (copyPropagateDefs ps k s ds)) × (CountedHold ps (copyPropagateDefs ps k s ds) → CountedHold ps ds) × (CountedHold ps ds → Sound (afterDefs ps k s ds))
+  pub copies-hold : (ps : List ℕ) (k : ℕ) (ds : List Definition) (s : Substitutions) → Sound s
+      → (CountedHold ps ds → CountedHold ps (copyPropagateDefs ps k s ds))
+      × (CountedHold ps (copyPropagateDefs ps k s ds) → CountedHold ps ds)
+      × (CountedHold ps ds → Sound (afterDefs ps k s ds))
   unfolding those copyPropagateDefs copyPropagateDef afterDefs afterDef keepIf
   copies-hold ps k [] s h = ((λ x. x), (λ x. x), (λ x. h))
   copies-hold ps k (d ∷ ds) s h = go (copies-hold ps k ds) (member (d .id) ps)
@@ -119,7 +125,15 @@ module _ (σ : Assignment) where
       later : Bool → Substitutions
       later b = substituting b (d .id) (copyPropagateExpr k s (d .right)) s
 
-      go : ((s : Substitutions) → Sound s → (CountedHold ps ds → CountedHold ps (copyPropagateDefs ps k s ds)) × (CountedHold ps (copyPropagateDefs ps k s ds) → CountedHold ps ds) × (CountedHold ps ds → Sound (afterDefs ps k s ds))) → (b : Bool) → (All (DefinitionHolds σ) (keepIf (not b) d (those test ds)) → All (DefinitionHolds σ) (keepIf (not b) (copyPropagateDef k s d) (those test (copyPropagateDefs ps k (later b) ds)))) × (All (DefinitionHolds σ) (keepIf (not b) (copyPropagateDef k s d) (those test (copyPropagateDefs ps k (later b) ds))) → All (DefinitionHolds σ) (keepIf (not b) d (those test ds))) × (All (DefinitionHolds σ) (keepIf (not b) d (those test ds)) → Sound (afterDefs ps k (later b) ds))
+      go : ((s : Substitutions) → Sound s
+          → (CountedHold ps ds → CountedHold ps (copyPropagateDefs ps k s ds))
+          × (CountedHold ps (copyPropagateDefs ps k s ds) → CountedHold ps ds)
+          × (CountedHold ps ds → Sound (afterDefs ps k s ds))) → (b : Bool)
+          → (All (DefinitionHolds σ) (keepIf (not b) d (those test ds))
+          → All (DefinitionHolds σ) (keepIf (not b) (copyPropagateDef k s d) (those test (copyPropagateDefs ps k (later b) ds))))
+          × (All (DefinitionHolds σ) (keepIf (not b) (copyPropagateDef k s d) (those test (copyPropagateDefs ps k (later b) ds)))
+          → All (DefinitionHolds σ) (keepIf (not b) d (those test ds)))
+          × (All (DefinitionHolds σ) (keepIf (not b) d (those test ds)) → Sound (afterDefs ps k (later b) ds))
       go ih true = ih (later true) (after-sound true k s h d (λ e. bool-not e))
       go ih false = (
         (λ x. (copy-value k s h (d .right) ∙ x .0, ih (later false) (after-sound false k s h d (λ _. x .0)) .0 (x .1))),
@@ -129,7 +143,8 @@ module _ (σ : Assignment) where
         (λ x. ih (later false) (after-sound false k s h d (λ _. x .0)) .2 (x .1)),
       )
 
-  pub equations-copied : (k : ℕ) (s : Substitutions) → Sound s → (es : List Equation) → All (EquationHolds σ) es ↔ All (EquationHolds σ) (copyPropagateEquations k s es)
+  pub equations-copied : (k : ℕ) (s : Substitutions) → Sound s → (es : List Equation)
+      → All (EquationHolds σ) es ↔ All (EquationHolds σ) (copyPropagateEquations k s es)
   unfolding copyPropagateEquations
   equations-copied k s h [] = ((λ x. x), (λ x. x))
   equations-copied k s h (e ∷ es) =
@@ -159,7 +174,8 @@ module _ (σ : Assignment) where
   alive-hold [] = ((λ x. x), (λ x. x))
   alive-hold (e ∷ es) = go (alive-hold es) (dead (e .left) (e .right)) refl
     where
-      go : All (EquationHolds σ) es ↔ All (EquationHolds σ) (alive es) → (b : Bool) → dead (e .left) (e .right) ≡ b → All (EquationHolds σ) (e ∷ es) ↔ All (EquationHolds σ) (keepIf (not b) e (alive es))
+      go : All (EquationHolds σ) es ↔ All (EquationHolds σ) (alive es) → (b : Bool) → dead (e .left) (e .right) ≡ b
+          → All (EquationHolds σ) (e ∷ es) ↔ All (EquationHolds σ) (keepIf (not b) e (alive es))
       go ih true k = ((λ x. ih .0 (x .1)), (λ x. (dead-holds (e .left) (e .right) k, ih .1 x)))
       go ih false k = ((λ x. (x .0, ih .0 (x .1))), (λ x. (x .0, ih .1 (x .1))))
 
@@ -176,17 +192,20 @@ module _ (Q : ℕ → Type 0) where
   abbrev pub CountedIn : List ℕ → Definition → Type 0
   CountedIn ps d = member (d .id) ps ≡ false → Q (d .id) × Every Q (d .right)
 
-  pub copies-in : (ps : List ℕ) (k : ℕ) (ds : List Definition) (s : Substitutions) → EntriesIn s → All (CountedIn ps) ds → All (CountedIn ps) (copyPropagateDefs ps k s ds) × EntriesIn (afterDefs ps k s ds)
+  pub copies-in : (ps : List ℕ) (k : ℕ) (ds : List Definition) (s : Substitutions) → EntriesIn s → All (CountedIn ps) ds
+      → All (CountedIn ps) (copyPropagateDefs ps k s ds) × EntriesIn (afterDefs ps k s ds)
   unfolding copyPropagateDefs copyPropagateDef afterDefs afterDef
   copies-in ps k [] s h q = (tt, h)
   copies-in ps k (d ∷ ds) s h q =
       let i : member (d .id) ps ≡ false → Every Q (copyPropagateExpr k s (d .right)) = λ b. copy-in Q s h k (d .right) (q .0 b .1) in
       let s′ : Substitutions = substituting (member (d .id) ps) (d .id) (copyPropagateExpr k s (d .right)) s in
-      let h′ : EntriesIn s′ = substituting-entries (λ v t. Q v → InTerm Q t) (member (d .id) ps) (d .id) (copyPropagateExpr k s (d .right)) s (λ t b e _. unflat t (subst (Every Q) e (i b))) h in
+      let h′ : EntriesIn s′ = substituting-entries (λ v t. Q v → InTerm Q t) (member (d .id) ps) (d .id) (copyPropagateExpr k s (d .right)) s
+      (λ t b e _. unflat t (subst (Every Q) e (i b))) h in
       let r = copies-in ps k ds s′ h′ (q .1) in
       (((λ b. (q .0 b .0, i b)), r .0), r .1)
 
-  pub equations-in : (k : ℕ) (s : Substitutions) → EntriesIn s → (es : List Equation) → All (λ e. Every Q (e .left) × Every Q (e .right)) es → All (λ e. Every Q (e .left) × Every Q (e .right)) (copyPropagateEquations k s es)
+  pub equations-in : (k : ℕ) (s : Substitutions) → EntriesIn s → (es : List Equation) → All (λ e. Every Q (e .left) × Every Q (e .right)) es
+      → All (λ e. Every Q (e .left) × Every Q (e .right)) (copyPropagateEquations k s es)
   unfolding copyPropagateEquations
   equations-in k s h [] q = tt
   equations-in k s h (e ∷ es) q = ((copy-in Q s h k (e .left) (q .0 .0), copy-in Q s h k (e .right) (q .0 .1)), equations-in k s h es (q .1))

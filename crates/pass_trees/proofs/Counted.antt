@@ -9,7 +9,8 @@ use borrow.Author.Tests.{not-true}
 use Rattle.flat.specs.Trees.{Flat, Definition, Equation, FlatModule, defines}
 use Rattle.flat.specs.Meaning.{update}
 use Rattle.flat.specs.Rules.{All, Every}
-use Rattle.pass_trees.specs.Passes.{member, those, Usage, Never, Witness, Constraint, most, isNever, markUsed, usedIn, override, classifyDef, classified, usage, classifyDefs, counted}
+use Rattle.pass_trees.specs.Passes.{member, those, Usage, Never, Witness, Constraint, most, isNever, markUsed}
+use Rattle.pass_trees.specs.Passes.{usedIn, override, classifyDef, classified, usage, classifyDefs, counted}
 use Rattle.pass_trees.specs.Meaning.{Given}
 use Rattle.pass_trees.specs.Statements.{CountedIsLeast, IfDefinedCounted, CountedIsClosed}
 use Rattle.pass_trees.proofs.Lists.{bool-not, update-all, all-map, every-map}
@@ -46,9 +47,11 @@ module _ (R : ℕ → Type 0) where
   used-within : (es : List Equation) (g : ℕ → Usage) → All (λ e. Every R (e .left) × Every R (e .right)) es → Within R g → Within R (usedIn es g)
   unfolding usedIn
   used-within [] g h k = k
-  used-within (e ∷ es) g h k = used-within es _ (h .1) (mark-within Constraint (e .right) _ (λ _. h .0 .1) (mark-within Constraint (e .left) g (λ _. h .0 .0) k))
+  used-within (e ∷ es) g h k =
+      used-within es _ (h .1) (mark-within Constraint (e .right) _ (λ _. h .0 .1) (mark-within Constraint (e .left) g (λ _. h .0 .0) k))
 
-  classified-within : (ps : List ℕ) (ds : List Definition) (g : ℕ → Usage) → All (λ d. R (d .id) → member (d .id) ps ≡ false → Every R (d .right)) ds → Within R g → Within R (classified ps ds g)
+  classified-within : (ps : List ℕ) (ds : List Definition) (g : ℕ → Usage) → All (λ d. R (d .id) → member (d .id) ps ≡ false → Every R (d .right)) ds
+      → Within R g → Within R (classified ps ds g)
   unfolding classified classifyDef
   classified-within ps [] g h k = k
   classified-within ps (d ∷ ds) g h k =
@@ -72,7 +75,8 @@ counted-least f w R c =
       t .0,
     ))
     (counted f)
-    (those-all _ _ (those (λ v. not (isNever (usage f v))) (f .definitions)) (those-all _ (λ v. not (isNever (usage f v))) (f .definitions) (w .definitions-below)))
+    (those-all _ _ (those (λ v. not (isNever (usage f v))) (f .definitions))
+    (those-all _ (λ v. not (isNever (usage f v))) (f .definitions) (w .definitions-below)))
 
 -- a variable that some definition defines, and that is no prover variable, has a counted one
 known-counted : (f : FlatModule) (v : ℕ) → (defines (counted f) v ≡ false → Given f v) → IfDefinedCounted f v

@@ -21,7 +21,8 @@ use Rattle.constraint.specs.declared.Term.{Term}
 use Rattle.constraint.specs.Trees.{Side, Equality}
 use Rattle.constraint.specs.Meaning.{InTerm, InSide, InEquality, termValue, sideValue, EqualityHolds}
 use Rattle.pass_trees.specs.Passes.{infixOp, Cut, orVariable, pushConstraintDef, copied, flattenExprTo3ac}
-use Rattle.pass_trees.proofs.Lists.{update-all, update-same, update-other, all-append, all-split, all-map, every-map, term-map, side-map, infix-in, value-agrees, term-agrees, side-agrees, agree-term}
+use Rattle.pass_trees.proofs.Lists.{update-all, update-same, update-other, all-append, all-split, all-map, every-map}
+use Rattle.pass_trees.proofs.Lists.{term-map, side-map, infix-in, value-agrees, term-agrees, side-agrees, agree-term}
 use Rattle.pass_trees.proofs.Simplified.{infix-value}
 
 -- values taken apart
@@ -38,7 +39,8 @@ both-values o Nothing b z e = absurd (nothing-value z e)
 
 -- the equalities of a cut expression give its term the expression's value
 module _ (σ : Assignment) (el : Elements σ) where
-  pub read : (out : Option Term) (e : Flat) (n : ℕ) → All (EqualityHolds σ) (flattenExprTo3ac out e n .equalities) → value σ e ≡ Value (termValue σ (flattenExprTo3ac out e n .term))
+  pub read : (out : Option Term) (e : Flat) (n : ℕ) → All (EqualityHolds σ) (flattenExprTo3ac out e n .equalities)
+      → value σ e ≡ Value (termValue σ (flattenExprTo3ac out e n .term))
   unfolding flattenExprTo3ac copied pushConstraintDef value negated onValues sideValue
   read none (Flat.constant c) n h = refl
   read (some l) (Flat.constant c) n h = h .0
@@ -63,7 +65,9 @@ module _ (σ τ : Assignment) where
   pub left-same : (l : Term) (s : Side) → InSide Same s → sideValue σ s ≡ Value (termValue σ l) → sideValue τ s ≡ Value (termValue τ l) → InTerm Same l
   left-same l s h p q = agree-term σ τ l (value-path _ _ (sym p ∙ side-agrees σ τ s h ∙ q))
 
-  pub determined : (out : Option Term) (e : Flat) (n : ℕ) → Every Same e → All (EqualityHolds σ) (flattenExprTo3ac out e n .equalities) → All (EqualityHolds τ) (flattenExprTo3ac out e n .equalities) → All (InEquality Same) (flattenExprTo3ac out e n .equalities) × InTerm Same (flattenExprTo3ac out e n .term)
+  pub determined : (out : Option Term) (e : Flat) (n : ℕ) → Every Same e
+      → All (EqualityHolds σ) (flattenExprTo3ac out e n .equalities) → All (EqualityHolds τ) (flattenExprTo3ac out e n .equalities)
+      → All (InEquality Same) (flattenExprTo3ac out e n .equalities) × InTerm Same (flattenExprTo3ac out e n .term)
   unfolding flattenExprTo3ac copied pushConstraintDef
   determined none (Flat.constant c) n q h k = (tt, tt)
   determined (some l) (Flat.constant c) n q h k =
@@ -90,8 +94,11 @@ module _ (σ τ : Assignment) where
       let d = determined none a n (q .0) (s′ .0) (t′ .0) in
       let e = determined none b (x .next) (q .1) (s′ .1) (t′ .1) in
       let i : InSide Same (infixOp o (x .term) (y .term)) = infix-in Same o (x .term) (y .term) (d .1) (e .1) in
-      let f = left-same (orVariable out (y .next)) (infixOp o (x .term) (y .term)) i (s .1 .0) (t .1 .0) in
-      (all-append (InEquality Same) (x .equalities ++ y .equalities) _ (all-append (InEquality Same) (x .equalities) (y .equalities) (d .0) (e .0)) ((f, i), tt), f)
+      let f = left-same (orVariable out (y .next)) (infixOp o (x .term) (y .term)) i (s .1 .0) (t .1 .0) in (
+        all-append (InEquality Same) (x .equalities ++ y .equalities) _
+            (all-append (InEquality Same) (x .equalities) (y .equalities) (d .0) (e .0)) ((f, i), tt),
+        f,
+      )
 
 -- ids of a cut lie below its next id
 abbrev pub OutBelow : ℕ → Option Term → Type 0
@@ -109,7 +116,8 @@ equality-map f q h = (term-map f (q .left) (h .0), side-map f (q .right) (h .1))
 pub raise : (m n : ℕ) → m ≤ n → (qs : List Equality) → All (InEquality (λ v. v < m)) qs → All (InEquality (λ v. v < n)) qs
 raise m n l qs h = all-map (equality-map (λ v k. le-trans k l)) qs h
 
-pushed-bounded : (out : Option Term) (es : List Equality) (n m : ℕ) (s : Side) → n ≤ m → OutBelow n out → All (InEquality (λ v. v < m)) es → InSide (λ v. v < m) s → Bounded n (pushConstraintDef out es m s)
+pushed-bounded : (out : Option Term) (es : List Equality) (n m : ℕ) (s : Side) → n ≤ m → OutBelow n out → All (InEquality (λ v. v < m)) es
+    → InSide (λ v. v < m) s → Bounded n (pushConstraintDef out es m s)
 unfolding pushConstraintDef orVariable
 pushed-bounded out es n m s l o h i =
     record {
@@ -153,7 +161,8 @@ pub record Extended (σ : Assignment) (n : ℕ) (c : Cut) (z : ℤ) : Type 0 whe
 pub holds-agrees : (σ τ : Assignment) (q : Equality) → InEquality (λ v. τ v ≡ σ v) q → EqualityHolds σ q → EqualityHolds τ q
 holds-agrees σ τ q h k = side-agrees τ σ (q .right) (h .1) ∙ k ∙ ap Value (sym (term-agrees τ σ (q .left) (h .0)))
 
-pub holds-below : (σ τ : Assignment) (m : ℕ) → ((v : ℕ) → v < m → τ v ≡ σ v) → (qs : List Equality) → All (InEquality (λ v. v < m)) qs → All (EqualityHolds σ) qs → All (EqualityHolds τ) qs
+pub holds-below : (σ τ : Assignment) (m : ℕ) → ((v : ℕ) → v < m → τ v ≡ σ v) → (qs : List Equality) → All (InEquality (λ v. v < m)) qs
+    → All (EqualityHolds σ) qs → All (EqualityHolds τ) qs
 holds-below σ τ m s [] b h = tt
 holds-below σ τ m s (q ∷ qs) b h = (holds-agrees σ τ q (equality-map s q (b .0)) (h .0), holds-below σ τ m s qs (b .1) (h .1))
 
@@ -162,14 +171,18 @@ OutValue σ z none = Unit {0}
 OutValue σ z (some t) = termValue σ t ≡ z
 
 -- an equality more, for the id m: its value is that of the right side
-push-extended : (σ : Assignment) (n : ℕ) (out : Option Term) (z : ℤ) → OutBelow n out → OutValue σ z out → elem P z ≡ z → (τ : Assignment) → Elements τ → ((v : ℕ) → v < n → τ v ≡ σ v) → (es : List Equality) (m : ℕ) (s : Side) → n ≤ m → All (EqualityHolds τ) es → All (InEquality (λ v. v < m)) es → InSide (λ v. v < m) s → sideValue τ s ≡ Value z → Extended σ n (pushConstraintDef out es m s) z
+push-extended : (σ : Assignment) (n : ℕ) (out : Option Term) (z : ℤ) → OutBelow n out → OutValue σ z out → elem P z ≡ z → (τ : Assignment) → Elements τ
+    → ((v : ℕ) → v < n → τ v ≡ σ v) → (es : List Equality) (m : ℕ) (s : Side) → n ≤ m → All (EqualityHolds τ) es → All (InEquality (λ v. v < m)) es
+    → InSide (λ v. v < m) s → sideValue τ s ≡ Value z → Extended σ n (pushConstraintDef out es m s) z
 unfolding pushConstraintDef orVariable
 push-extended σ n out z below given ez τ el same es m s l h b i e =
     record {
       assignment = τ′;
       elements = update-all (λ v x. elem P x ≡ x) τ m z ez el;
       same = old;
-      holds = all-append (EqualityHolds τ′) es _ (holds-below τ τ′ m before es b h) (side-agrees τ′ τ s (side-map before s i) ∙ e ∙ ap Value (sym (left out below given)), tt);
+      holds =
+          all-append (EqualityHolds τ′) es _ (holds-below τ τ′ m before es b h)
+          (side-agrees τ′ τ s (side-map before s i) ∙ e ∙ ap Value (sym (left out below given)), tt);
       gives = left out below given;
     }
   where
@@ -198,18 +211,22 @@ pub record Extended2 (σ : Assignment) (n : ℕ) (x y : Cut) (zx zy : ℤ) : Typ
   pub gives : termValue assignment (x .term) ≡ zx
   pub gives2 : termValue assignment (y .term) ≡ zy
 
-pub in-turn : (σ : Assignment) (n : ℕ) (x y : Cut) (zx zy : ℤ) → Bounded n x → (a : Extended σ n x zx) → Extended (a .assignment) (x .next) y zy → Extended2 σ n x y zx zy
+pub in-turn : (σ : Assignment) (n : ℕ) (x y : Cut) (zx zy : ℤ) → Bounded n x → (a : Extended σ n x zx) → Extended (a .assignment) (x .next) y zy
+    → Extended2 σ n x y zx zy
 in-turn σ n x y zx zy b a c =
     record {
       assignment = c .assignment;
       elements = c .elements;
       same = λ v k. c .same v (le-trans k (b .grows)) ∙ a .same v k;
-      holds = all-append (EqualityHolds (c .assignment)) (x .equalities) (y .equalities) (holds-below (a .assignment) (c .assignment) (x .next) (c .same) (x .equalities) (b .ids) (a .holds)) (c .holds);
+      holds =
+          all-append (EqualityHolds (c .assignment)) (x .equalities) (y .equalities)
+          (holds-below (a .assignment) (c .assignment) (x .next) (c .same) (x .equalities) (b .ids) (a .holds)) (c .holds);
       gives = term-agrees (c .assignment) (a .assignment) (x .term) (term-map (c .same) (x .term) (b .term)) ∙ a .gives;
       gives2 = c .gives;
     }
 
-pub write : (σ : Assignment) → Elements σ → (out : Option Term) (e : Flat) (n : ℕ) → Every (λ v. v < n) e → OutBelow n out → (z : ℤ) → value σ e ≡ Value z → OutValue σ z out → Extended σ n (flattenExprTo3ac out e n) z
+pub write : (σ : Assignment) → Elements σ → (out : Option Term) (e : Flat) (n : ℕ) → Every (λ v. v < n) e → OutBelow n out → (z : ℤ) → value σ e ≡ Value z
+    → OutValue σ z out → Extended σ n (flattenExprTo3ac out e n) z
 unfolding flattenExprTo3ac copied value sideValue
 write σ el none (Flat.constant c) n h o z e g = record { assignment = σ; elements = el; same = λ v k. refl; holds = tt; gives = value-path _ _ e }
 write σ el (some l) (Flat.constant c) n h o z e g = record { assignment = σ; elements = el; same = λ v k. refl; holds = (e ∙ ap Value (sym g), tt); gives = g }
@@ -220,7 +237,8 @@ write σ el out (Flat.negate a) n h o z e g =
     let x : Cut = flattenExprTo3ac none a n in
     let b : Bounded n x = bounded none a n h tt in
     let r : Extended σ n x (p .0) = write σ el none a n h tt (p .0) (p .1) tt in
-    push-extended σ n out z o g (subst (λ (w : ℤ). elem P w ≡ w) (p .2) (opposite-element P P-prime (p .0))) (r .assignment) (r .elements) (r .same) (x .equalities) (x .next) (Side.negate (x .term)) (b .grows) (r .holds) (b .ids) (b .term)
+    push-extended σ n out z o g (subst (λ (w : ℤ). elem P w ≡ w) (p .2) (opposite-element P P-prime (p .0))) (r .assignment) (r .elements) (r .same)
+    (x .equalities) (x .next) (Side.negate (x .term)) (b .grows) (r .holds) (b .ids) (b .term)
     (ap (λ (w : ℤ). Value (opposite P w)) (r .gives) ∙ ap Value (p .2))
 write σ el out (Flat.infixed q a c) n h o z e g =
     let p = both-values q (value σ a) (value σ c) z e in
@@ -230,9 +248,11 @@ write σ el out (Flat.infixed q a c) n h o z e g =
     let i : Every (λ v. v < x .next) c = every-map (λ v (k : v < n). le-trans k (b .grows)) c (h .1) in
     let d : Bounded (x .next) y = bounded none c (x .next) i tt in
     let r : Extended σ n x (p .0) = write σ el none a n (h .0) tt (p .0) (p .2) tt in
-    let s : Extended (r .assignment) (x .next) y (p .1) = write (r .assignment) (r .elements) none c (x .next) i tt (p .1) (below-value σ (r .assignment) n (r .same) c (h .1) ∙ p .3) tt in
+    let s : Extended (r .assignment) (x .next) y (p .1) =
+    write (r .assignment) (r .elements) none c (x .next) i tt (p .1) (below-value σ (r .assignment) n (r .same) c (h .1) ∙ p .3) tt in
     let t : Extended2 σ n x y (p .0) (p .1) = in-turn σ n x y (p .0) (p .1) b r s in
-    push-extended σ n out z o g (infix-element P P-prime q (p .0) (p .1) z (p .4)) (t .assignment) (t .elements) (t .same) (x .equalities ++ y .equalities) (y .next) (infixOp q (x .term) (y .term)) (le-trans (b .grows) (d .grows)) (t .holds)
+    push-extended σ n out z o g (infix-element P P-prime q (p .0) (p .1) z (p .4)) (t .assignment) (t .elements) (t .same) (x .equalities ++ y .equalities)
+    (y .next) (infixOp q (x .term) (y .term)) (le-trans (b .grows) (d .grows)) (t .holds)
     (all-append _ (x .equalities) (y .equalities) (raise (x .next) (y .next) (d .grows) (x .equalities) (b .ids)) (d .ids))
     (infix-in _ q (x .term) (y .term) (term-map (λ v (k : v < x .next). le-trans k (d .grows)) (x .term) (b .term)) (d .term))
     (infix-value (t .assignment) (t .elements) (x .term) (y .term) q ∙ ap₂ (infixOf P q) (t .gives) (t .gives2) ∙ p .4)

@@ -1,4 +1,5 @@
--- Copy propagation ends, on every list of definitions, ids defined twice included: as many steps as there are definitions reach a term that nothing stands for.
+-- Copy propagation ends, on every list of definitions, ids defined twice included: as many steps as there are definitions reach a term that nothing stands
+-- for.
 -- Each entry's rank is the time of its last writing. Its value was resolved then, so what it leads to is written later, if ever: ranks rise along a walk.
 use mathlib.Core.Path.{_≡_, refl, sym, ap, subst, _∙_}
 use mathlib.Core.List.{List, [], _∷_}
@@ -36,7 +37,8 @@ same-flat (Term.Constant d) (Term.Variable w) e = absurd (let z : _≡_ {A = ℕ
 same-flat (Term.Constant d) (Term.Constant c) e = cc
 
 -- the copy of an expression, where it is a term, is the end of a walk
-pub copy-resolved : (s : Substitutions) (k : ℕ) → ((t : Term) → Resolved s (walk k s t)) → (e : Flat) (t : Term) → copyPropagateExpr k s e ≡ toExpr t → Resolved s t
+pub copy-resolved : (s : Substitutions) (k : ℕ) → ((t : Term) → Resolved s (walk k s t)) → (e : Flat) (t : Term)
+    → copyPropagateExpr k s e ≡ toExpr t → Resolved s t
 unfolding copyPropagateExpr toExpr
 copy-resolved s k ended (Flat.infixed o a b) (Term.Variable v) h = absurd (let z : _≡_ {A = ℕ} 0 1 = cc in omega arith)
 copy-resolved s k ended (Flat.infixed o a b) (Term.Constant c) h = tt
@@ -59,7 +61,8 @@ module _ (s : Substitutions) (n : ℕ) (r : Ranked s n) where
   ends (suc m) (Term.Constant c) h = tt
   ends (suc m) (Term.Variable v) h = go (ends m) (s v) refl
     where
-      go : ((t : Term) → ((w : ℕ) (u : Term) → t ≡ Term.Variable w → s w ≡ some u → n ≤ r .rank w + m) → Resolved s (walk m s t)) → (o : Option Term) → s v ≡ o → Resolved s (follow o (Term.Variable v) (walk m s))
+      go : ((t : Term) → ((w : ℕ) (u : Term) → t ≡ Term.Variable w → s w ≡ some u → n ≤ r .rank w + m) → Resolved s (walk m s t)) → (o : Option Term) → s v ≡ o
+          → Resolved s (follow o (Term.Variable v) (walk m s))
       go ih none e = e
       go ih (some t) e = ih t (λ w u p q. omega (arith, h v t refl e, r .rises v w u (e ∙ ap some p) q))
 
@@ -79,7 +82,8 @@ module _ (s : Substitutions) (n : ℕ) (r : Ranked s n) where
       off-rank : (x : ℕ) → (x ≡ v → ⊥) → update (r .rank) v n x ≡ r .rank x
       off-rank x k = update-other (r .rank) v n x k
 
-      rises′ : (x w : ℕ) (t : Term) → update s v (some o) x ≡ some (Term.Variable w) → update s v (some o) w ≡ some t → update (r .rank) v n x < update (r .rank) v n w
+      rises′ : (x w : ℕ) (t : Term) → update s v (some o) x ≡ some (Term.Variable w) → update s v (some o) w ≡ some t
+          → update (r .rank) v n x < update (r .rank) v n w
       rises′ x w t h k = go (ℕ-discrete x v) (ℕ-discrete w v)
         where
           go : Dec (x ≡ v) → Dec (w ≡ v) → update (r .rank) v n x < update (r .rank) v n w

@@ -4,7 +4,8 @@ use native.Mathlib.Omega.{arith}
 use Rattle.flat.specs.Trees.{defines}
 use Rattle.flat.specs.Meaning.{update, Assignment, Elements, NoZeroInTurn}
 use Rattle.flat.specs.Rules.{WellFormed}
-use Rattle.pass_trees.specs.Passes.{member, keepIf, those, most, isNever, isWitness, markUsed, usedIn, override, classifyDef, classified, usage, idsFrom, classifyDefs, counted}
+use Rattle.pass_trees.specs.Passes.{member, keepIf, those, most, isNever, isWitness, markUsed, usedIn}
+use Rattle.pass_trees.specs.Passes.{override, classifyDef, classified, usage, idsFrom, classifyDefs, counted}
 use Rattle.pass_trees.specs.Meaning.{worked, Given}
 use Rattle.pass_trees.specs.Statements.{KeepsMeaning}
 use Rattle.pass_trees.specs.Cases.{caseF, caseF-cut, case-F}

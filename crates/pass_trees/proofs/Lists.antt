@@ -102,7 +102,8 @@ unfolding infixOp
 infix-in Q InfixOp.Divide a b h k = when-in Q _ (Side.copy a) _ h (h, k)
 infix-in Q InfixOp.DivideZ a b h k = when-in Q _ (Side.copy a) _ h (when-in Q _ (Side.copy a) (Side.infixed InfixOp.DivideZ a b) h (h, k))
 infix-in Q InfixOp.Multiply a b h k =
-    when-in Q _ (Side.copy b) _ k (when-in Q _ (Side.copy a) _ h (when-in Q _ (Side.copy a) _ h (when-in Q _ (Side.copy b) (Side.infixed InfixOp.Multiply a b) k (h, k))))
+    when-in Q _ (Side.copy b) _ k
+    (when-in Q _ (Side.copy a) _ h (when-in Q _ (Side.copy a) _ h (when-in Q _ (Side.copy b) (Side.infixed InfixOp.Multiply a b) k (h, k))))
 infix-in Q InfixOp.Add a b h k = when-in Q _ (Side.copy b) _ k (when-in Q _ (Side.copy a) (Side.infixed InfixOp.Add a b) h (h, k))
 infix-in Q InfixOp.Subtract a b h k = when-in Q _ (Side.copy a) (Side.infixed InfixOp.Subtract a b) h (h, k)
 infix-in Q InfixOp.Equal a b h k = (h, k)

@@ -10,7 +10,10 @@ use Rattle.flat.specs.Trees.{Flat, Definition, Equation}
 use Rattle.flat.specs.Rules.{All, Rising}
 use Rattle.constraint.specs.declared.Term.{Term}
 use Rattle.constraint.specs.Trees.{Equality}
-use Rattle.pass_trees.specs.Passes.{member, keepIf, those, Usage, usedIn, classifyDef, classified, idsFrom, Substitutions, follow, walk, copyPropagateExpr, copyPropagateDef, afterDef, copyPropagateDefs, afterDefs, copyPropagateEquations, alive, pushConstraintDef, copied, flattenExprTo3ac, Cuts, cutsOf, joined, flattenDefTo3ac, flattenDefs, Sides, into, both, sides, flattenSides, flattenEquations}
+use Rattle.pass_trees.specs.Passes.{member, keepIf, those, Usage, usedIn, classifyDef, classified, idsFrom, Substitutions, follow}
+use Rattle.pass_trees.specs.Passes.{walk, copyPropagateExpr, copyPropagateDef, afterDef, copyPropagateDefs, afterDefs}
+use Rattle.pass_trees.specs.Passes.{copyPropagateEquations, alive, pushConstraintDef, copied, flattenExprTo3ac, Cuts, cutsOf}
+use Rattle.pass_trees.specs.Passes.{joined, flattenDefTo3ac, flattenDefs, Sides, into, both, sides, flattenSides, flattenEquations}
 use Rattle.pass_trees.specs.Statements.{Resolved}
 use Rattle.pass_trees.proofs.Lists.{all-keep}
 
@@ -45,34 +48,41 @@ unfolding afterDefs
 after-append ps k [] ys s = refl
 after-append ps k (d ∷ xs) ys s = after-append ps k xs ys _
 
-pub copies-append : (ps : List ℕ) (k : ℕ) (xs ys : List Definition) (s : Substitutions) → copyPropagateDefs ps k s (xs ++ ys) ≡ copyPropagateDefs ps k s xs ++ copyPropagateDefs ps k (afterDefs ps k s xs) ys
+pub copies-append : (ps : List ℕ) (k : ℕ) (xs ys : List Definition) (s : Substitutions)
+    → copyPropagateDefs ps k s (xs ++ ys) ≡ copyPropagateDefs ps k s xs ++ copyPropagateDefs ps k (afterDefs ps k s xs) ys
 unfolding copyPropagateDefs afterDefs
 copies-append ps k [] ys s = refl
 copies-append ps k (d ∷ xs) ys s = ap (λ (l : List Definition). copyPropagateDef k s d ∷ l) (copies-append ps k xs ys (afterDef ps k s d))
 
-pub copied-equations-append : (k : ℕ) (s : Substitutions) (xs ys : List Equation) → copyPropagateEquations k s (xs ++ ys) ≡ copyPropagateEquations k s xs ++ copyPropagateEquations k s ys
+pub copied-equations-append : (k : ℕ) (s : Substitutions) (xs ys : List Equation)
+    → copyPropagateEquations k s (xs ++ ys) ≡ copyPropagateEquations k s xs ++ copyPropagateEquations k s ys
 unfolding copyPropagateEquations
 copied-equations-append k s [] ys = refl
 copied-equations-append k s (e ∷ xs) ys =
-    ap (λ (l : List Equation). record { left = copyPropagateExpr k s (e .left); right = copyPropagateExpr k s (e .right) } ∷ l) (copied-equations-append k s xs ys)
+    ap (λ (l : List Equation). record { left = copyPropagateExpr k s (e .left); right = copyPropagateExpr k s (e .right) } ∷ l)
+    (copied-equations-append k s xs ys)
 
 joined-twice : (a b : List Equality) (c : Cuts) → joined (a ++ b) c ≡ joined a (joined b c)
 unfolding joined
 joined-twice a b c = ap (λ (l : List Equality). record { next = c .next; equalities = l }) (append-assoc a b (c .equalities))
 
-pub defs-append : (ps : List ℕ) (xs ys : List Definition) (n : ℕ) → flattenDefs ps (xs ++ ys) n ≡ joined (flattenDefs ps xs n .equalities) (flattenDefs ps ys (flattenDefs ps xs n .next))
+pub defs-append : (ps : List ℕ) (xs ys : List Definition) (n : ℕ)
+    → flattenDefs ps (xs ++ ys) n ≡ joined (flattenDefs ps xs n .equalities) (flattenDefs ps ys (flattenDefs ps xs n .next))
 unfolding flattenDefs joined
 defs-append ps [] ys n = refl
 defs-append ps (d ∷ xs) ys n =
     let x : Cuts = flattenDefTo3ac (member (d .id) ps) d n in
-    ap (joined (x .equalities)) (defs-append ps xs ys (x .next)) ∙ sym (joined-twice (x .equalities) (flattenDefs ps xs (x .next) .equalities) (flattenDefs ps ys (flattenDefs ps xs (x .next) .next)))
+    ap (joined (x .equalities)) (defs-append ps xs ys (x .next))
+    ∙ sym (joined-twice (x .equalities) (flattenDefs ps xs (x .next) .equalities) (flattenDefs ps ys (flattenDefs ps xs (x .next) .next)))
 
-pub equations-append : (xs ys : List Equation) (n : ℕ) → flattenEquations (xs ++ ys) n ≡ joined (flattenEquations xs n .equalities) (flattenEquations ys (flattenEquations xs n .next))
+pub equations-append : (xs ys : List Equation) (n : ℕ)
+    → flattenEquations (xs ++ ys) n ≡ joined (flattenEquations xs n .equalities) (flattenEquations ys (flattenEquations xs n .next))
 unfolding flattenEquations joined
 equations-append [] ys n = refl
 equations-append (e ∷ xs) ys n =
     let x : Cuts = flattenSides (sides (e .left) (e .right)) n in
-    ap (joined (x .equalities)) (equations-append xs ys (x .next)) ∙ sym (joined-twice (x .equalities) (flattenEquations xs (x .next) .equalities) (flattenEquations ys (flattenEquations xs (x .next) .next)))
+    ap (joined (x .equalities)) (equations-append xs ys (x .next))
+    ∙ sym (joined-twice (x .equalities) (flattenEquations xs (x .next) .equalities) (flattenEquations ys (flattenEquations xs (x .next) .next)))
 
 -- one id more
 pub ids-append : (t : ℕ → Bool) (a k j : ℕ) → idsFrom t a (k + j) ≡ idsFrom t a k ++ idsFrom t (a + k) j
@@ -123,7 +133,8 @@ expr-grows (some t) (Flat.variable v) n = le-refl n
 expr-grows out (Flat.negate a) n = let h : n ≤ flattenExprTo3ac none a n .next = expr-grows none a n in omega arith
 expr-grows out (Flat.infixed o a b) n =
     let h : n ≤ flattenExprTo3ac none a n .next = expr-grows none a n in
-    let k : flattenExprTo3ac none a n .next ≤ flattenExprTo3ac none b (flattenExprTo3ac none a n .next) .next = expr-grows none b (flattenExprTo3ac none a n .next) in
+    let k : flattenExprTo3ac none a n .next ≤ flattenExprTo3ac none b (flattenExprTo3ac none a n .next) .next =
+    expr-grows none b (flattenExprTo3ac none a n .next) in
     omega arith
 
 pub def-grows : (b : Bool) (d : Definition) (n : ℕ) → n ≤ flattenDefTo3ac b d n .next

@@ -12,7 +12,8 @@ use Rattle.flat.specs.Rules.{All, Every}
 use Rattle.flat.specs.Meaning.{Assignment, Elements, value, DefinitionHolds, EquationHolds}
 use Rattle.constraint.specs.declared.Term.{Term}
 use Rattle.constraint.specs.Meaning.{InTerm, InEquality, termValue, sideValue, EqualityHolds}
-use Rattle.pass_trees.specs.Passes.{member, keepIf, those, Cut, orVariable, pushConstraintDef, copied, toExpr, flattenExprTo3ac, Cuts, cutsOf, joined, flattenDefTo3ac, flattenDefs, Sides, into, both, sides, flattenSides, flattenEquations, flattenLists}
+use Rattle.pass_trees.specs.Passes.{member, keepIf, those, Cut, orVariable, pushConstraintDef, copied, toExpr, flattenExprTo3ac, Cuts, cutsOf}
+use Rattle.pass_trees.specs.Passes.{joined, flattenDefTo3ac, flattenDefs, Sides, into, both, sides, flattenSides, flattenEquations, flattenLists}
 use Rattle.pass_trees.specs.Statements.{Extension}
 use Rattle.pass_trees.proofs.Lists.{all-append, all-split, every-map, term-map, term-agrees, value-agrees}
 use Rattle.pass_trees.proofs.Copied.{CountedIn}
@@ -43,7 +44,8 @@ copy-sides a b =
 pub record Piece (k : ℕ) (S : ℕ → Type 0) (means : Assignment → Type 0) (cuts : ℕ → Cuts) : Type 0 where
   pub local : (σ τ : Assignment) → ((v : ℕ) → S v → τ v ≡ σ v) → means σ → means τ
   pub reads : (σ : Assignment) → Elements σ → (n : ℕ) → All (EqualityHolds σ) (cuts n .equalities) → means σ
-  pub determines : (σ τ : Assignment) → ((v : ℕ) → S v → σ v ≡ τ v) → (n : ℕ) → All (EqualityHolds σ) (cuts n .equalities) → All (EqualityHolds τ) (cuts n .equalities) → All (InEquality (λ v. σ v ≡ τ v)) (cuts n .equalities)
+  pub determines : (σ τ : Assignment) → ((v : ℕ) → S v → σ v ≡ τ v) → (n : ℕ) → All (EqualityHolds σ) (cuts n .equalities)
+      → All (EqualityHolds τ) (cuts n .equalities) → All (InEquality (λ v. σ v ≡ τ v)) (cuts n .equalities)
   pub grows : (n : ℕ) → k ≤ n → n ≤ cuts n .next
   pub ids : (n : ℕ) → k ≤ n → All (InEquality (λ v. v < cuts n .next)) (cuts n .equalities)
   pub writes : (σ : Assignment) → Elements σ → (n : ℕ) → k ≤ n → means σ → Extension σ n (cuts n .equalities)
@@ -65,7 +67,8 @@ module _ (k : ℕ) (S : ℕ → Type 0) (low : (v : ℕ) → S v → v < k) wher
         writes = λ σ el n l h. record { assignment = σ; elements = el; same = λ v b. refl; holds = tt };
       }
 
-  pub follows : {A B : Assignment → Type 0} {p q : ℕ → Cuts} → Piece k S A p → Piece k S B q → Piece k S (λ σ. A σ × B σ) (λ n. joined (p n .equalities) (q (p n .next)))
+  pub follows : {A B : Assignment → Type 0} {p q : ℕ → Cuts} → Piece k S A p → Piece k S B q
+      → Piece k S (λ σ. A σ × B σ) (λ n. joined (p n .equalities) (q (p n .next)))
   unfolding joined
   follows {A} {B} {p} {q} a b =
       record {
@@ -76,20 +79,25 @@ module _ (k : ℕ) (S : ℕ → Type 0) (low : (v : ℕ) → S v → v < k) wher
         determines = λ σ τ s n h i.
             let r = all-split (EqualityHolds σ) (p n .equalities) (q (p n .next) .equalities) h in
             let t = all-split (EqualityHolds τ) (p n .equalities) (q (p n .next) .equalities) i in
-            all-append (InEquality (λ v. σ v ≡ τ v)) (p n .equalities) (q (p n .next) .equalities) (a .determines σ τ s n (r .0) (t .0)) (b .determines σ τ s (p n .next) (r .1) (t .1));
+            all-append (InEquality (λ v. σ v ≡ τ v)) (p n .equalities) (q (p n .next) .equalities) (a .determines σ τ s n (r .0) (t .0))
+            (b .determines σ τ s (p n .next) (r .1) (t .1));
         grows = λ n l. le-trans (a .grows n l) (b .grows (p n .next) (le-trans l (a .grows n l)));
         ids = λ n l.
             let l′ : k ≤ p n .next = le-trans l (a .grows n l) in
-            all-append (InEquality (λ v. v < q (p n .next) .next)) (p n .equalities) (q (p n .next) .equalities) (raise (p n .next) (q (p n .next) .next) (b .grows (p n .next) l′) (p n .equalities) (a .ids n l)) (b .ids (p n .next) l′);
+            all-append (InEquality (λ v. v < q (p n .next) .next)) (p n .equalities) (q (p n .next) .equalities)
+            (raise (p n .next) (q (p n .next) .next) (b .grows (p n .next) l′) (p n .equalities) (a .ids n l)) (b .ids (p n .next) l′);
         writes = λ σ el n l h.
             let l′ : k ≤ p n .next = le-trans l (a .grows n l) in
             let x : Extension σ n (p n .equalities) = a .writes σ el n l (h .0) in
-            let y : Extension (x .assignment) (p n .next) (q (p n .next) .equalities) = b .writes (x .assignment) (x .elements) (p n .next) l′ (b .local σ (x .assignment) (λ v c. x .same v (le-trans (low v c) l)) (h .1)) in
+            let y : Extension (x .assignment) (p n .next) (q (p n .next) .equalities) =
+            b .writes (x .assignment) (x .elements) (p n .next) l′ (b .local σ (x .assignment) (λ v c. x .same v (le-trans (low v c) l)) (h .1)) in
             record {
               assignment = y .assignment;
               elements = y .elements;
               same = λ v c. y .same v (le-trans c (a .grows n l)) ∙ x .same v c;
-              holds = all-append (EqualityHolds (y .assignment)) (p n .equalities) (q (p n .next) .equalities) (holds-below (x .assignment) (y .assignment) (p n .next) (y .same) (p n .equalities) (a .ids n l) (x .holds)) (y .holds);
+              holds =
+                  all-append (EqualityHolds (y .assignment)) (p n .equalities) (q (p n .next) .equalities)
+                  (holds-below (x .assignment) (y .assignment) (p n .next) (y .same) (p n .equalities) (a .ids n l) (x .holds)) (y .holds);
             };
       }
 
@@ -116,7 +124,8 @@ module _ (k : ℕ) (S : ℕ → Type 0) (low : (v : ℕ) → S v → v < k) wher
   wider : (e : Flat) (n : ℕ) → k ≤ n → Every S e → Every (λ v. v < n) e
   wider e n l h = every-map (λ v b. le-trans (low v b) l) e h
 
-  pub given-piece : (t : Term) (e : Flat) → InTerm S t → Every S e → Piece k S (λ σ. value σ e ≡ Value (termValue σ t)) (λ n. cutsOf (flattenExprTo3ac (some t) e n))
+  pub given-piece : (t : Term) (e : Flat) → InTerm S t → Every S e
+      → Piece k S (λ σ. value σ e ≡ Value (termValue σ t)) (λ n. cutsOf (flattenExprTo3ac (some t) e n))
   unfolding cutsOf
   given-piece t e bt be =
       record {
@@ -126,7 +135,8 @@ module _ (k : ℕ) (S : ℕ → Type 0) (low : (v : ℕ) → S v → v < k) wher
         grows = λ n l. whole n l .grows;
         ids = λ n l. whole n l .ids;
         writes = λ σ el n l h.
-            let x : Extended σ n (flattenExprTo3ac (some t) e n) (termValue σ t) = write σ el (some t) e n (wider e n l be) (in-term n l) (termValue σ t) h refl in
+            let x : Extended σ n (flattenExprTo3ac (some t) e n) (termValue σ t) =
+            write σ el (some t) e n (wider e n l be) (in-term n l) (termValue σ t) h refl in
             record { assignment = x .assignment; elements = x .elements; same = x .same; holds = x .holds };
       }
     where
@@ -153,21 +163,27 @@ module _ (k : ℕ) (S : ℕ → Type 0) (low : (v : ℕ) → S v → v < k) wher
             let t′ = all-split (EqualityHolds τ) (right n .equalities) _ (r′ .1) in
             let d = determined σ τ none a n (every-map s a ha) (r .0) (r′ .0) in
             let e = determined σ τ none b (left n .next) (every-map s b hb) (t .0) (t′ .0) in
-            all-append (InEquality (Same σ τ)) (left n .equalities) _ (d .0) (all-append (InEquality (Same σ τ)) (right n .equalities) _ (e .0) ((d .1, e .1), tt));
+            all-append (InEquality (Same σ τ)) (left n .equalities) _ (d .0)
+            (all-append (InEquality (Same σ τ)) (right n .equalities) _ (e .0) ((d .1, e .1), tt));
         grows = λ n l. le-trans (bl n l .grows) (br n l .grows);
         ids = λ n l.
-            all-append (InEquality (λ v. v < right n .next)) (left n .equalities) _ (raise (left n .next) (right n .next) (br n l .grows) (left n .equalities) (bl n l .ids))
-            (all-append (InEquality (λ v. v < right n .next)) (right n .equalities) _ (br n l .ids) ((term-map (λ v (c : v < left n .next). le-trans c (br n l .grows)) (left n .term) (bl n l .term), br n l .term), tt));
+            all-append (InEquality (λ v. v < right n .next)) (left n .equalities) _
+            (raise (left n .next) (right n .next) (br n l .grows) (left n .equalities) (bl n l .ids))
+            (all-append (InEquality (λ v. v < right n .next)) (right n .equalities) _ (br n l .ids)
+            ((term-map (λ v (c : v < left n .next). le-trans c (br n l .grows)) (left n .term) (bl n l .term), br n l .term), tt));
         writes = λ σ el n l h.
             let x : Extended σ n (left n) (h .0) = write σ el none a n (wider a n l ha) tt (h .0) (h .1) tt in
-            let y : Extended (x .assignment) (left n .next) (right n) (h .0) = write (x .assignment) (x .elements) none b (left n .next) (wider b (left n .next) (le-trans l (bl n l .grows)) hb) tt (h .0) (below-value σ (x .assignment) n (x .same) b (wider b n l hb) ∙ h .2) tt in
+            let y : Extended (x .assignment) (left n .next) (right n) (h .0) = write (x .assignment) (x .elements) none b (left n .next)
+            (wider b (left n .next) (le-trans l (bl n l .grows)) hb) tt (h .0) (below-value σ (x .assignment) n (x .same) b (wider b n l hb) ∙ h .2) tt in
             let t : Extended2 σ n (left n) (right n) (h .0) (h .0) = in-turn σ n (left n) (right n) (h .0) (h .0) (bl n l) x y in
             let r = all-split (EqualityHolds (t .assignment)) (left n .equalities) (right n .equalities) (t .holds) in
             record {
               assignment = t .assignment;
               elements = t .elements;
               same = t .same;
-              holds = all-append (EqualityHolds (t .assignment)) (left n .equalities) _ (r .0) (all-append (EqualityHolds (t .assignment)) (right n .equalities) _ (r .1) (ap Value (t .gives2 ∙ sym (t .gives)), tt));
+              holds =
+                  all-append (EqualityHolds (t .assignment)) (left n .equalities) _ (r .0)
+                  (all-append (EqualityHolds (t .assignment)) (right n .equalities) _ (r .1) (ap Value (t .gives2 ∙ sym (t .gives)), tt));
             };
       }
     where
@@ -257,10 +273,12 @@ module _ (k : ℕ) (S : ℕ → Type 0) (low : (v : ℕ) → S v → v < k) wher
   unfolding flattenEquations
   equations-piece [] h = nothing k S low
   equations-piece (e ∷ es) h =
-      follows k S low (renamed k S low (sides-piece k S low (sides (e .left) (e .right)) (sides-below k S low (e .left) (e .right) (h .0 .0) (h .0 .1))) (λ σ. sides-equal σ (e .left) (e .right)) (λ σ. equal-sides σ (e .left) (e .right)))
+      follows k S low (renamed k S low (sides-piece k S low (sides (e .left) (e .right)) (sides-below k S low (e .left) (e .right) (h .0 .0) (h .0 .1)))
+      (λ σ. sides-equal σ (e .left) (e .right)) (λ σ. equal-sides σ (e .left) (e .right)))
       (equations-piece es (h .1))
 
-  pub definitions-piece : (ps : List ℕ) (ds : List Definition) → All (CountedIn S ps) ds → Piece k S (λ σ. All (DefinitionHolds σ) (those (λ v. not (member v ps)) ds)) (flattenDefs ps ds)
+  pub definitions-piece : (ps : List ℕ) (ds : List Definition) → All (CountedIn S ps) ds
+      → Piece k S (λ σ. All (DefinitionHolds σ) (those (λ v. not (member v ps)) ds)) (flattenDefs ps ds)
   unfolding flattenDefs flattenDefTo3ac those keepIf joined
   definitions-piece ps [] h = nothing k S low
   definitions-piece ps (d ∷ ds) h = go (definitions-piece ps ds (h .1)) (member (d .id) ps) refl
@@ -268,10 +286,13 @@ module _ (k : ℕ) (S : ℕ → Type 0) (low : (v : ℕ) → S v → v < k) wher
       rest : List Definition
       rest = those (λ v. not (member v ps)) ds
 
-      go : Piece k S (λ σ. All (DefinitionHolds σ) rest) (flattenDefs ps ds) → (b : Bool) → member (d .id) ps ≡ b → Piece k S (λ σ. All (DefinitionHolds σ) (keepIf (not b) d rest)) (λ n. joined (flattenDefTo3ac b d n .equalities) (flattenDefs ps ds (flattenDefTo3ac b d n .next)))
+      go : Piece k S (λ σ. All (DefinitionHolds σ) rest) (flattenDefs ps ds) → (b : Bool) → member (d .id) ps ≡ b
+          → Piece k S (λ σ. All (DefinitionHolds σ) (keepIf (not b) d rest))
+          (λ n. joined (flattenDefTo3ac b d n .equalities) (flattenDefs ps ds (flattenDefTo3ac b d n .next)))
       go ih true e = ih
       go ih false e = follows k S low (given-piece k S low (Term.Variable (d .id)) (d .right) (h .0 e .0) (h .0 e .1)) ih
 
-  pub module-piece : (ps : List ℕ) (ds : List Definition) (es : List Equation) → All (CountedIn S ps) ds → All EquationIn es → Piece k S (λ σ. All (DefinitionHolds σ) (those (λ v. not (member v ps)) ds) × All (EquationHolds σ) es) (flattenLists ps ds es)
+  pub module-piece : (ps : List ℕ) (ds : List Definition) (es : List Equation) → All (CountedIn S ps) ds → All EquationIn es
+      → Piece k S (λ σ. All (DefinitionHolds σ) (those (λ v. not (member v ps)) ds) × All (EquationHolds σ) es) (flattenLists ps ds es)
   unfolding flattenLists
   module-piece ps ds es h i = follows k S low (definitions-piece ps ds h) (equations-piece es i)

@@ -23,7 +23,10 @@ use Rattle.constraint.proofs.ReadBack.{read-back}
 use Rattle.constraint.specs.declared.Term.{Term}
 use Rattle.constraint.specs.Trees.{Side, Equality}
 use Rattle.constraint.specs.Reading.{SignedTerm, SignedSide, SignedTree, Signed}
-use Rattle.pass_trees.specs.Passes.{member, classifyDefs, Substitutions, follow, walk, toExpr, copyPropagateExpr, copyPropagateDef, afterDef, copyPropagateDefs, afterDefs, copyPropagateEquations, copyPropagate, eliminateDeadEqualities, when, infixOp, Cut, orVariable, pushConstraintDef, copied, flattenExprTo3ac, Cuts, cutsOf, joined, flattenDefTo3ac, flattenDefs, Sides, into, both, sides, flattenSides, flattenEquations, flattenLists, flattenModuleTo3ac, passes}
+use Rattle.pass_trees.specs.Passes.{member, classifyDefs, Substitutions, follow, walk, toExpr, copyPropagateExpr, copyPropagateDef, afterDef}
+use Rattle.pass_trees.specs.Passes.{copyPropagateDefs, afterDefs, copyPropagateEquations, copyPropagate, eliminateDeadEqualities, when, infixOp}
+use Rattle.pass_trees.specs.Passes.{Cut, orVariable, pushConstraintDef, copied, flattenExprTo3ac, Cuts, cutsOf, joined, flattenDefTo3ac}
+use Rattle.pass_trees.specs.Passes.{flattenDefs, Sides, into, both, sides, flattenSides, flattenEquations, flattenLists, flattenModuleTo3ac, passes}
 use Rattle.pass_trees.specs.Statements.{SignedModule, PassesKeepSigned, LentReadBack}
 use Rattle.pass_trees.proofs.Lists.{all-append, all-those}
 use Rattle.pass_trees.proofs.Agreement.{accepted}
@@ -79,7 +82,8 @@ module _ (s : Substitutions) (entries : SignedEntries s) where
   equations-signed k [] h = tt
   equations-signed k (e ∷ es) h = ((copy-signed k (e .left) (h .0 .0), copy-signed k (e .right) (h .0 .1)), equations-signed k es (h .1))
 
-copies-signed : (ps : List ℕ) (k : ℕ) (ds : List Definition) (s : Substitutions) → SignedEntries s → All (λ d. SignedTree (d .right)) ds → All (λ d. SignedTree (d .right)) (copyPropagateDefs ps k s ds) × SignedEntries (afterDefs ps k s ds)
+copies-signed : (ps : List ℕ) (k : ℕ) (ds : List Definition) (s : Substitutions) → SignedEntries s → All (λ d. SignedTree (d .right)) ds
+    → All (λ d. SignedTree (d .right)) (copyPropagateDefs ps k s ds) × SignedEntries (afterDefs ps k s ds)
 unfolding copyPropagateDefs copyPropagateDef afterDefs
 copies-signed ps k [] s e h = (tt, e)
 copies-signed ps k (d ∷ ds) s e h =
@@ -100,7 +104,8 @@ unfolding infixOp
 infix-signed InfixOp.Divide a b h k = when-signed _ (Side.copy a) (Side.infixed InfixOp.Divide a b) h (h, k)
 infix-signed InfixOp.DivideZ a b h k = when-signed _ (Side.copy a) _ h (when-signed _ (Side.copy a) (Side.infixed InfixOp.DivideZ a b) h (h, k))
 infix-signed InfixOp.Multiply a b h k =
-    when-signed _ (Side.copy b) _ k (when-signed _ (Side.copy a) _ h (when-signed _ (Side.copy a) _ h (when-signed _ (Side.copy b) (Side.infixed InfixOp.Multiply a b) k (h, k))))
+    when-signed _ (Side.copy b) _ k
+    (when-signed _ (Side.copy a) _ h (when-signed _ (Side.copy a) _ h (when-signed _ (Side.copy b) (Side.infixed InfixOp.Multiply a b) k (h, k))))
 infix-signed InfixOp.Add a b h k = when-signed _ (Side.copy b) _ k (when-signed _ (Side.copy a) (Side.infixed InfixOp.Add a b) h (h, k))
 infix-signed InfixOp.Subtract a b h k = when-signed _ (Side.copy a) (Side.infixed InfixOp.Subtract a b) h (h, k)
 infix-signed InfixOp.Equal a b h k = (h, k)
@@ -117,11 +122,13 @@ unfolding orVariable
 or-signed none n h = tt
 or-signed (some t) n h = h
 
-push-signed : (out : Option Term) (es : List Equality) (n : ℕ) (s : Side) → SignedOut out → All SignedEquality es → SignedSide s → All SignedEquality (pushConstraintDef out es n s .equalities) × SignedTerm (pushConstraintDef out es n s .term)
+push-signed : (out : Option Term) (es : List Equality) (n : ℕ) (s : Side) → SignedOut out → All SignedEquality es → SignedSide s
+    → All SignedEquality (pushConstraintDef out es n s .equalities) × SignedTerm (pushConstraintDef out es n s .term)
 unfolding pushConstraintDef
 push-signed out es n s o h k = (all-append SignedEquality es _ h ((or-signed out n o, k), tt), or-signed out n o)
 
-expr-signed : (out : Option Term) (e : Flat) (n : ℕ) → SignedOut out → SignedTree e → All SignedEquality (flattenExprTo3ac out e n .equalities) × SignedTerm (flattenExprTo3ac out e n .term)
+expr-signed : (out : Option Term) (e : Flat) (n : ℕ) → SignedOut out → SignedTree e
+    → All SignedEquality (flattenExprTo3ac out e n .equalities) × SignedTerm (flattenExprTo3ac out e n .term)
 unfolding flattenExprTo3ac copied
 expr-signed none (Flat.constant c) n o h = (tt, h)
 expr-signed (some t) (Flat.constant c) n o h = (((o, h), tt), o)
@@ -136,7 +143,8 @@ expr-signed out (Flat.infixed q a b) n o h =
     let y : Cut = flattenExprTo3ac none b (x .next) in
     let r = expr-signed none a n tt (h .0) in
     let s = expr-signed none b (x .next) tt (h .1) in
-    push-signed out (x .equalities ++ y .equalities) (y .next) (infixOp q (x .term) (y .term)) o (all-append SignedEquality (x .equalities) (y .equalities) (r .0) (s .0)) (infix-signed q (x .term) (y .term) (r .1) (s .1))
+    push-signed out (x .equalities ++ y .equalities) (y .next) (infixOp q (x .term) (y .term)) o
+    (all-append SignedEquality (x .equalities) (y .equalities) (r .0) (s .0)) (infix-signed q (x .term) (y .term) (r .1) (s .1))
 
 abbrev SignedCuts : Cuts → Type 0
 SignedCuts c = All SignedEquality (c .equalities)
@@ -181,14 +189,16 @@ cut-sides-signed (both a b) n h =
     let y : Cut = flattenExprTo3ac none b (x .next) in
     let r = expr-signed none a n tt (h .0) in
     let s = expr-signed none b (x .next) tt (h .1) in
-    all-append SignedEquality (x .equalities) _ (r .0) (all-append SignedEquality (y .equalities) _ (s .0) (expr-signed (some (x .term)) (toExpr (y .term)) (y .next) (r .1) (term-tree (y .term) (s .1)) .0))
+    all-append SignedEquality (x .equalities) _ (r .0)
+    (all-append SignedEquality (y .equalities) _ (s .0) (expr-signed (some (x .term)) (toExpr (y .term)) (y .next) (r .1) (term-tree (y .term) (s .1)) .0))
 
 cut-equations-signed : (es : List Equation) (n : ℕ) → All SignedEquation es → SignedCuts (flattenEquations es n)
 unfolding flattenEquations joined
 cut-equations-signed [] n h = tt
 cut-equations-signed (e ∷ es) n h =
     let x : Cuts = flattenSides (sides (e .left) (e .right)) n in
-    all-append SignedEquality (x .equalities) _ (cut-sides-signed (sides (e .left) (e .right)) n (sides-signed (e .left) (e .right) (h .0 .0) (h .0 .1))) (cut-equations-signed es (x .next) (h .1))
+    all-append SignedEquality (x .equalities) _ (cut-sides-signed (sides (e .left) (e .right)) n (sides-signed (e .left) (e .right) (h .0 .0) (h .0 .1)))
+    (cut-equations-signed es (x .next) (h .1))
 
 -- each pass
 module-signed : (f : FlatModule) → SignedModule f → Signed (flattenModuleTo3ac f)
@@ -196,7 +206,9 @@ unfolding flattenModuleTo3ac flattenLists joined
 module-signed f h =
     let x : Cuts = flattenDefs (f .provers) (f .definitions) (f .next) in
     record {
-      equalities = all-append SignedEquality (x .equalities) _ (defs-signed (f .provers) (f .definitions) (f .next) (h .0)) (cut-equations-signed (f .equations) (x .next) (h .1));
+      equalities =
+          all-append SignedEquality (x .equalities) _ (defs-signed (f .provers) (f .definitions) (f .next) (h .0))
+          (cut-equations-signed (f .equations) (x .next) (h .1));
       kept = all-those (λ d. SignedTree (d .right)) (λ v. member v (f .provers)) (f .definitions) (h .0);
     }
 
@@ -233,7 +245,9 @@ module _ (b : List ℕ) (bytes : (k : ℕ) → getD b k 0 < 256) where
 
   node-signed : (at k : ℕ) → SignedNode (nodeOf b at k)
   unfolding nodeOf nodeAt nodeFor
-  node-signed at k = either-node _ (Node.Infix _ _ _) _ tt (either-node _ (Node.Negate _) _ tt (either-node _ (Node.Constant _) (Node.Variable _) (sfits-toZ (wordAt-fits b _ bytes)) tt))
+  node-signed at k =
+      either-node _ (Node.Infix _ _ _) _ tt
+      (either-node _ (Node.Negate _) _ tt (either-node _ (Node.Constant _) (Node.Variable _) (sfits-toZ (wordAt-fits b _ bytes)) tt))
 
   grown-signed : (below : ℕ → Flat) → ((k : ℕ) → SignedTree (below k)) → (w : Node) → SignedNode w → SignedTree (grown below w)
   unfolding grown

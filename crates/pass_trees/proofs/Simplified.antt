@@ -11,7 +11,8 @@ use Rattle.field.specs.Operations.{infixOf}
 use Rattle.field.proofs.Primality.{P-prime, P-above}
 use Rattle.field.proofs.Elements.{elem-elem}
 use Rattle.field.proofs.Values.{not-zero-value, multiply-answer, add-answer, subtract-answer, divide-valued, int-divide-valued, modulo-valued, divide-z-total}
-use Rattle.field.proofs.Units.{one-element, zero-element, one-multiply, multiply-one, zero-multiply, multiply-zero, divide-one, divide-z-one, zero-divide-z, int-divide-one, modulo-one, zero-add, add-zero, subtract-zero}
+use Rattle.field.proofs.Units.{one-element, zero-element, one-multiply, multiply-one, zero-multiply, multiply-zero, divide-one}
+use Rattle.field.proofs.Units.{divide-z-one, zero-divide-z, int-divide-one, modulo-one, zero-add, add-zero, subtract-zero}
 use Rattle.flat.specs.Meaning.{Assignment, Elements, DivisorNotZero}
 use Rattle.constraint.specs.declared.Term.{Term}
 use Rattle.constraint.specs.Trees.{Side}

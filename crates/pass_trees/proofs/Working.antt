@@ -20,7 +20,8 @@ use Rattle.flat.specs.Meaning.{update, Assignment, Elements, onValues, negated,
 use Rattle.flat.specs.Rules.{All, Every, Ordered}
 use Rattle.pass_trees.specs.Passes.{keepIf, those, cuttable, cuttableExpr, cuttableDefs}
 use Rattle.pass_trees.specs.Statements.{InTurnIsAtEnd}
-use Rattle.pass_trees.proofs.Lists.{update-all, update-same, update-other, both-true, both-false, defines-cons, every-map, every-both, or-false, defines-those, value-agrees}
+use Rattle.pass_trees.proofs.Lists.{update-all, update-same, update-other, both-true, both-false, defines-cons}
+use Rattle.pass_trees.proofs.Lists.{every-map, every-both, or-false, defines-those, value-agrees}
 use Rattle.pass_trees.proofs.Simplified.{has-value}
 use Rattle.pass_trees.proofs.Cutting.{both-values, negated-value}
 
@@ -69,7 +70,8 @@ worked-other (d ∷ ds) ρ v h =
     let r = defines-cons d ds v h in
     worked-other ds _ v (r .1) ∙ update-other ρ (d .id) _ v (r .0)
 
-pub worked-hold : (ds : List Definition) → Ordered ds → (ρ : Assignment) → Elements ρ → cuttableDefs ds ≡ true → All (λ d. NoZeroDivisor (workedOut ds ρ) (d .right)) ds → All (DefinitionHolds (workedOut ds ρ)) ds
+pub worked-hold : (ds : List Definition) → Ordered ds → (ρ : Assignment) → Elements ρ → cuttableDefs ds ≡ true
+    → All (λ d. NoZeroDivisor (workedOut ds ρ) (d .right)) ds → All (DefinitionHolds (workedOut ds ρ)) ds
 unfolding workedOut cuttableDefs orZero
 worked-hold [] o ρ el c h = tt
 worked-hold (d ∷ ds) o ρ el c h =
@@ -88,7 +90,8 @@ worked-hold (d ∷ ds) o ρ el c h =
 
 -- a divisor has the same value when its turn comes and at the end
 no-zero-agrees : (σ τ : Assignment) (e : Flat) → Every (λ v. σ v ≡ τ v) e → NoZeroDivisor σ e → NoZeroDivisor τ e
-no-zero-agrees σ τ (Flat.infixed o a b) s h = (no-zero-agrees σ τ a (s .0) (h .0), no-zero-agrees σ τ b (s .1) (h .1), subst (DivisorNotZero o) (value-agrees σ τ b (s .1)) (h .2))
+no-zero-agrees σ τ (Flat.infixed o a b) s h =
+    (no-zero-agrees σ τ a (s .0) (h .0), no-zero-agrees σ τ b (s .1) (h .1), subst (DivisorNotZero o) (value-agrees σ τ b (s .1)) (h .2))
 no-zero-agrees σ τ (Flat.negate a) s h = no-zero-agrees σ τ a s h
 no-zero-agrees σ τ (Flat.constant c) s h = tt
 no-zero-agrees σ τ (Flat.variable v) s h = tt
@@ -106,14 +109,17 @@ in-turn-is-at-end (d ∷ ds) o ρ =
     )
 
 -- two assignments under which the definitions hold agree on all ids, if they agree on those that none defines
-pub agree-all : (S : ℕ → Type 0) (σ τ : Assignment) (ds : List Definition) → Ordered ds → All (λ d. Every S (d .right)) ds → All (DefinitionHolds σ) ds → All (DefinitionHolds τ) ds → ((v : ℕ) → S v → defines ds v ≡ false → σ v ≡ τ v) → (v : ℕ) → S v → σ v ≡ τ v
+pub agree-all : (S : ℕ → Type 0) (σ τ : Assignment) (ds : List Definition) → Ordered ds → All (λ d. Every S (d .right)) ds → All (DefinitionHolds σ) ds
+    → All (DefinitionHolds τ) ds → ((v : ℕ) → S v → defines ds v ≡ false → σ v ≡ τ v) → (v : ℕ) → S v → σ v ≡ τ v
 unfolding defines
 agree-all S σ τ [] o b h i s v l = s v l refl
 agree-all S σ τ (d ∷ ds) o b h i s u below =
     agree-all S σ τ ds (o .2) (b .1) (h .1) (i .1) (λ v l n. go v l n (eqb v (d .id)) refl) u below
   where
     here : σ (d .id) ≡ τ (d .id)
-    here = value-path _ _ (sym (h .0) ∙ value-agrees σ τ (d .right) (every-map (λ v r. s v (r .0) (r .1)) (d .right) (every-both S (λ v. defines (d ∷ ds) v ≡ false) (d .right) (b .0) (o .1))) ∙ i .0)
+    here =
+        value-path _ _ (sym (h .0) ∙ value-agrees σ τ (d .right)
+        (every-map (λ v r. s v (r .0) (r .1)) (d .right) (every-both S (λ v. defines (d ∷ ds) v ≡ false) (d .right) (b .0) (o .1))) ∙ i .0)
 
     go : (v : ℕ) → S v → defines ds v ≡ false → (t : Bool) → eqb v (d .id) ≡ t → σ v ≡ τ v
     go v l n true e = subst (λ (w : ℕ). σ w ≡ τ w) (sym (eqb-true v (d .id) e)) here
@@ -128,7 +134,8 @@ ordered-those t (d ∷ ds) o = go (ordered-those t ds (o .2)) (t (d .id))
     go : Ordered (those t ds) → (b : Bool) → Ordered (keepIf b d (those t ds))
     go ih true = (
       defines-those t ds (d .id) (o .0),
-      every-map (λ v h. let r = both-false (eqb v (d .id)) (defines ds v) h in or-false (eqb v (d .id)) (defines (those t ds) v) (r .0) (defines-those t ds v (r .1))) (d .right) (o .1),
+      every-map (λ v h. let r = both-false (eqb v (d .id)) (defines ds v) h in
+          or-false (eqb v (d .id)) (defines (those t ds) v) (r .0) (defines-those t ds v (r .1))) (d .right) (o .1),
       ih,
     )
     go ih false = ih

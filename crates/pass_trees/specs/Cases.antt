@@ -8,7 +8,12 @@ use Rattle.flat.specs.Trees.{Flat, Definition, Equation, FlatModule}
 use Rattle.flat.specs.Meaning.{update}
 use Rattle.constraint.specs.declared.Term.{Term}
 use Rattle.constraint.specs.Trees.{Side, Equality, ConstraintModule}
-use Rattle.pass_trees.specs.Passes.{member, keepIf, those, most, isNever, isWitness, markUsed, usedIn, override, classifyDef, classified, usage, idsFrom, classifyDefs, follow, walk, toExpr, copyPropagateExpr, substituting, copyPropagateDef, afterDef, copyPropagateDefs, afterDefs, copyPropagateEquations, copyPropagate, sameNumber, dead, alive, eliminateDeadEqualities, isOne, isZero, when, infixOp, orVariable, pushConstraintDef, copied, flattenExprTo3ac, cutsOf, joined, flattenDefTo3ac, flattenDefs, sides, flattenSides, flattenEquations, flattenLists, flattenModuleTo3ac, passes, cuttable, cuttableExpr, cuttableDefs, cuttableEquations, counted, Outcome, cut, refused, unless, fitting, cutOf}
+use Rattle.pass_trees.specs.Passes.{member, keepIf, those, most, isNever, isWitness, markUsed, usedIn, override, classifyDef, classified, usage, idsFrom}
+use Rattle.pass_trees.specs.Passes.{classifyDefs, follow, walk, toExpr, copyPropagateExpr, substituting, copyPropagateDef, afterDef, copyPropagateDefs}
+use Rattle.pass_trees.specs.Passes.{afterDefs, copyPropagateEquations, copyPropagate, sameNumber, dead, alive, eliminateDeadEqualities, isOne, isZero}
+use Rattle.pass_trees.specs.Passes.{when, infixOp, orVariable, pushConstraintDef, copied, flattenExprTo3ac, cutsOf, joined, flattenDefTo3ac, flattenDefs}
+use Rattle.pass_trees.specs.Passes.{sides, flattenSides, flattenEquations, flattenLists, flattenModuleTo3ac, passes, cuttable, cuttableExpr}
+use Rattle.pass_trees.specs.Passes.{cuttableDefs, cuttableEquations, counted, Outcome, cut, refused, unless, fitting, cutOf}
 
 -- expressions and lists in short
 abbrev v : ℕ → Flat
@@ -63,7 +68,8 @@ cases =
     -- "y = 1 / x unused leaves no equality"
     ∷ flat 11 [] (10 is Flat.infixed InfixOp.Divide (number 1) (v 9) ∷ []) [] gives cut (list 11 [] [] [])
     -- 3 + 4 is not folded
-    ∷ flat 10 [] [] (v 9 equals Flat.infixed InfixOp.Add (number 3) (number 4) ∷ []) gives cut (list 11 [] (Term.Variable 9 becomes Side.infixed InfixOp.Add (Term.Constant (pos 3)) (Term.Constant (pos 4)) ∷ []) [])
+    ∷ flat 10 [] [] (v 9 equals Flat.infixed InfixOp.Add (number 3) (number 4) ∷ [])
+    gives cut (list 11 [] (Term.Variable 9 becomes Side.infixed InfixOp.Add (Term.Constant (pos 3)) (Term.Constant (pos 4)) ∷ []) [])
     -- neither side is a term; 0 * v1 is 0
     ∷ flat 10 [] [] (Flat.negate (v 0) equals Flat.infixed InfixOp.Multiply (number 0) (v 1) ∷ [])
     gives cut
@@ -80,7 +86,8 @@ cases =
     ∷ flat 10 (4 ∷ []) (4 is Flat.infixed InfixOp.Exponentiate (v 1) (number 2) ∷ []) (v 4 equals v 0 ∷ [])
     gives cut (list 10 (1 ∷ 4 ∷ []) (Term.Variable 4 becomes Side.copy (Term.Variable 0) ∷ []) (4 is Flat.infixed InfixOp.Exponentiate (v 1) (number 2) ∷ []))
     -- constants are compared as they are written
-    ∷ flat 10 [] [] (number 2147483647 equals number 0 ∷ number 7 equals number 7 ∷ []) gives cut (list 10 [] (Term.Constant (pos 2147483647) becomes Side.copy (Term.Constant (pos 0)) ∷ []) [])
+    ∷ flat 10 [] [] (number 2147483647 equals number 0 ∷ number 7 equals number 7 ∷ [])
+    gives cut (list 10 [] (Term.Constant (pos 2147483647) becomes Side.copy (Term.Constant (pos 0)) ∷ []) [])
     -- `^` in an equation, and an inner `=`
     ∷ flat 10 [] [] (v 9 equals Flat.infixed InfixOp.Exponentiate (v 1) (v 2) ∷ []) gives refused 22
     ∷ flat 10 [] (3 is Flat.infixed InfixOp.Equal (v 0) (v 1) ∷ []) (v 9 equals v 3 ∷ []) gives refused 22
@@ -96,7 +103,10 @@ answers (c ∷ cs) = c .answer ∷ answers cs
 
 -- every case holds
 pub cases-hold : worked-out cases ≡ answers cases
-unfolding update member keepIf those most isNever isWitness markUsed usedIn override classifyDef classified usage idsFrom classifyDefs follow walk toExpr copyPropagateExpr substituting copyPropagateDef afterDef copyPropagateDefs afterDefs copyPropagateEquations copyPropagate sameNumber dead alive eliminateDeadEqualities isOne isZero when infixOp orVariable pushConstraintDef copied flattenExprTo3ac cutsOf joined flattenDefTo3ac flattenDefs sides flattenSides flattenEquations flattenLists flattenModuleTo3ac passes cuttable cuttableExpr cuttableDefs cuttableEquations counted unless fitting cutOf
+unfolding update member keepIf those most isNever isWitness markUsed usedIn override classifyDef classified usage idsFrom classifyDefs follow walk toExpr
+    copyPropagateExpr substituting copyPropagateDef afterDef copyPropagateDefs afterDefs copyPropagateEquations copyPropagate sameNumber dead alive
+    eliminateDeadEqualities isOne isZero when infixOp orVariable pushConstraintDef copied flattenExprTo3ac cutsOf joined flattenDefTo3ac flattenDefs sides
+    flattenSides flattenEquations flattenLists flattenModuleTo3ac passes cuttable cuttableExpr cuttableDefs cuttableEquations counted unless fitting cutOf
 cases-hold = refl
 
 pub case-F : cutOf caseF ≡ cut caseF-cut

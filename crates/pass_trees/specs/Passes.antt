@@ -219,7 +219,8 @@ when false s t = t
 -- infix_op: "any straightforward simplifications", tried in the Rust's order; two constants are not folded
 unfoldable pub infixOp : InfixOp → Term → Term → Side
 infixOp InfixOp.Multiply a b =
-    when (isOne a) (Side.copy b) (when (isOne b) (Side.copy a) (when (isZero a) (Side.copy a) (when (isZero b) (Side.copy b) (Side.infixed InfixOp.Multiply a b))))
+    when (isOne a) (Side.copy b)
+    (when (isOne b) (Side.copy a) (when (isZero a) (Side.copy a) (when (isZero b) (Side.copy b) (Side.infixed InfixOp.Multiply a b))))
 infixOp InfixOp.Divide a b = when (isOne b) (Side.copy a) (Side.infixed InfixOp.Divide a b)
 infixOp InfixOp.DivideZ a b = when (isOne b) (Side.copy a) (when (isZero a) (Side.copy a) (Side.infixed InfixOp.DivideZ a b))
 infixOp InfixOp.IntDivide a b = when (isOne b) (Side.copy a) (Side.infixed InfixOp.IntDivide a b)
@@ -329,7 +330,13 @@ flattenLists ps ds es n =
 unfoldable pub flattenModuleTo3ac : FlatModule → ConstraintModule
 flattenModuleTo3ac f =
     let x : Cuts = flattenLists (f .provers) (f .definitions) (f .equations) (f .next) in
-    record { next = x .next; publics = f .publics; provers = f .provers; equalities = x .equalities; kept = those (λ v. member v (f .provers)) (f .definitions) }
+    record {
+      next = x .next;
+      publics = f .publics;
+      provers = f .provers;
+      equalities = x .equalities;
+      kept = those (λ v. member v (f .provers)) (f .definitions);
+    }
 
 -- the four passes in their order
 unfoldable pub passes : FlatModule → ConstraintModule

@@ -15,11 +15,12 @@ use Rattle.constraint.specs.Trees.{Equality, ConstraintModule}
 use Rattle.constraint.specs.Reading.{constraintOf, SignedTree, Signed}
 use Rattle.constraint.specs.Record.{constraintBytes}
 use Rattle.constraint.specs.Meaning.{InTerm, InEquality, EqualityHolds, Solution}
-use Rattle.pass_trees.specs.Passes.{member, classifyDefs, Substitutions, walk, copyPropagateExpr, copyPropagateDef, afterDef, copyPropagateEquations, copyPropagate, counted, cut, passes, cutOf}
+use Rattle.pass_trees.specs.Passes.{member, classifyDefs, Substitutions, walk, copyPropagateExpr, copyPropagateDef}
+use Rattle.pass_trees.specs.Passes.{afterDef, copyPropagateEquations, copyPropagate, counted, cut, passes, cutOf}
 use Rattle.pass_trees.specs.Meaning.{Inputs, Uncounted, Given, worked}
 
--- THE PASSES KEEP THE MEANING. For inputs I with the values ρ, and the module's values τ: the equations hold under τ just if the equalities have a solution with ρ,
--- and any two such solutions agree on every variable that occurs in the equalities
+-- THE PASSES KEEP THE MEANING. For inputs I with the values ρ, and the module's values τ: the equations hold under τ just if the equalities have a solution
+-- with ρ, and any two such solutions agree on every variable that occurs in the equalities
 pub record KeepsMeaning (f : FlatModule) (c : ConstraintModule) (I : ℕ → Type 0) (ρ τ : Assignment) : Type 0 where
   pub agrees : All (EquationHolds τ) (f .equations) ↔ ((σ : Assignment) × Solution I c ρ σ)
   pub unique : (σ υ : Assignment) → Solution I c ρ σ → Solution I c ρ υ → All (InEquality (λ v. σ v ≡ υ v)) (c .equalities)
@@ -76,7 +77,8 @@ pub record Extension (σ : Assignment) (n : ℕ) (qs : List Equality) : Type 0 w
 pub record KeepsSolutions (f : FlatModule) (c : ConstraintModule) : Type 0 where
   pub reads : (σ : Assignment) → Elements σ → All (EqualityHolds σ) (c .equalities) → Fulfils f σ
   pub extends : (σ : Assignment) → Elements σ → Fulfils f σ → Extension σ (f .next) (c .equalities)
-  pub determines : (σ τ : Assignment) → ((v : ℕ) → v < f .next → σ v ≡ τ v) → All (EqualityHolds σ) (c .equalities) → All (EqualityHolds τ) (c .equalities) → All (InEquality (λ v. σ v ≡ τ v)) (c .equalities)
+  pub determines : (σ τ : Assignment) → ((v : ℕ) → v < f .next → σ v ≡ τ v) → All (EqualityHolds σ) (c .equalities) → All (EqualityHolds τ) (c .equalities)
+      → All (InEquality (λ v. σ v ≡ τ v)) (c .equalities)
 
 abbrev pub PassesKeepSolutions : Type 0
 PassesKeepSolutions =
@@ -161,7 +163,8 @@ RustAgrees = (k : ℕ) (f : FlatModule) → RustEnds k f → rustCopyPropagate k
 -- it ends where no definition's copy is its own variable, as at every lent record; and a walk that comes to a variable that stands for itself does not
 abbrev pub NoneItself : List ℕ → ℕ → Substitutions → List Definition → Type 0
 NoneItself ps k s [] = Unit {0}
-NoneItself ps k s (d ∷ ds) = (member (d .id) ps ≡ false → copyPropagateExpr k s (d .right) ≡ Flat.variable (d .id) → ⊥) × NoneItself ps k (afterDef ps k s d) ds
+NoneItself ps k s (d ∷ ds) =
+    (member (d .id) ps ≡ false → copyPropagateExpr k s (d .right) ≡ Flat.variable (d .id) → ⊥) × NoneItself ps k (afterDef ps k s d) ds
 
 abbrev pub RustEndsUnlessItself : Type 0
 RustEndsUnlessItself = (f : FlatModule) → NoneItself (f .provers) (length (f .definitions)) (λ _. none) (f .definitions) → RustEnds (length (f .definitions)) f
@@ -190,4 +193,5 @@ abbrev pub CountedIsClosed : Type 0
 CountedIsClosed =
     (f : FlatModule) →
     WellFormed f →
-    All (λ e. Every (IfDefinedCounted f) (e .left) × Every (IfDefinedCounted f) (e .right)) (f .equations) × All (λ d. Every (IfDefinedCounted f) (d .right)) (counted f)
+    All (λ e. Every (IfDefinedCounted f) (e .left) × Every (IfDefinedCounted f) (e .right)) (f .equations)
+    × All (λ d. Every (IfDefinedCounted f) (d .right)) (counted f)

@@ -31,9 +31,12 @@ use Rattle.plain.specs.Statements.{IsInput, Gives, PlainFlat, SaysTheSam
 use Rattle.plain.proofs.Values.{false-true, table}
 use Rattle.plain.proofs.Modules.{ScopedDefinitions, ScopedEquations, flatSides, InTurnValued, evaluated-kept}
 use Rattle.plain.proofs.Order.{Input, not-true}
-use Rattle.plain.proofs.OrderModules.{SpansDefinitions, SpansEquations, InOrder, order-kept, input-undefined, ordered, known, ids-below, defined-ids, every-map}
+use Rattle.plain.proofs.OrderModules.{SpansDefinitions, SpansEquations, InOrder, order-kept}
+use Rattle.plain.proofs.OrderModules.{input-undefined, ordered, known, ids-below, defined-ids, every-map}
 use Rattle.plain.proofs.OrderModules
-use Rattle.plain.proofs.Numbered.{both-true, Named, plain-definitions, plain-equations, PlainDefinitions, PlainEquations, Any, rises-split, pointwise-split, free-definitions, free-equations, numbered-definitions, numbered-equations, definitions-scoped, equations-scoped, definitions-spans, equations-spans, Means, Agreed, definitions-mean, equations-mean}
+use Rattle.plain.proofs.Numbered.{both-true, Named, plain-definitions, plain-equations, PlainDefinitions, PlainEquations, Any, rises-split}
+use Rattle.plain.proofs.Numbered.{pointwise-split, free-definitions, free-equations, numbered-definitions, numbered-equations, definitions-scoped}
+use Rattle.plain.proofs.Numbered.{equations-scoped, definitions-spans, equations-spans, Means, Agreed, definitions-mean, equations-mean}
 use Rattle.plain.proofs.Working.{worked-elements, worked-keeps, definitions-hold, no-zero-in-turn, sides-hold}
 use Rattle.plain.proofs.Divisors.{definitions-valued, equations-valued, start-canonical}
 
@@ -60,7 +63,9 @@ module _ (m : Module) (plain : isPlainBody m ≡ true) where
 
   names-plain : All (Named R) (inputs m)
   unfolding inputs freeInModule
-  names-plain = all-append (Named R) (freeInDefinitions [] (m .definitions)) (freeInExpressions (defining (m .definitions) []) (m .expressions)) (free-definitions [] definitions-plain) (free-equations (defining (m .definitions) []) equations-plain)
+  names-plain =
+      all-append (Named R) (freeInDefinitions [] (m .definitions)) (freeInExpressions (defining (m .definitions) []) (m .expressions))
+      (free-definitions [] definitions-plain) (free-equations (defining (m .definitions) []) equations-plain)
 
   N : ℕ
   N = numbered m .next
@@ -87,7 +92,8 @@ module _ (m : Module) (plain : isPlainBody m ≡ true) where
   inputs-low =
       let s = module-step m .rest in
       zipped (λ x i. found x (namesOf m .globals) ≡ some i) (Named R) (λ i. (i < namesOf m .next) × (9 ≤ i))
-      (λ x i f n. (falling-bounded _ _ (s .grown .well .falling) x i f, s .grown .extends .new x i n f)) (inputs m) (inputIds (numbered m)) (s .free) names-plain
+      (λ x i f n. (falling-bounded _ _ (s .grown .well .falling) x i f, s .grown .extends .new x i n f)) (inputs m)
+      (inputIds (numbered m)) (s .free) names-plain
 
   input-free : (i : ℕ) → IsInput m i → (bound i ≡ false) × (i < N)
   input-free i h =
@@ -106,13 +112,18 @@ module _ (m : Module) (plain : isPlainBody m ≡ true) where
   unfolding N numbered
   binders-bound =
       let s = module-step m .rest in
-      let named : All (λ i. (x : ℕ) × (found x (namesOf m .globals) ≡ some i)) (inputIds (numbered m)) = zipped (λ x i. found x (namesOf m .globals) ≡ some i) Any (λ i. (x : ℕ) × (found x (namesOf m .globals) ≡ some i)) (λ x i f a. (x, f)) (inputs m) (inputIds (numbered m)) (s .free) (all-any (inputs m)) in
+      let named : All (λ i. (x : ℕ) × (found x (namesOf m .globals) ≡ some i)) (inputIds (numbered m)) = zipped (λ x i. found x (namesOf m .globals) ≡ some i)
+      Any (λ i. (x : ℕ) × (found x (namesOf m .globals) ≡ some i)) (λ x i f a. (x, f)) (inputs m) (inputIds (numbered m)) (s .free) (all-any (inputs m)) in
       all-map
-      (λ i b. at-below i (b .0) ∙ ap not (not-true (member i (inputIds (numbered m))) (λ h. let w = all-member _ i (inputIds (numbered m)) named h in none-some (w .0) (sym (b .1) ∙ falling-named _ _ (s .grown .well .falling) (w .0) i (w .1)))))
+      (λ i b. at-below i (b .0)
+      ∙ ap not (not-true (member i (inputIds (numbered m))) (λ h. let w = all-member _ i (inputIds (numbered m)) named h in
+      none-some (w .0) (sym (b .1) ∙ falling-named _ _ (s .grown .well .falling) (w .0) i (w .1)))))
       (allBinders (numbered m)) (s .binders)
 
   intrinsic : (i : ℕ) → i < 9 → bound i ≡ true
-  intrinsic i l = at-below i (le-trans l nine) ∙ ap not (not-true (member i (inputIds (numbered m))) (λ h. omega (arith, l, all-member _ i (inputIds (numbered m)) inputs-low h .1)))
+  intrinsic i l =
+      at-below i (le-trans l nine)
+      ∙ ap not (not-true (member i (inputIds (numbered m))) (λ h. omega (arith, l, all-member _ i (inputIds (numbered m)) inputs-low h .1)))
 
   -- the numbered module: plain, in scope, its binders rise
   definitions-numbered : PlainDefinitions Any (numbered m .definitions)
@@ -133,14 +144,16 @@ module _ (m : Module) (plain : isPlainBody m ≡ true) where
   unfolding Δ inputIds freeInModule allBinders
   scoped-definitions =
       definitions-scoped bound N (IsInput m) input-free [] definitions-numbered
-      (all-split (IsInput m) (freeInDefinitions [] (numbered m .definitions)) (freeInExpressions (defining (numbered m .definitions) []) (numbered m .expressions)) all-inputs .0)
+      (all-split (IsInput m) (freeInDefinitions [] (numbered m .definitions))
+      (freeInExpressions (defining (numbered m .definitions) []) (numbered m .expressions)) all-inputs .0)
       (all-split (λ i. bound i ≡ true) (definitionBinders (numbered m .definitions)) (expressionBinders (numbered m .expressions)) binders-bound .0)
 
   scoped-equations : ScopedEquations bound N Δ (numbered m .expressions)
   unfolding Δ inputIds freeInModule allBinders
   scoped-equations =
       equations-scoped bound N (IsInput m) input-free (defining (numbered m .definitions) []) equations-numbered
-      (all-split (IsInput m) (freeInDefinitions [] (numbered m .definitions)) (freeInExpressions (defining (numbered m .definitions) []) (numbered m .expressions)) all-inputs .1)
+      (all-split (IsInput m) (freeInDefinitions [] (numbered m .definitions))
+      (freeInExpressions (defining (numbered m .definitions) []) (numbered m .expressions)) all-inputs .1)
       (all-split (λ i. bound i ≡ true) (definitionBinders (numbered m .definitions)) (expressionBinders (numbered m .expressions)) binders-bound .1)
 
   record Spanned : Type 0 where
@@ -151,26 +164,35 @@ module _ (m : Module) (plain : isPlainBody m ≡ true) where
   spanned : Spanned
   unfolding N numbered registered allBinders
   spanned =
-      let w = rises-split 9 (definitionBinders (numbered m .definitions)) (expressionBinders (numbered m .expressions)) (namesOf m .next) (module-step m .rest .rises) in
-      record { mid = w .0; definitions = definitions-spans 9 (w .0) definitions-numbered (w .1); equations = equations-spans (w .0) (namesOf m .next) equations-numbered (w .2) }
+      let w = rises-split 9 (definitionBinders (numbered m .definitions)) (expressionBinders (numbered m .expressions)) (namesOf m .next)
+      (module-step m .rest .rises) in
+      record {
+        mid = w .0;
+        definitions = definitions-spans 9 (w .0) definitions-numbered (w .1);
+        equations = equations-spans (w .0) (namesOf m .next) equations-numbered (w .2);
+      }
 
   module _ (capacity : ℕ) (f : FlatModule) (e : evaluated capacity (numbered m) ≡ flat f) where
     in-order : InOrder (Input bound N beyond) f
     unfolding evaluated N numbered
     in-order =
         let sp = spanned in
-        order-kept bound N beyond 256 capacity 9 (numbered m) Δ f {mid = sp .mid} refl (intrinsic 0 (omega arith)) (intrinsic 2 (omega arith)) (intrinsic 5 (omega arith)) scoped-definitions scoped-equations (sp .definitions) (sp .equations)
+        order-kept bound N beyond 256 capacity 9 (numbered m) Δ f {mid = sp .mid} refl (intrinsic 0 (omega arith)) (intrinsic 2 (omega arith))
+        (intrinsic 5 (omega arith)) scoped-definitions scoped-equations (sp .definitions) (sp .equations)
         (rules-all (λ v. v < namesOf m .next) (numbered m .publics) (module-step m .publics .uses)) e
 
     known-definitions : Rules.All (λ d. Every (λ v. defines (f .definitions) v ≡ false → Input bound N beyond v) (d .right)) (f .definitions)
     unfolding defines
-    known-definitions = known (Input bound N beyond) [] (f .definitions) (defines (f .definitions)) (λ v h. absurd (false-true h)) (λ v h. h) (in-order .definitions)
+    known-definitions =
+        known (Input bound N beyond) [] (f .definitions) (defines (f .definitions)) (λ v h. absurd (false-true h)) (λ v h. h) (in-order .definitions)
 
     below : (v : ℕ) → (defines (f .definitions) v ≡ false → Input bound N beyond v) → v < f .next
     below = ids-below (Input bound N beyond) (f .next) (defines (f .definitions)) (in-order .inputs-below) (in-order .defined-below)
 
     ids-and-uses : Rules.All (λ d. (d .id < f .next) × Every (λ v. v < f .next) (d .right)) (f .definitions)
-    ids-and-uses = OrderModules.all-both _ _ (f .definitions) (defined-ids (Input bound N beyond) (f .definitions) (f .next) (in-order .defined-below)) (OrderModules.all-map _ _ (λ d h. every-map _ _ below (d .right) h) (f .definitions) known-definitions)
+    ids-and-uses =
+        OrderModules.all-both _ _ (f .definitions) (defined-ids (Input bound N beyond) (f .definitions) (f .next) (in-order .defined-below))
+        (OrderModules.all-map _ _ (λ d h. every-map _ _ below (d .right) h) (f .definitions) known-definitions)
 
     pub plain-flat : PlainFlat m f
     plain-flat = record {
@@ -179,16 +201,25 @@ module _ (m : Module) (plain : isPlainBody m ≡ true) where
         provers-below = subst (Rules.All (λ v. v < f .next)) (sym (in-order .no-provers)) tt;
         provers-rise = subst Rising (sym (in-order .no-provers)) tt;
         definitions-below = ids-and-uses;
-        equations-below = OrderModules.all-map _ _ (λ q h. (every-map _ _ below (q .left) (h .0), every-map _ _ below (q .right) (h .1))) (f .equations) (in-order .equations);
+        equations-below =
+            OrderModules.all-map _ _ (λ q h. (every-map _ _ below (q .left) (h .0), every-map _ _ below (q .right) (h .1)))
+            (f .equations) (in-order .equations);
         ordered = ordered (Input bound N beyond) [] (f .definitions) (in-order .definitions);
       };
       no-provers = in-order .no-provers;
       definitions-known = OrderModules.all-map _ _ (λ d h. every-map _ _ (λ v k n. free-input v (k n)) (d .right) h) (f .definitions) known-definitions;
-      equations-known = OrderModules.all-map _ _ (λ q h. (every-map _ _ (λ v k n. free-input v (k n)) (q .left) (h .0), every-map _ _ (λ v k n. free-input v (k n)) (q .right) (h .1))) (f .equations) (in-order .equations);
-      inputs-undefined = λ i h. (in-order .inputs-below i (input-free i h), not-true (defines (f .definitions) i) (input-undefined (Input bound N beyond) i [] (f .definitions) (in-order .definitions) (input-free i h)));
+      equations-known =
+          OrderModules.all-map _ _
+          (λ q h. (every-map _ _ (λ v k n. free-input v (k n)) (q .left) (h .0), every-map _ _ (λ v k n. free-input v (k n)) (q .right) (h .1)))
+          (f .equations) (in-order .equations);
+      inputs-undefined = λ i h. (
+        in-order .inputs-below i (input-free i h),
+        not-true (defines (f .definitions) i) (input-undefined (Input bound N beyond) i [] (f .definitions) (in-order .definitions) (input-free i h)),
+      );
     }
 
-    module _ (ρ : ℕ → ℤ) (elements : (x : ℕ) → elem P (ρ x) ≡ ρ x) (no-zero : NoDivisorZero m ρ) (υ : Assignment) (υ-elements : Elements υ) (gives : Gives m ρ υ) where
+    module _ (ρ : ℕ → ℤ) (elements : (x : ℕ) → elem P (ρ x) ≡ ρ x) (no-zero : NoDivisorZero m ρ) (υ : Assignment) (υ-elements : Elements υ)
+        (gives : Gives m ρ υ) where
       agreed : Pointwise (Agreed (start ρ) (table υ)) (inputs m) (inputIds (numbered m))
       agreed = pointwise-map (λ x i h. ap Value h) (inputs m) (inputIds (numbered m)) gives
 
@@ -206,12 +237,16 @@ module _ (m : Module) (plain : isPlainBody m ≡ true) where
           let g = numberPublics (m .publics) (registered (m .names)) .1 in
           let p = publics-step (m .publics) (registered (m .names)) (registered-well (m .names)) in
           let ds = definitions-step (m .definitions) [] [] [] g (p .grown .well) (empty-scope g) in
-          let k = pointwise-split (Agreed (start ρ) (table υ)) _ (freeInDefinitions [] (m .definitions)) (freeInExpressions (defining (m .definitions) []) (m .expressions)) _ _ (ds .step .free) agreed in
-          let dm = definitions-mean definitions-plain [] [] [] g (start ρ) (table υ) (start ρ) (table υ) (p .grown .well) (empty-scope g) nothing-bound (k .0) in
-          let em = equations-mean equations-plain (defining (m .definitions) []) _ _ _ (Meaning.defined (start ρ) (m .definitions)) (Meaning.defined (table υ) (numbered m .definitions)) (start ρ) (table υ) (ds .step .grown .well) (ds .scope) (dm .means) (k .1) in
+          let k = pointwise-split (Agreed (start ρ) (table υ)) _ (freeInDefinitions [] (m .definitions))
+          (freeInExpressions (defining (m .definitions) []) (m .expressions)) _ _ (ds .step .free) agreed in
+          let dm =
+          definitions-mean definitions-plain [] [] [] g (start ρ) (table υ) (start ρ) (table υ) (p .grown .well) (empty-scope g) nothing-bound (k .0) in
+          let em = equations-mean equations-plain (defining (m .definitions) []) _ _ _ (Meaning.defined (start ρ) (m .definitions))
+          (Meaning.defined (table υ) (numbered m .definitions)) (start ρ) (table υ) (ds .step .grown .well) (ds .scope) (dm .means) (k .1) in
           let dv = definitions-valued definitions-plain (start ρ) (start-canonical ρ elements) (λ x. (ρ x, refl)) (no-zero .0) in
           let ev = equations-valued equations-plain (Meaning.defined (start ρ) (m .definitions)) (dv .canonical) (dv .total) (no-zero .1) in
-          let kp = evaluated-kept bound N beyond υ υ-elements 256 capacity (numbered m) Δ f refl (intrinsic 0 (omega arith)) (intrinsic 2 (omega arith)) (intrinsic 5 (omega arith)) scoped-definitions scoped-equations (dm .valued (dv .valued)) (em .valued ev) e in
+          let kp = evaluated-kept bound N beyond υ υ-elements 256 capacity (numbered m) Δ f refl (intrinsic 0 (omega arith)) (intrinsic 2 (omega arith))
+          (intrinsic 5 (omega arith)) scoped-definitions scoped-equations (dm .valued (dv .valued)) (em .valued ev) e in
           record { in-turn = kp .in-turn; same-sides = kp .same-sides ∙ em .means }
 
       pub says-the-same : SaysTheSame m ρ f υ (workedOut (f .definitions) υ)
@@ -222,9 +257,11 @@ module _ (m : Module) (plain : isPlainBody m ≡ true) where
             inputs-kept = λ i h. worked-keeps (f .definitions) υ i (plain-flat .inputs-undefined i h .1);
             no-zero-divisor = no-zero-in-turn (f .definitions) υ (kept .in-turn);
             definitions-hold = definitions-hold (f .definitions) υ (plain-flat .well-formed .ordered) (kept .in-turn);
-            equations-agree = ((λ h. r .0 (subst (Rules.All Equal-sides) (sym (kept .same-sides)) h)), (λ h. subst (Rules.All Equal-sides) (kept .same-sides) (r .1 h)));
+            equations-agree =
+                ((λ h. r .0 (subst (Rules.All Equal-sides) (sym (kept .same-sides)) h)), (λ h. subst (Rules.All Equal-sides) (kept .same-sides) (r .1 h)));
           }
 
 -- THE THEOREM
 pub plain-modules-agree : PlainModulesAgree
-plain-modules-agree m plain capacity f e = (plain-flat m plain capacity f e, (λ ρ elements no-zero υ υ-elements gives. says-the-same m plain capacity f e ρ elements no-zero υ υ-elements gives))
+plain-modules-agree m plain capacity f e =
+    (plain-flat m plain capacity f e, (λ ρ elements no-zero υ υ-elements gives. says-the-same m plain capacity f e ρ elements no-zero υ υ-elements gives))

@@ -20,11 +20,14 @@ use Rattle.source.specs.Trees.{Pat, Expr}
 use Rattle.flat.specs.Rules.{All}
 use Rattle.flat.specs.Meaning.{update}
 use Rattle.plain.specs.Plain.{isArithmetic}
-use Rattle.plain.specs.Meaning.{Table, write, valueOf, sidesOf, start, NotZeroAt, NotZeroIn, NotZeroInDefinitions, Valued, DefinitionsValued, EquationsValued}
+use Rattle.plain.specs.Meaning.{Table, write, valueOf, sidesOf, start, NotZeroAt, NotZeroIn}
+use Rattle.plain.specs.Meaning.{NotZeroInDefinitions, Valued, DefinitionsValued, EquationsValued}
 use Rattle.plain.specs.Meaning
-use Rattle.plain.proofs.Values.{false-true, on-values, negated-value, through-value, through-back, negated-back, values-back, writing, Canonical, element-path, writing-canonical, value-element}
+use Rattle.plain.proofs.Values.{false-true, on-values, negated-value, through-value, through-back, negated-back}
+use Rattle.plain.proofs.Values.{values-back, writing, Canonical, element-path, writing-canonical, value-element}
 use Rattle.plain.proofs.Working.{divisor-not-zero}
-use Rattle.plain.proofs.Numbered.{Plainly, pConstant, pVariable, pNegate, pBinary, pLet, PlainDefinitions, pNone, pDefinition, PlainEquations, pEnd, pEquation}
+use Rattle.plain.proofs.Numbered.{Plainly, pConstant, pVariable, pNegate, pBinary, pLet}
+use Rattle.plain.proofs.Numbered.{PlainDefinitions, pNone, pDefinition, PlainEquations, pEnd, pEquation}
 
 operation-valued : (o : InfixOp) (x y : ℤ) → isArithmetic o ≡ true → elem P x ≡ x → elem P y ≡ y → NotZeroAt o (Value x) (Value y) → Valued (infixOf P o x y)
 unfolding isArithmetic
@@ -60,15 +63,18 @@ expr-valued (pNegate p) t c h n = let v = expr-valued p t c h n in (_, negated-v
 expr-valued (pBinary {o = o} {a = a} {b = b} ar p q) t c h n =
     let u = expr-valued p t c h (n .0) in
     let v = expr-valued q t c h (n .1) in
-    let w = operation-valued o (u .0) (v .0) ar (value-element a t c (u .0) (u .1)) (value-element b t c (v .0) (v .1)) (subst₂ (NotZeroAt o) (u .1) (v .1) (n .2)) in
+    let w =
+    operation-valued o (u .0) (v .0) ar (value-element a t c (u .0) (u .1)) (value-element b t c (v .0) (v .1)) (subst₂ (NotZeroAt o) (u .1) (v .1) (n .2)) in
     (w .0, (on-values o _ _ (u .0) (v .0) (u .1) (v .1) ∙ w .1))
 expr-valued (pLet {x = x} {v = d} {b = b} p q) t c h n =
     let u = expr-valued p t c h (n .0) in
     let z = u .0 in
-    let v = expr-valued q (writing x (Value z) t) (writing-elements x z t c (value-element d t c z (u .1))) (writing-total x z t h) (subst (λ (o : Answer). NotZeroIn (writing x o t) b) (u .1) (n .1)) in
+    let v = expr-valued q (writing x (Value z) t) (writing-elements x z t c (value-element d t c z (u .1))) (writing-total x z t h)
+    (subst (λ (o : Answer). NotZeroIn (writing x o t) b) (u .1) (n .1)) in
     (v .0, (through-value (valueOf t d) (λ y. valueOf (writing x (Value y) t) b) z (u .1) ∙ v .1))
 
-pub equations-valued : {W : ℕ → Type 0} {es : List Expr} → PlainEquations W es → (t : Table) → Canonical t → Total t → All (NotZeroIn t) es → EquationsValued t es
+pub equations-valued : {W : ℕ → Type 0} {es : List Expr} → PlainEquations W es → (t : Table) → Canonical t → Total t
+    → All (NotZeroIn t) es → EquationsValued t es
 unfolding sidesOf
 equations-valued pEnd t c h n = tt
 equations-valued (pEquation p q more) t c h n = (expr-valued p t c h (n .0 .0), expr-valued q t c h (n .0 .1), equations-valued more t c h (n .1))
@@ -79,7 +85,8 @@ pub record Defined (t : Table) (ds : List (Pat × Expr)) : Type 0 where
   pub canonical : Canonical (Meaning.defined t ds)
   pub total : Total (Meaning.defined t ds)
 
-pub definitions-valued : {W : ℕ → Type 0} {ds : List (Pat × Expr)} → PlainDefinitions W ds → (t : Table) → Canonical t → Total t → NotZeroInDefinitions t ds → Defined t ds
+pub definitions-valued : {W : ℕ → Type 0} {ds : List (Pat × Expr)} → PlainDefinitions W ds → (t : Table) → Canonical t → Total t
+    → NotZeroInDefinitions t ds → Defined t ds
 unfolding Meaning.defined write
 definitions-valued pNone t c h n = record { valued = tt; canonical = c; total = h }
 definitions-valued (pDefinition {x = x} {v = d} {ds = more} p ps) t c h n =

@@ -16,7 +16,8 @@ use Rattle.flat.specs.Meaning.{update, Assignment, Elements, onValues, negated,
 use Rattle.numbering.specs.Numbering.{found, sameText, named, registered}
 use Rattle.eval_trees.specs.Evaluation.{flat, evaluated}
 use Rattle.eval_trees.proofs.Compute.{answerOf}
-use Rattle.plain.specs.Plain.{isArithmetic, isFree, isPlainName, isPlainPattern, isPlainExpr, isEqual, isPlainEquation, arePlainPublics, arePlainDefinitions, arePlainEquations, isPlainBody, isPlain}
+use Rattle.plain.specs.Plain.{isArithmetic, isFree, isPlainName, isPlainPattern, isPlainExpr, isEqual, isPlainEquation}
+use Rattle.plain.specs.Plain.{arePlainPublics, arePlainDefinitions, arePlainEquations, isPlainBody, isPlain}
 use Rattle.plain.specs.Meaning.{write, through, valueOf, sidesOf, sides, start, NoDivisorZero}
 use Rattle.plain.specs.Meaning
 use Rattle.plain.specs.Statements.{Gives, PlainFlat, SaysTheSame}
@@ -30,7 +31,10 @@ source = record {
   publics = 0 ∷ [];
   definitions =
       (variableP 1, binary Divide (constant (pos 1)) (variable 0))
-      ∷ (variableP 0, binary Multiply (variable 0) (letting (variableP 0) (binary Add (variable 0) (constant (pos 1))) (binary Multiply (variable 0) (variable 0))))
+      ∷ (
+        variableP 0,
+        binary Multiply (variable 0) (letting (variableP 0) (binary Add (variable 0) (constant (pos 1))) (binary Multiply (variable 0) (variable 0))),
+      )
       ∷ [];
   expressions = binary Equal (variable 0) (variable 2) ∷ [];
 }
@@ -54,12 +58,15 @@ made = record {
 }
 
 pub is-plain : isPlain source ≡ true
-unfolding isPlain isPlainBody isArithmetic isFree isPlainName isPlainPattern isPlainExpr isEqual isPlainEquation arePlainPublics arePlainDefinitions arePlainEquations found sameText named registered
+unfolding isPlain isPlainBody isArithmetic isFree isPlainName isPlainPattern isPlainExpr isEqual isPlainEquation arePlainPublics arePlainDefinitions
+    arePlainEquations found sameText named registered
 is-plain = refl
 
 -- a match is not plain
-match-not-plain : isPlain (record { names = []; publics = []; definitions = []; expressions = matching (constant (pos 1)) (arm (variableP 0) (variable 0) noArm) ∷ [] }) ≡ false
-unfolding isPlain isPlainBody isArithmetic isFree isPlainName isPlainPattern isPlainExpr isEqual isPlainEquation arePlainPublics arePlainDefinitions arePlainEquations found sameText named registered
+match-not-plain : isPlain
+    (record { names = []; publics = []; definitions = []; expressions = matching (constant (pos 1)) (arm (variableP 0) (variable 0) noArm) ∷ [] }) ≡ false
+unfolding isPlain isPlainBody isArithmetic isFree isPlainName isPlainPattern isPlainExpr isEqual isPlainEquation arePlainPublics arePlainDefinitions
+    arePlainEquations found sameText named registered
 match-not-plain = refl
 
 -- a public that is fresh: pub fresh; x = 1. The test on publics alone turns it down, and the theorem is about it too
@@ -72,15 +79,18 @@ fresh-public = record {
 }
 
 fresh-public-not-plain : isPlain fresh-public ≡ false
-unfolding isPlain isPlainBody isArithmetic isFree isPlainName isPlainPattern isPlainExpr isEqual isPlainEquation arePlainPublics arePlainDefinitions arePlainEquations found sameText named registered
+unfolding isPlain isPlainBody isArithmetic isFree isPlainName isPlainPattern isPlainExpr isEqual isPlainEquation arePlainPublics arePlainDefinitions
+    arePlainEquations found sameText named registered
 fresh-public-not-plain = refl
 
 fresh-public-body : isPlainBody fresh-public ≡ true
-unfolding isPlainBody isArithmetic isFree isPlainName isPlainPattern isPlainExpr isEqual isPlainEquation arePlainDefinitions arePlainEquations found sameText named registered
+unfolding isPlainBody isArithmetic isFree isPlainName isPlainPattern isPlainExpr isEqual isPlainEquation arePlainDefinitions arePlainEquations found
+    sameText named registered
 fresh-public-body = refl
 
 abbrev fresh-public-made : FlatModule
-fresh-public-made = record { next = 10; publics = 0 ∷ []; provers = []; definitions = []; equations = record { left = Flat.variable 9; right = Flat.constant (pos 1) } ∷ [] }
+fresh-public-made =
+    record { next = 10; publics = 0 ∷ []; provers = []; definitions = []; equations = record { left = Flat.variable 9; right = Flat.constant (pos 1) } ∷ [] }
 
 fresh-public-makes : evaluated 65535 (Rattle.numbering.specs.Numbering.numbered fresh-public) ≡ flat fresh-public-made
 unfolding answerOf
@@ -110,5 +120,6 @@ pub shape : PlainFlat source made
 shape = plain-modules-agree source (plain-has-plain-body source is-plain) 65535 made makes .0
 
 -- for every x that is not 0
-pub agrees : (ρ : ℕ → ℤ) → ((x : ℕ) → elem P (ρ x) ≡ ρ x) → NoDivisorZero source ρ → (υ : Assignment) → Elements υ → Gives source ρ υ → SaysTheSame source ρ made υ (workedOut (made .definitions) υ)
+pub agrees : (ρ : ℕ → ℤ) → ((x : ℕ) → elem P (ρ x) ≡ ρ x) → NoDivisorZero source ρ → (υ : Assignment) → Elements υ → Gives source ρ υ
+    → SaysTheSame source ρ made υ (workedOut (made .definitions) υ)
 agrees = plain-modules-agree source (plain-has-plain-body source is-plain) 65535 made makes .1

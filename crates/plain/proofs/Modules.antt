@@ -22,19 +22,22 @@ use Rattle.eval_trees.specs.Environments.{lookUp, insert, extended}
 use Rattle.eval_trees.specs.Forms.{flatOf, opposed}
 use Rattle.eval_trees.specs.State.{State, Outcome, refused, gives, Run, _>>_, refuse, Done, get, setBindings, make}
 use Rattle.eval_trees.specs.Flatten.{flattenEquals, equates}
-use Rattle.eval_trees.specs.Evaluation.{evaluate, step, evaluateInfix, evaluateBinding, evaluateDef, evaluateDefs, evaluateExprs, evaluateModule, begin, flat, refusal, finished, evaluatedBy}
+use Rattle.eval_trees.specs.Evaluation.{evaluate, step, evaluateInfix, evaluateBinding, evaluateDef, evaluateDefs}
+use Rattle.eval_trees.specs.Evaluation.{evaluateExprs, evaluateModule, begin, flat, refusal, finished, evaluatedBy}
 use Rattle.eval_trees.proofs.Runs.{refused-gives, bind-case, then-case, bind-known, return-back, past, got, make-same, Equated, equation-back, set-back}
 use Rattle.eval_trees.proofs.Environments.{insert-same, insert-other}
 use Rattle.plain.specs.Meaning.{Table, write, valueOf, sidesOf, sides, Valued, DefinitionsValued, EquationsValued}
 use Rattle.plain.specs.Meaning
 use Rattle.plain.proofs.Values.{false-true, writing, table, some-path, none-some, flat-value}
-use Rattle.plain.proofs.Terms.{run, RunValued, now, Term, ofConstant, ofVariable, ofNegate, Scoped, term-up, Core, Grew, Unbound, SameBindings, Agree, grew-trans, bindings-trans, unbound-same, kept-value, agree-grew, agree-kept}
+use Rattle.plain.proofs.Terms.{run, RunValued, now, Term, ofConstant, ofVariable, ofNegate, Scoped, term-up, Core, Grew, Unbound}
+use Rattle.plain.proofs.Terms.{SameBindings, Agree, grew-trans, bindings-trans, unbound-same, kept-value, agree-grew, agree-kept}
 use Rattle.plain.proofs.Lets.{Binds, binding-result, joined, key}
 
 -- definitions in order, each in the scope of those before; Δ is the scope behind them
 pub data ScopedDefinitions (B : ℕ → Bool) (k : ℕ) : List ℕ → List (Pat × Expr) → List ℕ → Type 0 where
   noDefinition : {Γ : List ℕ} → ScopedDefinitions B k Γ [] Γ
-  definition : {Γ Δ : List ℕ} {x : ℕ} {v : Expr} {ds : List (Pat × Expr)} → B x ≡ true → Scoped B k Γ v → ScopedDefinitions B k (x ∷ Γ) ds Δ → ScopedDefinitions B k Γ ((variableP x, v) ∷ ds) Δ
+  definition : {Γ Δ : List ℕ} {x : ℕ} {v : Expr} {ds : List (Pat × Expr)} → B x ≡ true → Scoped B k Γ v → ScopedDefinitions B k (x ∷ Γ) ds Δ
+      → ScopedDefinitions B k Γ ((variableP x, v) ∷ ds) Δ
 
 pub data ScopedEquations (B : ℕ → Bool) (k : ℕ) (Γ : List ℕ) : List Expr → Type 0 where
   noEquation : ScopedEquations B k Γ []
@@ -53,33 +56,48 @@ module _ (B : ℕ → Bool) (N : ℕ) (beyond : (x : ℕ) → N ≤ x → B x �
     pub unbound : Unbound B N t u
     pub agree : Agree B N t k Δ τ u
 
-  one-defined : {k : ℕ} {Γ : List ℕ} {τ : Table} (x : ℕ) (v : Expr) (s s1 s2 : State) (env : Env) (z : ℤ) (y : Done) → B x ≡ true → k ≤ s .next → Unbound B N t s → Agree B N t k Γ τ s → valueOf τ v ≡ Value z → Binds B N beyond t elements s s1 x z env → setBindings (extended env (s1 .bindings)) s1 ≡ gives y s2 → Behind k (x ∷ Γ) (writing x (valueOf τ v) τ) s s2
+  one-defined : {k : ℕ} {Γ : List ℕ} {τ : Table} (x : ℕ) (v : Expr) (s s1 s2 : State) (env : Env) (z : ℤ) (y : Done) → B x ≡ true
+      → k ≤ s .next → Unbound B N t s → Agree B N t k Γ τ s → valueOf τ v ≡ Value z → Binds B N beyond t elements s s1 x z env
+      → setBindings (extended env (s1 .bindings)) s1 ≡ gives y s2 → Behind k (x ∷ Γ) (writing x (valueOf τ v) τ) s s2
   unfolding extended
   one-defined {k} {Γ} {τ} x v s s1 s2 env z y bx h f a val b e =
       let w = set-back _ s1 y s2 e in
       let bind : s2 .bindings ≡ insert x (b .term-of) (s1 .bindings) = w .bindings ∙ ap (λ (v : Env). extended v (s1 .bindings)) (b .new-is) in
-      let ge : Grew B N t s1 s2 = record { next = omega (arith, w .next); equations = w .equations; kept = λ i _ _. ap (λ (ds : List Definition). run t ds i) (w .definitions) } in
+      let ge : Grew B N t s1 s2 =
+      record { next = omega (arith, w .next); equations = w .equations; kept = λ i _ _. ap (λ (ds : List Definition). run t ds i) (w .definitions) } in
       let g : Grew B N t s s2 = grew-trans B N t (b .grew) ge in
-      let others : (i : ℕ) → (i ≡ x → ⊥) → lookUp i (s2 .bindings) ≡ lookUp i (s .bindings) = λ i n. ap (lookUp i) bind ∙ insert-other x i (b .term-of) (s1 .bindings) n ∙ b .bindings .at i in
+      let others : (i : ℕ) → (i ≡ x → ⊥) → lookUp i (s2 .bindings) ≡ lookUp i (s .bindings) =
+      λ i n. ap (lookUp i) bind ∙ insert-other x i (b .term-of) (s1 .bindings) n ∙ b .bindings .at i in
       record {
         grew = g;
-        core = record { provers = w .provers ∙ b .core .provers; above = omega (arith, b .core .above, w .next); valued = subst (λ (ds : List Definition). RunValued t ds) (sym (w .definitions)) (b .core .valued) };
+        core = record {
+          provers = w .provers ∙ b .core .provers;
+          above = omega (arith, b .core .above, w .next);
+          valued = subst (λ (ds : List Definition). RunValued t ds) (sym (w .definitions)) (b .core .valued);
+        };
         unbound = record { free = λ i n. others i (λ q. false-true (sym n ∙ ap B q ∙ bx)) ∙ f .free i n };
-        agree = subst (λ (o : Answer). Agree B N t k (x ∷ Γ) (writing x o τ) s2) (sym val) (joined B N beyond t elements x (b .term-of) z bx h g (ap (lookUp x) bind ∙ insert-same x (b .term-of) (s1 .bindings)) others (term-up (ge .next) (b .term)) (kept-value B N t ge (b .term) (b .value)) a);
+        agree =
+            subst (λ (o : Answer). Agree B N t k (x ∷ Γ) (writing x o τ) s2) (sym val)
+            (joined B N beyond t elements x (b .term-of) z bx h g (ap (lookUp x) bind ∙ insert-same x (b .term-of) (s1 .bindings)) others
+            (term-up (ge .next) (b .term)) (kept-value B N t ge (b .term) (b .value)) a);
       }
 
-  definitions-result : {k : ℕ} {Γ Δ : List ℕ} {ds : List (Pat × Expr)} (l : ℕ) (τ : Table) (s u : State) (y : Done) → ScopedDefinitions B k Γ ds Δ → evaluateDefs l ds s ≡ gives y u → k ≤ s .next → Core B N t s → Unbound B N t s → Agree B N t k Γ τ s → DefinitionsValued τ ds → Behind k Δ (Meaning.defined τ ds) s u
+  definitions-result : {k : ℕ} {Γ Δ : List ℕ} {ds : List (Pat × Expr)} (l : ℕ) (τ : Table) (s u : State) (y : Done) → ScopedDefinitions B k Γ ds Δ
+      → evaluateDefs l ds s ≡ gives y u → k ≤ s .next → Core B N t s → Unbound B N t s → Agree B N t k Γ τ s → DefinitionsValued τ ds
+      → Behind k Δ (Meaning.defined τ ds) s u
   unfolding evaluateDefs evaluateDef Meaning.defined write
   definitions-result {k} {Γ} l τ s u y noDefinition e h c f a w =
       let g = return-back tt y s u e in
-      subst (λ (u : State). Behind k Γ τ s u) (g .state) (record { grew = record { next = le-refl _; equations = refl; kept = λ _ _ _. refl }; core = c; unbound = f; agree = a })
+      subst (λ (u : State). Behind k Γ τ s u) (g .state)
+      (record { grew = record { next = le-refl _; equations = refl; kept = λ _ _ _. refl }; core = c; unbound = f; agree = a })
   definitions-result {k} {Γ} {Δ} l τ s u y (definition {x = x} {v = v} {ds = ds} bx p more) e h c f a w =
       then-case (evaluateDef l (variableP x, v)) _ s y u e λ o s2 whole e2.
       bind-case (evaluateBinding (evaluate l) (variableP x) v empty) _ s o s2 whole λ env s1 first e1.
       let second = bind-known get (λ s. setBindings (extended env (s .bindings))) s1 s1 s1 o s2 (got s1) e1 in
       let b = binding-result B N beyond t elements (evaluate l) (key B N beyond t elements l) Γ k τ x v s s1 env (w .0 .0) bx p first h c f a (w .0 .1) in
       let one = one-defined x v s s1 s2 env (w .0 .0) o bx h f a (w .0 .1) b second in
-      let rest = definitions-result l (writing x (valueOf τ v) τ) s2 u y more e2 (le-trans h (one .grew .next)) (one .core) (one .unbound) (one .agree) (w .1) in
+      let rest =
+      definitions-result l (writing x (valueOf τ v) τ) s2 u y more e2 (le-trans h (one .grew .next)) (one .core) (one .unbound) (one .agree) (w .1) in
       record { grew = grew-trans B N t (one .grew) (rest .grew); core = rest .core; unbound = rest .unbound; agree = rest .agree }
 
   -- the flat expression of a term: its ids are free, and what they mean stays
@@ -118,21 +136,32 @@ module _ (B : ℕ → Bool) (N : ℕ) (beyond : (x : ℕ) → N ≤ x → B x �
   Matched u [] [] = Unit {0}
   Matched u [] (p ∷ ps) = ⊥
   Matched u (e ∷ es) [] = ⊥
-  Matched u (e ∷ es) (p ∷ ps) = Every (Free (u .next)) (e .left) × Every (Free (u .next)) (e .right) × (value (run t (u .definitions)) (e .left) ≡ p .0) × (value (run t (u .definitions)) (e .right) ≡ p .1) × Matched u es ps
+  Matched u (e ∷ es) (p ∷ ps) =
+      Every (Free (u .next)) (e .left)
+      × Every (Free (u .next)) (e .right)
+      × (value (run t (u .definitions)) (e .left) ≡ p .0)
+      × (value (run t (u .definitions)) (e .right) ≡ p .1)
+      × Matched u es ps
 
   matched-kept : (s u : State) → s .next ≤ u .next → Keeping s u → (es : List Equation) (ps : List (Answer × Answer)) → Matched s es ps → Matched u es ps
   matched-kept s u n g [] [] m = tt
   matched-kept s u n g [] (p ∷ ps) m = m
   matched-kept s u n g (e ∷ es) [] m = m
-  matched-kept s u n g (e ∷ es) (p ∷ ps) m =
-      (free-up _ _ n (e .left) (m .0), free-up _ _ n (e .right) (m .1), free-value s u g (e .left) (m .0) ∙ m .2, free-value s u g (e .right) (m .1) ∙ m .3, matched-kept s u n g es ps (m .4))
+  matched-kept s u n g (e ∷ es) (p ∷ ps) m = (
+    free-up _ _ n (e .left) (m .0),
+    free-up _ _ n (e .right) (m .1),
+    free-value s u g (e .left) (m .0) ∙ m .2,
+    free-value s u g (e .right) (m .1) ∙ m .3,
+    matched-kept s u n g es ps (m .4),
+  )
 
   matched-sides : (u : State) (es : List Equation) (ps : List (Answer × Answer)) → Matched u es ps → flatSides (run t (u .definitions)) es ≡ ps
   unfolding flatSides
   matched-sides u [] [] m = refl
   matched-sides u [] (p ∷ ps) m = absurd m
   matched-sides u (e ∷ es) [] m = absurd m
-  matched-sides u (e ∷ es) (p ∷ ps) m = ap₂ (λ (q : Answer × Answer) (qs : List (Answer × Answer)). q ∷ qs) (λ i. (m .2 i, m .3 i)) (matched-sides u es ps (m .4))
+  matched-sides u (e ∷ es) (p ∷ ps) m =
+      ap₂ (λ (q : Answer × Answer) (qs : List (Answer × Answer)). q ∷ qs) (λ i. (m .2 i, m .3 i)) (matched-sides u es ps (m .4))
 
   -- an equation of terms is pushed
   equates-term : {n : ℕ} {a : Expr} (b : Expr) (s : State) → Term B n a → flattenEquals a b s ≡ equates a b s
@@ -141,8 +170,19 @@ module _ (B : ℕ → Bool) (N : ℕ) (beyond : (x : ℕ) → N ≤ x → B x �
   equates-term b s (ofVariable f l) = refl
   equates-term b s (ofNegate a) = refl
 
-  equated-by : {a b : Expr} {s s1 u : State} → Equated a b s s1 → u .next ≡ s1 .next → u .bindings ≡ s1 .bindings → u .provers ≡ s1 .provers → u .definitions ≡ s1 .definitions → u .equations ≡ s1 .equations → Equated a b s u
-  equated-by q n b p d e = record { left-tree = q .left-tree; right-tree = q .right-tree; left-is = q .left-is; right-is = q .right-is; next = n ∙ q .next; bindings = b ∙ q .bindings; provers = p ∙ q .provers; definitions = d ∙ q .definitions; equations = e ∙ q .equations }
+  equated-by : {a b : Expr} {s s1 u : State} → Equated a b s s1 → u .next ≡ s1 .next → u .bindings ≡ s1 .bindings → u .provers ≡ s1 .provers
+      → u .definitions ≡ s1 .definitions → u .equations ≡ s1 .equations → Equated a b s u
+  equated-by q n b p d e = record {
+    left-tree = q .left-tree;
+    right-tree = q .right-tree;
+    left-is = q .left-is;
+    right-is = q .right-is;
+    next = n ∙ q .next;
+    bindings = b ∙ q .bindings;
+    provers = p ∙ q .provers;
+    definitions = d ∙ q .definitions;
+    equations = e ∙ q .equations;
+  }
 
   equate-back : (a b : Expr) (s : State) (y : Done) (u : State) → equates a b s ≡ gives y u → Equated a b s u
   unfolding equates
@@ -162,7 +202,8 @@ module _ (B : ℕ → Bool) (N : ℕ) (beyond : (x : ℕ) → N ≤ x → B x �
         equations = q .equations ∙ ap (λ (l : List Equation). record { left = q .left-tree; right = q .right-tree } ∷ l) (m .equations);
       }
 
-  pub equal-back : (ev : Expr → Run Expr) {n : ℕ} (a b : Expr) (s u : State) (v : Expr) → Term B n a → evaluateInfix ev Equal a b s ≡ gives v u → Equated a b s u
+  pub equal-back : (ev : Expr → Run Expr) {n : ℕ} (a b : Expr) (s u : State) (v : Expr) → Term B n a
+      → evaluateInfix ev Equal a b s ≡ gives v u → Equated a b s u
   unfolding evaluateInfix
   equal-back ev a b s u v ta e =
       then-case (flattenEquals a b) _ s v u e λ o s1 first e1.
@@ -180,7 +221,9 @@ module _ (B : ℕ → Bool) (N : ℕ) (beyond : (x : ℕ) → N ≤ x → B x �
     pub agree : Agree B N t k Γ τ u
     pub matched : Matched u (u .equations) ps
 
-  pushed-equation : {k : ℕ} {Γ : List ℕ} {τ : Table} (s s2 u : State) (a b : Expr) (x y : Answer) (ps : List (Answer × Answer)) → k ≤ s .next → Grew B N t s s2 → SameBindings B N t s s2 → Core B N t s2 → Unbound B N t s → Agree B N t k Γ τ s → Term B (s2 .next) a → Term B (s2 .next) b → valueOf (now t s2) a ≡ x → valueOf (now t s2) b ≡ y → Equated a b s2 u → Matched s (s .equations) ps → Evaluated k Γ τ ((x, y) ∷ ps) s u
+  pushed-equation : {k : ℕ} {Γ : List ℕ} {τ : Table} (s s2 u : State) (a b : Expr) (x y : Answer) (ps : List (Answer × Answer)) → k ≤ s .next → Grew B N t s s2
+      → SameBindings B N t s s2 → Core B N t s2 → Unbound B N t s → Agree B N t k Γ τ s → Term B (s2 .next) a → Term B (s2 .next) b → valueOf (now t s2) a ≡ x
+      → valueOf (now t s2) b ≡ y → Equated a b s2 u → Matched s (s .equations) ps → Evaluated k Γ τ ((x, y) ∷ ps) s u
   pushed-equation {k} {Γ} {τ} s s2 u a b x y ps h g sb c f ag ta tb va vb q m =
       let n : s .next ≤ u .next = omega (arith, g .next, q .next) in
       let n2 : s2 .next ≤ u .next = omega (arith, q .next) in
@@ -191,32 +234,52 @@ module _ (B : ℕ → Bool) (N : ℕ) (beyond : (x : ℕ) → N ≤ x → B x �
       let fb = term-free (q .right-tree) tb (q .right-is) in
       record {
         next = n;
-        core = record { provers = q .provers ∙ c .provers; above = omega (arith, c .above, q .next); valued = subst (λ (ds : List Definition). RunValued t ds) (sym (q .definitions)) (c .valued) };
+        core = record {
+          provers = q .provers ∙ c .provers;
+          above = omega (arith, c .above, q .next);
+          valued = subst (λ (ds : List Definition). RunValued t ds) (sym (q .definitions)) (c .valued);
+        };
         unbound = unbound-same B N t bi f;
         agree = agree-kept B N t h n kept bi ag;
-        matched = subst (λ (es : List Equation). Matched u es ((x, y) ∷ ps)) (sym (q .equations ∙ ap (λ (l : List Equation). record { left = q .left-tree; right = q .right-tree } ∷ l) (g .equations)))
-            (free-up _ _ n2 (q .left-tree) fa, free-up _ _ n2 (q .right-tree) fb, free-value s2 u same (q .left-tree) fa ∙ flat-value _ a (q .left-tree) (q .left-is) ∙ va, free-value s2 u same (q .right-tree) fb ∙ flat-value _ b (q .right-tree) (q .right-is) ∙ vb, matched-kept s u n kept (s .equations) ps m);
+        matched =
+            subst (λ (es : List Equation). Matched u es ((x, y) ∷ ps))
+            (sym (q .equations ∙ ap (λ (l : List Equation). record { left = q .left-tree; right = q .right-tree } ∷ l) (g .equations))) (
+              free-up _ _ n2 (q .left-tree) fa,
+              free-up _ _ n2 (q .right-tree) fb,
+              free-value s2 u same (q .left-tree) fa ∙ flat-value _ a (q .left-tree) (q .left-is) ∙ va,
+              free-value s2 u same (q .right-tree) fb ∙ flat-value _ b (q .right-tree) (q .right-is) ∙ vb,
+              matched-kept s u n kept (s .equations) ps m,
+            );
       }
 
-  equation-result : {k : ℕ} {Γ : List ℕ} (l : ℕ) (τ : Table) (a b : Expr) (s u : State) (v : Expr) (ps : List (Answer × Answer)) → Scoped B k Γ a → Scoped B k Γ b → evaluate l (binary Equal a b) s ≡ gives v u → k ≤ s .next → Core B N t s → Unbound B N t s → Agree B N t k Γ τ s → Valued (valueOf τ a) → Valued (valueOf τ b) → Matched s (s .equations) ps → Evaluated k Γ τ ((valueOf τ a, valueOf τ b) ∷ ps) s u
+  equation-result : {k : ℕ} {Γ : List ℕ} (l : ℕ) (τ : Table) (a b : Expr) (s u : State) (v : Expr) (ps : List (Answer × Answer)) → Scoped B k Γ a
+      → Scoped B k Γ b → evaluate l (binary Equal a b) s ≡ gives v u → k ≤ s .next → Core B N t s → Unbound B N t s → Agree B N t k Γ τ s
+      → Valued (valueOf τ a) → Valued (valueOf τ b) → Matched s (s .equations) ps → Evaluated k Γ τ ((valueOf τ a, valueOf τ b) ∷ ps) s u
   unfolding evaluate step refuse
   equation-result zero τ a b s u v ps p q e h c f ag va vb m = absurd (refused-gives 19 v u e)
   equation-result {k} {Γ} (suc l) τ a b s u v ps p q e h c f ag va vb m =
       bind-case (evaluate l a) _ s v u e λ w s1 first e1.
       bind-case (evaluate l b) _ s1 v u e1 λ w′ s2 second e2.
       let r = key B N beyond t elements l Γ k τ a s s1 w (va .0) p first h c f ag (va .1) in
-      let r′ = key B N beyond t elements l Γ k τ b s1 s2 w′ (vb .0) q second (le-trans h (r .grew .next)) (r .core) (unbound-same B N t (r .bindings) f) (agree-grew B N t h (r .grew) (r .bindings) ag) (vb .1) in
-      pushed-equation s s2 u w w′ (valueOf τ a) (valueOf τ b) ps h (grew-trans B N t (r .grew) (r′ .grew)) (bindings-trans B N t (r .bindings) (r′ .bindings)) (r′ .core) f ag (term-up (r′ .grew .next) (r .term)) (r′ .term) (kept-value B N t (r′ .grew) (r .term) (r .value) ∙ sym (va .1)) (r′ .value ∙ sym (vb .1))
+      let r′ = key B N beyond t elements l Γ k τ b s1 s2 w′ (vb .0) q second (le-trans h (r .grew .next)) (r .core) (unbound-same B N t (r .bindings) f)
+      (agree-grew B N t h (r .grew) (r .bindings) ag) (vb .1) in
+      pushed-equation s s2 u w w′ (valueOf τ a) (valueOf τ b) ps h (grew-trans B N t (r .grew) (r′ .grew)) (bindings-trans B N t (r .bindings) (r′ .bindings))
+      (r′ .core) f ag (term-up (r′ .grew .next) (r .term)) (r′ .term) (kept-value B N t (r′ .grew) (r .term) (r .value) ∙ sym (va .1))
+      (r′ .value ∙ sym (vb .1))
       (equal-back (evaluate l) w w′ s2 u v (r .term) e2) m
 
-  equations-result : {k : ℕ} {Γ : List ℕ} {es : List Expr} (l : ℕ) (τ : Table) (s u : State) (y : Done) (ps : List (Answer × Answer)) → ScopedEquations B k Γ es → evaluateExprs l es s ≡ gives y u → k ≤ s .next → Core B N t s → Unbound B N t s → Agree B N t k Γ τ s → EquationsValued τ es → Matched s (s .equations) ps → Evaluated k Γ τ (reverseAux (sides τ es) ps) s u
+  equations-result : {k : ℕ} {Γ : List ℕ} {es : List Expr} (l : ℕ) (τ : Table) (s u : State) (y : Done) (ps : List (Answer × Answer))
+      → ScopedEquations B k Γ es → evaluateExprs l es s ≡ gives y u → k ≤ s .next → Core B N t s → Unbound B N t s → Agree B N t k Γ τ s → EquationsValued τ es
+      → Matched s (s .equations) ps → Evaluated k Γ τ (reverseAux (sides τ es) ps) s u
   unfolding evaluateExprs sides sidesOf
   equations-result {k} {Γ} l τ s u y ps noEquation e h c f a w m =
-      subst (λ (u : State). Evaluated k Γ τ ps s u) (return-back tt y s u e .state) (record { next = le-refl _; core = c; unbound = f; agree = a; matched = m })
+      subst (λ (u : State). Evaluated k Γ τ ps s u) (return-back tt y s u e .state)
+      (record { next = le-refl _; core = c; unbound = f; agree = a; matched = m })
   equations-result {k} {Γ} l τ s u y ps (equation {a = d} {b = d′} p q more) e h c f a w m =
       then-case (evaluate l (binary Equal d d′)) _ s y u e λ o s1 first e1.
       let one = equation-result l τ d d′ s s1 o ps p q first h c f a (w .0) (w .1) m in
-      let rest = equations-result l τ s1 u y ((valueOf τ d, valueOf τ d′) ∷ ps) more e1 (le-trans h (one .next)) (one .core) (one .unbound) (one .agree) (w .2) (one .matched) in
+      let rest = equations-result l τ s1 u y ((valueOf τ d, valueOf τ d′) ∷ ps) more e1 (le-trans h (one .next)) (one .core) (one .unbound) (one .agree)
+      (w .2) (one .matched) in
       record { next = le-trans (one .next) (rest .next); core = rest .core; unbound = rest .unbound; agree = rest .agree; matched = rest .matched }
 
 -- the definitions in their order
@@ -277,12 +340,17 @@ module _ (B : ℕ → Bool) (N : ℕ) (beyond : (x : ℕ) → N ≤ x → B x �
     pub in-turn : InTurnValued t (f .definitions)
     pub same-sides : flatSides (workedOut (f .definitions) t) (f .equations) ≡ sides τ es
 
-  finished-kept : (τ : Table) (es : List Expr) (m : Numbered) (s u : State) (k : ℕ) (Γ : List ℕ) (f : FlatModule) (y : Done) → Evaluated B N beyond t elements k Γ τ (reverse (sides τ es)) s u → finished m (gives y u) ≡ flat f → Kept τ es f
+  finished-kept : (τ : Table) (es : List Expr) (m : Numbered) (s u : State) (k : ℕ) (Γ : List ℕ) (f : FlatModule) (y : Done)
+      → Evaluated B N beyond t elements k Γ τ (reverse (sides τ es)) s u → finished m (gives y u) ≡ flat f → Kept τ es f
   unfolding finished flatSides
   finished-kept τ es m s u k Γ f y q e = subst (Kept τ es) (flat-path _ f e) (record {
     no-provers = q .core .provers;
     in-turn = in-turn-valued t (u .definitions) (q .core .valued);
-    same-sides = ap (λ (w : Assignment). flatSides w (reverse (u .equations))) (worked-reverse t (u .definitions)) ∙ flat-sides-aux (run t (u .definitions)) (u .equations) [] ∙ ap reverse (matched-sides B N beyond t elements u (u .equations) (reverse (sides τ es)) (q .matched)) ∙ reverse-back (sides τ es);
+    same-sides =
+        ap (λ (w : Assignment). flatSides w (reverse (u .equations))) (worked-reverse t (u .definitions))
+        ∙ flat-sides-aux (run t (u .definitions)) (u .equations) []
+        ∙ ap reverse (matched-sides B N beyond t elements u (u .equations) (reverse (sides τ es)) (q .matched))
+        ∙ reverse-back (sides τ es);
   })
 
   not-bound : (x i : ℕ) → B i ≡ true → B x ≡ false → eqb x i ≡ false
@@ -293,13 +361,18 @@ module _ (B : ℕ → Bool) (N : ℕ) (beyond : (x : ℕ) → N ≤ x → B x �
   begins capacity m b0 b2 b5 = record { free = λ x b. simp (not-bound x 0 b0 b, not-bound x 2 b2 b, not-bound x 5 b5 b) }
 
   -- a plain numbered module that is accepted
-  pub evaluated-kept : (l capacity : ℕ) (m : Numbered) (Δ : List ℕ) (f : FlatModule) → m .next ≡ N → B 0 ≡ true → B 2 ≡ true → B 5 ≡ true → ScopedDefinitions B N [] (m .definitions) Δ → ScopedEquations B N Δ (m .expressions) → DefinitionsValued (table t) (m .definitions) → EquationsValued (Meaning.defined (table t) (m .definitions)) (m .expressions) → evaluatedBy l capacity m ≡ flat f → Kept (Meaning.defined (table t) (m .definitions)) (m .expressions) f
+  pub evaluated-kept : (l capacity : ℕ) (m : Numbered) (Δ : List ℕ) (f : FlatModule) → m .next ≡ N → B 0 ≡ true → B 2 ≡ true → B 5 ≡ true
+      → ScopedDefinitions B N [] (m .definitions) Δ → ScopedEquations B N Δ (m .expressions) → DefinitionsValued (table t) (m .definitions)
+      → EquationsValued (Meaning.defined (table t) (m .definitions)) (m .expressions) → evaluatedBy l capacity m ≡ flat f
+      → Kept (Meaning.defined (table t) (m .definitions)) (m .expressions) f
   unfolding evaluatedBy evaluateModule begin member run
   evaluated-kept l capacity m Δ f nx b0 b2 b5 sd se vd ve e =
       let g = gave m ((evaluateDefs l (m .definitions) >> evaluateExprs l (m .expressions)) (begin capacity m)) f e in
       then-case (evaluateDefs l (m .definitions)) (evaluateExprs l (m .expressions)) (begin capacity m) (g .unit-of) (g .state) (g .is) λ y s1 first e1.
       let start : Core B N t (begin capacity m) = record { provers = refl; above = omega (arith, nx); valued = tt } in
       let own : Agree B N t N [] (table t) (begin capacity m) = record { inside = λ x i. absurd (false-true i); free = λ x b l. refl } in
-      let d = definitions-result B N beyond t elements l (table t) (begin capacity m) s1 y sd first (omega (arith, nx)) start (begins capacity m b0 b2 b5) own vd in
-      let q = equations-result B N beyond t elements l (Meaning.defined (table t) (m .definitions)) s1 (g .state) (g .unit-of) [] se e1 (d .core .above) (d .core) (d .unbound) (d .agree) ve (subst (λ (es : List Equation). Matched B N beyond t elements s1 es []) (sym (d .grew .equations)) tt) in
+      let d =
+      definitions-result B N beyond t elements l (table t) (begin capacity m) s1 y sd first (omega (arith, nx)) start (begins capacity m b0 b2 b5) own vd in
+      let q = equations-result B N beyond t elements l (Meaning.defined (table t) (m .definitions)) s1 (g .state) (g .unit-of) [] se e1 (d .core .above)
+      (d .core) (d .unbound) (d .agree) ve (subst (λ (es : List Equation). Matched B N beyond t elements s1 es []) (sym (d .grew .equations)) tt) in
       finished-kept (Meaning.defined (table t) (m .definitions)) (m .expressions) m s1 (g .state) N Δ f (g .unit-of) q (sym (ap (finished m) (g .is)) ∙ e)

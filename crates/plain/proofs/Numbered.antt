@@ -13,15 +13,18 @@ use Rattle.field.specs.declared.Answer.{Answer}
 use Rattle.field.specs.declared.Answer.the-variants.{Value}
 use Rattle.field.specs.declared.InfixOp.{InfixOp}
 use Rattle.field.specs.declared.InfixOp.the-variants.{Divide, DivideZ, Multiply, Add, Subtract, Equal, Exponentiate, IntDivide, Modulo}
-use Rattle.source.specs.Trees.{Pat, unitP, nilP, asP, productP, consP, variableP, constantP, Expr, unit, nil, sequence, product, cons, binary, negate, application, constant, variable, function, intrinsic, letting, matching}
+use Rattle.source.specs.Trees.{Pat, unitP, nilP, asP, productP, consP, variableP, constantP, Expr, unit, nil, sequence, product}
+use Rattle.source.specs.Trees.{cons, binary, negate, application, constant, variable, function, intrinsic, letting, matching}
 use Rattle.flat.specs.Meaning.{onValues, negated}
-use Rattle.numbering.specs.Numbering.{Ids, found, Names, _>>=_, return, generateId, chosen, numberVariable, numberPatternVariables, numberExprVariables, numberDefVariables, numberDefinitions, numberExpressions}
+use Rattle.numbering.specs.Numbering.{Ids, found, Names, _>>=_, return, generateId, chosen, numberVariable, numberPatternVariables}
+use Rattle.numbering.specs.Numbering.{numberExprVariables, numberDefVariables, numberDefinitions, numberExpressions}
 use Rattle.numbering.specs.Inputs.{member, binding, freeVariables, freeInDefinitions, defining, freeInExpressions}
 use Rattle.numbering.specs.Statements.{patternIds, binders, definitionBinders, expressionBinders, All, Pointwise}
 use Rattle.numbering.proofs.Lists.{all-append, all-split, Rises}
 use Rattle.numbering.proofs.Names.{entry-case, Well}
 use Rattle.numbering.proofs.Facts.{has, Scope, scope-up, pattern-step, expr-step}
-use Rattle.plain.specs.Plain.{isArithmetic, isFree, isPlainName, isPlainPattern, isPlainExpr, isEqual, isPlainEquation, arePlainDefinitions, arePlainEquations}
+use Rattle.plain.specs.Plain.{isArithmetic, isFree, isPlainName, isPlainPattern, isPlainExpr}
+use Rattle.plain.specs.Plain.{isEqual, isPlainEquation, arePlainDefinitions, arePlainEquations}
 use Rattle.plain.specs.Meaning.{Table, write, through, valueOf, sidesOf, sides, DefinitionsValued, EquationsValued}
 use Rattle.plain.specs.Meaning
 use Rattle.plain.proofs.Values.{false-true, writing, update-same, update-other}
@@ -88,7 +91,8 @@ module _ (R : Ids) where
   plain-expr (intrinsic w k ps env) h = absurd (false-true h)
   plain-expr (matching v arms) h = absurd (false-true h)
 
-  plain-definition : (p : Pat) (v : Expr) (ds : List (Pat × Expr)) → isPlainPattern R p ≡ true → Plainly Named v → PlainDefinitions Named ds → PlainDefinitions Named ((p, v) ∷ ds)
+  plain-definition : (p : Pat) (v : Expr) (ds : List (Pat × Expr)) → isPlainPattern R p ≡ true → Plainly Named v → PlainDefinitions Named ds
+      → PlainDefinitions Named ((p, v) ∷ ds)
   unfolding isPlainPattern
   plain-definition (variableP x) v ds h p q = pDefinition p q
   plain-definition unitP v ds h p q = absurd (false-true h)
@@ -106,7 +110,8 @@ module _ (R : Ids) where
       let l = both-true (isPlainExpr R (d .1)) (arePlainDefinitions R ds) (k .1) in
       plain-definition (d .0) (d .1) ds (k .0) (plain-expr (d .1) (l .0)) (plain-definitions ds (l .1))
 
-  plain-equation : (o : InfixOp) (a b : Expr) (es : List Expr) → isEqual o ≡ true → Plainly Named a → Plainly Named b → PlainEquations Named es → PlainEquations Named (binary o a b ∷ es)
+  plain-equation : (o : InfixOp) (a b : Expr) (es : List Expr) → isEqual o ≡ true → Plainly Named a → Plainly Named b → PlainEquations Named es
+      → PlainEquations Named (binary o a b ∷ es)
   unfolding isEqual
   plain-equation Equal a b es h p q r = pEquation p q r
   plain-equation Divide a b es h p q r = absurd (false-true h)
@@ -150,7 +155,8 @@ pub rises-split : (lo : ℕ) (xs ys : List ℕ) (hi : ℕ) → Rises lo (xs ++ y
 rises-split lo [] ys hi h = (lo, le-refl lo, h)
 rises-split lo (x ∷ xs) ys hi h = let k = rises-split (suc x) xs ys hi (h .1) in (k .0, (h .0, k .1), k .2)
 
-pub pointwise-split : (R S : ℕ → ℕ → Type 0) (xs us ys vs : List ℕ) → Pointwise S xs ys → Pointwise R (xs ++ us) (ys ++ vs) → Pointwise R xs ys × Pointwise R us vs
+pub pointwise-split : (R S : ℕ → ℕ → Type 0) (xs us ys vs : List ℕ) → Pointwise S xs ys → Pointwise R (xs ++ us) (ys ++ vs)
+    → Pointwise R xs ys × Pointwise R us vs
 pointwise-split R S [] us [] vs a h = (tt, h)
 pointwise-split R S [] us (y ∷ ys) vs a h = absurd a
 pointwise-split R S (x ∷ xs) us [] vs a h = absurd a
@@ -172,13 +178,15 @@ free-named {W} Γ (pLet {x = x} {v = v} {b = b} p q) = all-append W (freeVariabl
 pub free-definitions : {W : ℕ → Type 0} {ds : List (Pat × Expr)} (Γ : List ℕ) → PlainDefinitions W ds → All W (freeInDefinitions Γ ds)
 unfolding freeInDefinitions binding
 free-definitions Γ pNone = tt
-free-definitions {W} Γ (pDefinition {x = x} {v = v} {ds = ds} p more) = all-append W (freeVariables Γ v) (freeInDefinitions (x ∷ Γ) ds) (free-named Γ p) (free-definitions (x ∷ Γ) more)
+free-definitions {W} Γ (pDefinition {x = x} {v = v} {ds = ds} p more) =
+    all-append W (freeVariables Γ v) (freeInDefinitions (x ∷ Γ) ds) (free-named Γ p) (free-definitions (x ∷ Γ) more)
 
 pub free-equations : {W : ℕ → Type 0} {es : List Expr} (Γ : List ℕ) → PlainEquations W es → All W (freeInExpressions Γ es)
 unfolding freeInExpressions freeVariables
 free-equations Γ pEnd = tt
 free-equations {W} Γ (pEquation {a = a} {b = b} {es = es} p q more) =
-    all-append W (freeVariables Γ a ++ freeVariables Γ b) (freeInExpressions Γ es) (all-append W (freeVariables Γ a) (freeVariables Γ b) (free-named Γ p) (free-named Γ q)) (free-equations Γ more)
+    all-append W (freeVariables Γ a ++ freeVariables Γ b) (freeInExpressions Γ es)
+    (all-append W (freeVariables Γ a) (freeVariables Γ b) (free-named Γ p) (free-named Γ q)) (free-equations Γ more)
 
 -- numbering keeps the forms
 abbrev pub Any : ℕ → Type 0
@@ -192,12 +200,14 @@ numbered-expr (pNegate p) locals g = pNegate (numbered-expr p locals g)
 numbered-expr (pBinary h p q) locals g = pBinary h (numbered-expr p locals g) (numbered-expr q locals _)
 numbered-expr (pLet p q) locals g = pLet (numbered-expr p locals g) (numbered-expr q _ _)
 
-pub numbered-definitions : {W : ℕ → Type 0} {ds : List (Pat × Expr)} → PlainDefinitions W ds → (locals : Ids) (g : Names) → PlainDefinitions Any (numberDefinitions ds locals g .0 .0)
+pub numbered-definitions : {W : ℕ → Type 0} {ds : List (Pat × Expr)} → PlainDefinitions W ds → (locals : Ids) (g : Names)
+    → PlainDefinitions Any (numberDefinitions ds locals g .0 .0)
 unfolding numberDefinitions numberDefVariables numberPatternVariables generateId _>>=_ return
 numbered-definitions pNone locals g = pNone
 numbered-definitions (pDefinition p more) locals g = pDefinition (numbered-expr p locals g) (numbered-definitions more _ _)
 
-pub numbered-equations : {W : ℕ → Type 0} {es : List Expr} → PlainEquations W es → (locals : Ids) (g : Names) → PlainEquations Any (numberExpressions es locals g .0)
+pub numbered-equations : {W : ℕ → Type 0} {es : List Expr} → PlainEquations W es → (locals : Ids) (g : Names)
+    → PlainEquations Any (numberExpressions es locals g .0)
 unfolding numberExpressions numberExprVariables _>>=_ return
 numbered-equations pEnd locals g = pEnd
 numbered-equations (pEquation p q more) locals g = pEquation (numbered-expr p locals g) (numbered-expr q locals _) (numbered-equations more locals _)
@@ -225,7 +235,8 @@ module _ (B : ℕ → Bool) (k : ℕ) (I : ℕ → Type 0) (inputs : (i : ℕ) �
       let w = all-split Bound (binders c) (x ∷ binders d) b in
       sLet (w .1 .0) (expr-scoped Γ p (u .0) (w .0)) (expr-scoped (x ∷ Γ) q (u .1) (w .1 .1))
 
-  pub definitions-scoped : {ds : List (Pat × Expr)} (Γ : List ℕ) → PlainDefinitions Any ds → All I (freeInDefinitions Γ ds) → All Bound (definitionBinders ds) → ScopedDefinitions B k Γ ds (defining ds Γ)
+  pub definitions-scoped : {ds : List (Pat × Expr)} (Γ : List ℕ) → PlainDefinitions Any ds → All I (freeInDefinitions Γ ds) → All Bound (definitionBinders ds)
+      → ScopedDefinitions B k Γ ds (defining ds Γ)
   unfolding freeInDefinitions definitionBinders defining binding patternIds
   definitions-scoped Γ pNone f b = noDefinition
   definitions-scoped Γ (pDefinition {x = x} {v = c} {ds = ds} p more) f b =
@@ -233,7 +244,8 @@ module _ (B : ℕ → Bool) (k : ℕ) (I : ℕ → Type 0) (inputs : (i : ℕ) �
       let w = all-split Bound (binders c) (x ∷ definitionBinders ds) b in
       definition (w .1 .0) (expr-scoped Γ p (u .0) (w .0)) (definitions-scoped (x ∷ Γ) more (u .1) (w .1 .1))
 
-  pub equations-scoped : {es : List Expr} (Γ : List ℕ) → PlainEquations Any es → All I (freeInExpressions Γ es) → All Bound (expressionBinders es) → ScopedEquations B k Γ es
+  pub equations-scoped : {es : List Expr} (Γ : List ℕ) → PlainEquations Any es → All I (freeInExpressions Γ es) → All Bound (expressionBinders es)
+      → ScopedEquations B k Γ es
   unfolding freeInExpressions expressionBinders freeVariables binders
   equations-scoped Γ pEnd f b = noEquation
   equations-scoped Γ (pEquation {a = c} {b = d} {es = es} p q more) f b =
@@ -278,7 +290,8 @@ pub record Means (Γ Δ : List ℕ) (locals : Ids) (T τ T₀ τ₀ : Table) : T
   pub ids : (i : ℕ) → member i Δ ≡ false → τ i ≡ τ₀ i
 
 -- one name joins
-module _ {Γ Δ : List ℕ} {locals : Ids} {g : Names} {T τ T₀ τ₀ : Table} (x : ℕ) (v w : Answer) (same : v ≡ w) (s : Scope Γ Δ locals g) (m : Means Γ Δ locals T τ T₀ τ₀) where
+module _ {Γ Δ : List ℕ} {locals : Ids} {g : Names} {T τ T₀ τ₀ : Table} (x : ℕ) (v w : Answer) (same : v ≡ w) (s : Scope Γ Δ locals g)
+    (m : Means Γ Δ locals T τ T₀ τ₀) where
   unbound : (y z : ℕ) (l : List ℕ) (t t₀ : Table) (o : Answer) → (member y l ≡ false → t y ≡ t₀ y) → member y (z ∷ l) ≡ false → writing z o t y ≡ t₀ y
   unfolding member
   unbound y z l t t₀ o f h = go (eqb y z) refl h
@@ -292,7 +305,8 @@ module _ {Γ Δ : List ℕ} {locals : Ids} {g : Names} {T τ T₀ τ₀ : Table}
   means-join = record {
     local = λ y i e. entry-case (eqb y x) _ _ i e
         (λ c q. ap (writing (g .next) v τ) (sym q) ∙ update-same τ (g .next) v ∙ same ∙ sym (ap (writing x w T) (eqb-true y x c) ∙ update-same T x w))
-        (λ c q. update-other τ (g .next) v i (λ z. omega (arith, s .bound i (s .here y i q) .0)) ∙ m .local y i q ∙ sym (update-other T x w y (eqb-false y x c)));
+        (λ c q.
+        update-other τ (g .next) v i (λ z. omega (arith, s .bound i (s .here y i q) .0)) ∙ m .local y i q ∙ sym (update-other T x w y (eqb-false y x c)));
     names = λ y h. unbound y x Γ T T₀ w (m .names y) h;
     ids = λ i h. unbound i (g .next) Δ τ τ₀ v (m .ids i) h;
   }
@@ -301,7 +315,9 @@ abbrev pub Agreed : Table → Table → ℕ → ℕ → Type 0
 Agreed T τ x i = τ i ≡ T x
 
 -- a variable
-variable-means : (x : ℕ) {Γ Δ : List ℕ} {locals : Ids} {g : Names} {T τ T₀ τ₀ : Table} → Scope Γ Δ locals g → Means Γ Δ locals T τ T₀ τ₀ → (o q : Option ℕ) → found x locals ≡ o → Pointwise (Agreed T₀ τ₀) (cond (member x Γ) [] (x ∷ [])) (cond (member (chosen x o q g .0) Δ) [] (chosen x o q g .0 ∷ [])) → τ (chosen x o q g .0) ≡ T x
+variable-means : (x : ℕ) {Γ Δ : List ℕ} {locals : Ids} {g : Names} {T τ T₀ τ₀ : Table} → Scope Γ Δ locals g → Means Γ Δ locals T τ T₀ τ₀ → (o q : Option ℕ)
+    → found x locals ≡ o → Pointwise (Agreed T₀ τ₀) (cond (member x Γ) [] (x ∷ [])) (cond (member (chosen x o q g .0) Δ) [] (chosen x o q g .0 ∷ []))
+    → τ (chosen x o q g .0) ≡ T x
 unfolding chosen
 variable-means x s m (some i) q e h = m .local x i e
 variable-means x {Γ} {Δ} {locals} {g} {T} {τ} {T₀} {τ₀} s m none (some i) e h = go (member x Γ) (member i Δ) (s .names x ∙ ap has e) refl refl h
@@ -312,13 +328,16 @@ variable-means x {Γ} {Δ} {locals} {g} {T} {τ} {T₀} {τ₀} s m none (some i
     go false false n p q h = m .ids i q ∙ h .0 ∙ sym (m .names x n)
 variable-means x {Γ} {Δ} {locals} {g} {T} {τ} {T₀} {τ₀} s m none none e h = go (member x Γ) (member (g .next) Δ) (s .names x ∙ ap has e) refl refl h
   where
-    go : (c d : Bool) → member x Γ ≡ false → member x Γ ≡ c → member (g .next) Δ ≡ d → Pointwise (Agreed T₀ τ₀) (cond c [] (x ∷ [])) (cond d [] (g .next ∷ [])) → τ (g .next) ≡ T x
+    go : (c d : Bool) → member x Γ ≡ false → member x Γ ≡ c → member (g .next) Δ ≡ d
+        → Pointwise (Agreed T₀ τ₀) (cond c [] (x ∷ [])) (cond d [] (g .next ∷ [])) → τ (g .next) ≡ T x
     go true d n p q h = absurd (false-true (sym n ∙ p))
     go false true n p q h = absurd h
     go false false n p q h = m .ids (g .next) q ∙ h .0 ∙ sym (m .names x n)
 
 -- a value, by ids and by names
-expr-means : {W : ℕ → Type 0} {e : Expr} → Plainly W e → (Γ Δ : List ℕ) (locals : Ids) (g : Names) (T τ T₀ τ₀ : Table) → Well g → Scope Γ Δ locals g → Means Γ Δ locals T τ T₀ τ₀ → Pointwise (Agreed T₀ τ₀) (freeVariables Γ e) (freeVariables Δ (numberExprVariables e locals g .0)) → valueOf τ (numberExprVariables e locals g .0) ≡ valueOf T e
+expr-means : {W : ℕ → Type 0} {e : Expr} → Plainly W e → (Γ Δ : List ℕ) (locals : Ids) (g : Names) (T τ T₀ τ₀ : Table) → Well g → Scope Γ Δ locals g
+    → Means Γ Δ locals T τ T₀ τ₀ → Pointwise (Agreed T₀ τ₀) (freeVariables Γ e) (freeVariables Δ (numberExprVariables e locals g .0))
+    → valueOf τ (numberExprVariables e locals g .0) ≡ valueOf T e
 unfolding numberExprVariables numberVariable numberPatternVariables generateId _>>=_ return freeVariables binding valueOf write
 expr-means pConstant Γ Δ locals g T τ T₀ τ₀ w s m h = refl
 expr-means (pVariable {x = x} v) Γ Δ locals g T τ T₀ τ₀ w s m h = variable-means x s m (found x locals) (found x (g .globals)) refl h
@@ -326,21 +345,26 @@ expr-means (pNegate p) Γ Δ locals g T τ T₀ τ₀ w s m h = ap negated (expr
 expr-means (pBinary {o = o} {a = a} {b = b} ar p q) Γ Δ locals g T τ T₀ τ₀ w s m h =
     let r = expr-step a Γ Δ locals g w s in
     let k = pointwise-split (Agreed T₀ τ₀) _ (freeVariables Γ a) (freeVariables Γ b) _ _ (r .free) h in
-    ap₂ (onValues o) (expr-means p Γ Δ locals g T τ T₀ τ₀ w s m (k .0)) (expr-means q Γ Δ locals _ T τ T₀ τ₀ (r .grown .well) (scope-up (r .grown .extends) s) m (k .1))
+    ap₂ (onValues o) (expr-means p Γ Δ locals g T τ T₀ τ₀ w s m (k .0))
+    (expr-means q Γ Δ locals _ T τ T₀ τ₀ (r .grown .well) (scope-up (r .grown .extends) s) m (k .1))
 expr-means (pLet {x = x} {v = a} {b = b} p q) Γ Δ locals g T τ T₀ τ₀ w s m h =
     let r = expr-step a Γ Δ locals g w s in
     let s₁ = scope-up (r .grown .extends) s in
     let n = pattern-step (variableP x) Γ Δ locals _ (r .grown .well) s₁ in
     let k = pointwise-split (Agreed T₀ τ₀) _ (freeVariables Γ a) (freeVariables (x ∷ Γ) b) _ _ (r .free) h in
     ap₂ through (expr-means p Γ Δ locals g T τ T₀ τ₀ w s m (k .0))
-    (fun-ext (λ z. expr-means q (x ∷ Γ) _ _ _ (writing x (Value z) T) _ T₀ τ₀ (n .step .grown .well) (n .scope) (means-join x (Value z) (Value z) refl s₁ m) (k .1)))
+    (fun-ext (λ z.
+    expr-means q (x ∷ Γ) _ _ _ (writing x (Value z) T) _ T₀ τ₀ (n .step .grown .well) (n .scope) (means-join x (Value z) (Value z) refl s₁ m) (k .1)))
 
 -- definitions, in order: they mean the same, and behind them the tables agree
 pub record DefinitionsMean (ds : List (Pat × Expr)) (Γ Δ : List ℕ) (locals : Ids) (g : Names) (T τ T₀ τ₀ : Table) : Type 0 where
-  pub means : Means (defining ds Γ) (defining (numberDefinitions ds locals g .0 .0) Δ) (numberDefinitions ds locals g .0 .1) (Meaning.defined T ds) (Meaning.defined τ (numberDefinitions ds locals g .0 .0)) T₀ τ₀
+  pub means : Means (defining ds Γ) (defining (numberDefinitions ds locals g .0 .0) Δ) (numberDefinitions ds locals g .0 .1) (Meaning.defined T ds)
+      (Meaning.defined τ (numberDefinitions ds locals g .0 .0)) T₀ τ₀
   pub valued : DefinitionsValued T ds → DefinitionsValued τ (numberDefinitions ds locals g .0 .0)
 
-pub definitions-mean : {W : ℕ → Type 0} {ds : List (Pat × Expr)} → PlainDefinitions W ds → (Γ Δ : List ℕ) (locals : Ids) (g : Names) (T τ T₀ τ₀ : Table) → Well g → Scope Γ Δ locals g → Means Γ Δ locals T τ T₀ τ₀ → Pointwise (Agreed T₀ τ₀) (freeInDefinitions Γ ds) (freeInDefinitions Δ (numberDefinitions ds locals g .0 .0)) → DefinitionsMean ds Γ Δ locals g T τ T₀ τ₀
+pub definitions-mean : {W : ℕ → Type 0} {ds : List (Pat × Expr)} → PlainDefinitions W ds
+    → (Γ Δ : List ℕ) (locals : Ids) (g : Names) (T τ T₀ τ₀ : Table) → Well g → Scope Γ Δ locals g → Means Γ Δ locals T τ T₀ τ₀
+    → Pointwise (Agreed T₀ τ₀) (freeInDefinitions Γ ds) (freeInDefinitions Δ (numberDefinitions ds locals g .0 .0)) → DefinitionsMean ds Γ Δ locals g T τ T₀ τ₀
 unfolding numberDefinitions numberDefVariables numberPatternVariables generateId _>>=_ return freeInDefinitions defining binding Meaning.defined write
 definitions-mean pNone Γ Δ locals g T τ T₀ τ₀ w s m h = record { means = m; valued = λ x. x }
 definitions-mean (pDefinition {x = x} {v = a} {ds = ds} p more) Γ Δ locals g T τ T₀ τ₀ w s m h =
@@ -349,14 +373,17 @@ definitions-mean (pDefinition {x = x} {v = a} {ds = ds} p more) Γ Δ locals g T
     let n = pattern-step (variableP x) Γ Δ locals _ (r .grown .well) s₁ in
     let k = pointwise-split (Agreed T₀ τ₀) _ (freeVariables Γ a) (freeInDefinitions (x ∷ Γ) ds) _ _ (r .free) h in
     let same = expr-means p Γ Δ locals g T τ T₀ τ₀ w s m (k .0) in
-    let rest = definitions-mean more (x ∷ Γ) _ _ _ (writing x (valueOf T a) T) _ T₀ τ₀ (n .step .grown .well) (n .scope) (means-join x (valueOf τ (numberExprVariables a locals g .0)) (valueOf T a) same s₁ m) (k .1) in
+    let rest = definitions-mean more (x ∷ Γ) _ _ _ (writing x (valueOf T a) T) _ T₀ τ₀ (n .step .grown .well) (n .scope)
+    (means-join x (valueOf τ (numberExprVariables a locals g .0)) (valueOf T a) same s₁ m) (k .1) in
     record { means = rest .means; valued = λ q. (((q .0 .0), (same ∙ q .0 .1)), rest .valued (q .1)) }
 
 pub record EquationsMean (es : List Expr) (locals : Ids) (g : Names) (T τ : Table) : Type 0 where
   pub means : sides τ (numberExpressions es locals g .0) ≡ sides T es
   pub valued : EquationsValued T es → EquationsValued τ (numberExpressions es locals g .0)
 
-pub equations-mean : {W : ℕ → Type 0} {es : List Expr} → PlainEquations W es → (Γ Δ : List ℕ) (locals : Ids) (g : Names) (T τ T₀ τ₀ : Table) → Well g → Scope Γ Δ locals g → Means Γ Δ locals T τ T₀ τ₀ → Pointwise (Agreed T₀ τ₀) (freeInExpressions Γ es) (freeInExpressions Δ (numberExpressions es locals g .0)) → EquationsMean es locals g T τ
+pub equations-mean : {W : ℕ → Type 0} {es : List Expr} → PlainEquations W es
+    → (Γ Δ : List ℕ) (locals : Ids) (g : Names) (T τ T₀ τ₀ : Table) → Well g → Scope Γ Δ locals g → Means Γ Δ locals T τ T₀ τ₀
+    → Pointwise (Agreed T₀ τ₀) (freeInExpressions Γ es) (freeInExpressions Δ (numberExpressions es locals g .0)) → EquationsMean es locals g T τ
 unfolding numberExpressions numberExprVariables _>>=_ return freeInExpressions freeVariables sides sidesOf
 equations-mean pEnd Γ Δ locals g T τ T₀ τ₀ w s m h = record { means = refl; valued = λ x. x }
 equations-mean (pEquation {a = a} {b = b} {es = es} p q more) Γ Δ locals g T τ T₀ τ₀ w s m h =

@@ -16,7 +16,8 @@ use Rattle.numbering.proofs.Lists.{all-split}
 use Rattle.plain.specs.Meaning.{Table, write, through, valueOf, sidesOf, sides, NotZeroAt, NotZeroIn, NotZeroInDefinitions}
 use Rattle.plain.specs.Meaning
 use Rattle.plain.proofs.Values.{writing}
-use Rattle.plain.proofs.Numbered.{Plainly, pConstant, pVariable, pNegate, pBinary, pLet, PlainDefinitions, pNone, pDefinition, PlainEquations, pEnd, pEquation}
+use Rattle.plain.proofs.Numbered.{Plainly, pConstant, pVariable, pNegate, pBinary, pLet}
+use Rattle.plain.proofs.Numbered.{PlainDefinitions, pNone, pDefinition, PlainEquations, pEnd, pEquation}
 
 -- Q holds of the free names
 module _ (Q : ℕ → Type 0) where

@@ -47,7 +47,9 @@ now t s = table (run t (s .definitions))
 flat-element : (σ : Assignment) → Elements σ → (f : Flat) (z : ℤ) → value σ f ≡ Value z → elem P z ≡ z
 unfolding value
 flat-element σ c (Flat.infixed o a b) z h = let w = values-back o (value σ a) (value σ b) z h in infix-element P P-prime o (w .x) (w .y) z (w .result)
-flat-element σ c (Flat.negate a) z h = let w = negated-back (value σ a) z h in element-path _ z (value-path _ z (w .result)) (opposite-element P P-prime (w .at))
+flat-element σ c (Flat.negate a) z h =
+    let w = negated-back (value σ a) z h in
+    element-path _ z (value-path _ z (w .result)) (opposite-element P P-prime (w .at))
 flat-element σ c (Flat.constant n) z h = element-path _ z (value-path _ z h) (elem-elem P P-above n)
 flat-element σ c (Flat.variable v) z h = element-path _ z (value-path _ z h) (c v)
 
@@ -105,7 +107,8 @@ module _ {B : ℕ → Bool} where
   term-value σ υ h (ofVariable {x = x} f l) = ap Value (h x f l)
   term-value σ υ h (ofNegate a) = ap negated (term-value σ υ h a)
 
-  pub infix-scoped : {n : ℕ} {Γ : List ℕ} {a b : Expr} (o : InfixOp) → isArithmetic o ≡ true → Scoped B n Γ a → Scoped B n Γ b → Scoped B n Γ (infixOp o a b .0)
+  pub infix-scoped : {n : ℕ} {Γ : List ℕ} {a b : Expr} (o : InfixOp) → isArithmetic o ≡ true → Scoped B n Γ a → Scoped B n Γ b
+      → Scoped B n Γ (infixOp o a b .0)
   infix-scoped {n} {Γ} {a} {b} o h p q = infix-case (Scoped B n Γ) o a b p q sConstant (sBinary h p q)
 
 -- What evaluation keeps and promises. N is the first id drawn in evaluation, t has the inputs' elements by id
@@ -147,16 +150,25 @@ module _ (B : ℕ → Bool) (N : ℕ) (t : Assignment) where
     pub free : (x : ℕ) → B x ≡ false → x < k → now t s x ≡ τ x
 
   pub grew-trans : {s u w : State} → Grew s u → Grew u w → Grew s w
-  grew-trans f g = record { next = le-trans (f .next) (g .next); equations = g .equations ∙ f .equations; kept = λ x b l. g .kept x b (le-trans l (f .next)) ∙ f .kept x b l }
+  grew-trans f g = record {
+    next = le-trans (f .next) (g .next);
+    equations = g .equations ∙ f .equations;
+    kept = λ x b l. g .kept x b (le-trans l (f .next)) ∙ f .kept x b l;
+  }
 
   pub bindings-trans : {s u w : State} → SameBindings s u → SameBindings u w → SameBindings s w
   bindings-trans f g = record { at = λ x. g .at x ∙ f .at x }
 
   pub same-grew : {s u : State} → Same s u → Grew s u
-  same-grew {s} {u} h = record { next = omega (arith, h .next); equations = h .equations; kept = λ x b l. ap (λ (ds : List Definition). run t ds x) (h .definitions) }
+  same-grew {s} {u} h =
+      record { next = omega (arith, h .next); equations = h .equations; kept = λ x b l. ap (λ (ds : List Definition). run t ds x) (h .definitions) }
 
   pub same-core : {s u : State} → Same s u → Core s → Core u
-  same-core {s} {u} h c = record { provers = h .provers ∙ c .provers; above = omega (arith, c .above, h .next); valued = subst (λ (ds : List Definition). RunValued t ds) (sym (h .definitions)) (c .valued) }
+  same-core {s} {u} h c = record {
+    provers = h .provers ∙ c .provers;
+    above = omega (arith, c .above, h .next);
+    valued = subst (λ (ds : List Definition). RunValued t ds) (sym (h .definitions)) (c .valued);
+  }
 
   pub same-bindings : {s u : State} → Same s u → SameBindings s u
   same-bindings h = record { at = λ x. ap (lookUp x) (h .bindings) }
@@ -168,9 +180,17 @@ module _ (B : ℕ → Bool) (N : ℕ) (t : Assignment) where
   pub kept-value : {s u : State} {e : Expr} {z : ℤ} → Grew s u → Term B (s .next) e → valueOf (now t s) e ≡ Value z → valueOf (now t u) e ≡ Value z
   kept-value {s} {u} g m v = term-value (run t (s .definitions)) (run t (u .definitions)) (g .kept) m ∙ v
 
-  pub agree-kept : {k : ℕ} {Γ : List ℕ} {τ : Table} {s u : State} → k ≤ s .next → s .next ≤ u .next → ((x : ℕ) → B x ≡ false → x < s .next → run t (u .definitions) x ≡ run t (s .definitions) x) → SameBindings s u → Agree k Γ τ s → Agree k Γ τ u
+  pub agree-kept : {k : ℕ} {Γ : List ℕ} {τ : Table} {s u : State} → k ≤ s .next → s .next ≤ u .next
+      → ((x : ℕ) → B x ≡ false → x < s .next → run t (u .definitions) x ≡ run t (s .definitions) x) → SameBindings s u → Agree k Γ τ s → Agree k Γ τ u
   agree-kept {k} {Γ} {τ} {s} {u} h n g b a = record {
-    inside = λ x i. let w = a .inside x i in record { by = w .by; found = b .at x ∙ w .found; term = term-up n (w .term); value = term-value (run t (s .definitions)) (run t (u .definitions)) g (w .term) ∙ w .value };
+    inside = λ x i.
+        let w = a .inside x i in
+        record {
+          by = w .by;
+          found = b .at x ∙ w .found;
+          term = term-up n (w .term);
+          value = term-value (run t (s .definitions)) (run t (u .definitions)) g (w .term) ∙ w .value;
+        };
     free = λ x f l. ap Value (g x f (le-trans l h)) ∙ a .free x f l;
   }
 
@@ -179,7 +199,13 @@ module _ (B : ℕ → Bool) (N : ℕ) (t : Assignment) where
 
   -- nothing happened but counting
   pub counted : {s u : State} {v : Expr} {z : ℤ} → Same s u → Core s → Term B (s .next) v → valueOf (now t s) v ≡ Value z → Result s u v z
-  counted {s} {u} h c m e = record { grew = same-grew h; core = same-core h c; bindings = same-bindings h; term = term-up (same-grew h .next) m; value = kept-value (same-grew h) m e }
+  counted {s} {u} h c m e = record {
+    grew = same-grew h;
+    core = same-core h c;
+    bindings = same-bindings h;
+    term = term-up (same-grew h .next) m;
+    value = kept-value (same-grew h) m e;
+  }
 
   -- one after the other
   pub following : {s u w : State} {v : Expr} {z : ℤ} → Grew s u → SameBindings s u → Result u w v z → Result s w v z

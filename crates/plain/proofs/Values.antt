@@ -17,8 +17,10 @@ use Rattle.field.specs.Operations.{opposite, infixOf}
 use Rattle.field.proofs.Primality.{P-prime, P-above}
 use Rattle.field.proofs.Elements.{elem-elem}
 use Rattle.field.proofs.Answers.{value-path, nothing-value, infix-element, opposite-element}
-use Rattle.field.proofs.Units.{one-element, zero-element, one-multiply, multiply-one, zero-multiply, multiply-zero, divide-one, divide-z-one, zero-divide-z, int-divide-one, modulo-one, zero-add, add-zero, subtract-zero}
-use Rattle.source.specs.Trees.{Pat, unitP, nilP, asP, productP, consP, variableP, constantP, Expr, unit, nil, sequence, product, cons, binary, negate, application, constant, variable, function, intrinsic, letting, matching}
+use Rattle.field.proofs.Units.{one-element, zero-element, one-multiply, multiply-one, zero-multiply, multiply-zero, divide-one}
+use Rattle.field.proofs.Units.{divide-z-one, zero-divide-z, int-divide-one, modulo-one, zero-add, add-zero, subtract-zero}
+use Rattle.source.specs.Trees.{Pat, unitP, nilP, asP, productP, consP, variableP, constantP, Expr, unit, nil, sequence, product}
+use Rattle.source.specs.Trees.{cons, binary, negate, application, constant, variable, function, intrinsic, letting, matching}
 use Rattle.flat.specs.Trees.{Flat}
 use Rattle.flat.specs.Meaning.{update, Assignment, onValues, negated, value}
 use Rattle.eval_trees.specs.Forms.{onConstant, flatOf, joined, opposed}
@@ -113,7 +115,8 @@ value-element (negate a) t c z h = let w = negated-back (valueOf t a) z h in ele
 value-element (binary o a b) t c z h = let w = values-back o (valueOf t a) (valueOf t b) z h in infix-element P P-prime o (w .x) (w .y) z (w .result)
 value-element (letting p v b) t c z h =
     let w = through-back (valueOf t v) (λ y. valueOf (write p (Value y) t) b) z h in
-    value-element b (write p (Value (w .at)) t) (write-canonical p (Value (w .at)) t c (λ y e. element-path _ y (value-path _ y e) (value-element v t c (w .at) (w .arg)))) z (w .result)
+    value-element b (write p (Value (w .at)) t)
+    (write-canonical p (Value (w .at)) t c (λ y e. element-path _ y (value-path _ y e) (value-element v t c (w .at) (w .arg)))) z (w .result)
 value-element unit t c z h = absurd (nothing-value z h)
 value-element nil t c z h = absurd (nothing-value z h)
 value-element (sequence is) t c z h = absurd (nothing-value z h)
@@ -134,13 +137,15 @@ some-path a b e = cc
 pub none-some : (a : Flat) → none ≡ some a → ⊥
 none-some a e = let o : _≡_ {A = ℕ} 0 1 = cc in omega arith
 
-joined-value : (σ : Assignment) (o : InfixOp) (a b : Option Flat) (u v : Answer) (f : Flat) → ((g : Flat) → a ≡ some g → value σ g ≡ u) → ((g : Flat) → b ≡ some g → value σ g ≡ v) → joined o a b ≡ some f → value σ f ≡ onValues o u v
+joined-value : (σ : Assignment) (o : InfixOp) (a b : Option Flat) (u v : Answer) (f : Flat) → ((g : Flat) → a ≡ some g → value σ g ≡ u)
+    → ((g : Flat) → b ≡ some g → value σ g ≡ v) → joined o a b ≡ some f → value σ f ≡ onValues o u v
 unfolding joined value
 joined-value σ o none b u v f p q e = absurd (none-some f e)
 joined-value σ o (some a) none u v f p q e = absurd (none-some f e)
 joined-value σ o (some a) (some b) u v f p q e = sym (ap (value σ) (some-path _ f e)) ∙ ap₂ (onValues o) (p a refl) (q b refl)
 
-opposed-value : (σ : Assignment) (a : Option Flat) (u : Answer) (f : Flat) → ((g : Flat) → a ≡ some g → value σ g ≡ u) → opposed a ≡ some f → value σ f ≡ negated u
+opposed-value : (σ : Assignment) (a : Option Flat) (u : Answer) (f : Flat) → ((g : Flat) → a ≡ some g → value σ g ≡ u)
+    → opposed a ≡ some f → value σ f ≡ negated u
 unfolding opposed value
 opposed-value σ none u f p e = absurd (none-some f e)
 opposed-value σ (some a) u f p e = sym (ap (value σ) (some-path _ f e)) ∙ ap negated (p a refl)
@@ -195,7 +200,8 @@ pub cond-case : (c : Bool) (u v : Expr × ℕ) (Q : Expr → Type 0) → (c ≡ 
 cond-case true u v Q f g = f refl
 cond-case false u v Q f g = g refl
 
-pub binary-value : (t : Table) (o : InfixOp) (a b : Expr) (x y z : ℤ) → valueOf t a ≡ Value x → valueOf t b ≡ Value y → infixOf P o x y ≡ Value z → valueOf t (binary o a b) ≡ Value z
+pub binary-value : (t : Table) (o : InfixOp) (a b : Expr) (x y z : ℤ) → valueOf t a ≡ Value x → valueOf t b ≡ Value y → infixOf P o x y ≡ Value z
+    → valueOf t (binary o a b) ≡ Value z
 unfolding valueOf
 binary-value t o a b x y z p q e = on-values o (valueOf t a) (valueOf t b) x y p q ∙ e
 

@@ -17,7 +17,8 @@ use Rattle.field.proofs.Primality.{P-prime}
 use Rattle.field.proofs.Values.{zero-value, divide-valued, int-divide-valued, modulo-valued}
 use Rattle.flat.specs.Trees.{Flat, Definition, Equation, defines}
 use Rattle.flat.specs.Rules.{All, Every, Ordered}
-use Rattle.flat.specs.Meaning.{Assignment, Elements, onValues, negated, value, DefinitionHolds, EquationHolds, DivisorNotZero, NoZeroDivisor, orZero, workedOut, NoZeroInTurn}
+use Rattle.flat.specs.Meaning.{Assignment, Elements, onValues, negated, value, DefinitionHolds}
+use Rattle.flat.specs.Meaning.{EquationHolds, DivisorNotZero, NoZeroDivisor, orZero, workedOut, NoZeroInTurn}
 use Rattle.plain.specs.Meaning.{Equal-sides}
 use Rattle.plain.proofs.Values.{false-true, negated-back, values-back, update-same, update-other}
 use Rattle.plain.proofs.Terms.{update-elements}
@@ -83,8 +84,11 @@ divisor-of o v y e h = subst (DivisorNotZero o) (sym e) h
 no-zero : (σ : Assignment) (f : Flat) (z : ℤ) → value σ f ≡ Value z → NoZeroDivisor σ f
 unfolding value
 no-zero σ (Flat.infixed o a b) z h =
-    let w = values-back o (value σ a) (value σ b) z h in
-    (no-zero σ a (w .x) (w .first), no-zero σ b (w .y) (w .second), divisor-of o (value σ b) (w .y) (w .second) (divisor-not-zero o (w .x) (w .y) z (w .result)))
+    let w = values-back o (value σ a) (value σ b) z h in (
+      no-zero σ a (w .x) (w .first),
+      no-zero σ b (w .y) (w .second),
+      divisor-of o (value σ b) (w .y) (w .second) (divisor-not-zero o (w .x) (w .y) z (w .result)),
+    )
 no-zero σ (Flat.negate a) z h = let w = negated-back (value σ a) z h in no-zero σ a (w .at) (w .arg)
 no-zero σ (Flat.constant c) z h = tt
 no-zero σ (Flat.variable v) z h = tt

@@ -9,7 +9,8 @@ use Rattle.field.specs.declared.InfixOp.{InfixOp}
 use Rattle.field.specs.declared.InfixOp.the-variants.{Divide, DivideZ, Multiply, Add, Subtract, Equal, Exponentiate, IntDivide, Modulo}
 use Rattle.field.specs.Prime.{P}
 use Rattle.field.specs.Element.{elem}
-use Rattle.source.specs.Trees.{Pat, Expr, unit, nil, sequence, product, cons, binary, negate, application, constant, variable, function, intrinsic, letting, matching, Module}
+use Rattle.source.specs.Trees.{Pat, Expr, unit, nil, sequence, product, cons, binary, negate, application}
+use Rattle.source.specs.Trees.{constant, variable, function, intrinsic, letting, matching, Module}
 use Rattle.source.specs.Forms.{onInfix, onVariableP}
 use Rattle.flat.specs.Rules.{All}
 use Rattle.flat.specs.Meaning.{update, onValues, negated, DivisorNotZero}

@@ -6,7 +6,8 @@ use mathlib.Core.Option.{Option, none, some}
 use Prim.Native.Nat.{ℕ}
 use Rattle.field.specs.declared.InfixOp.{InfixOp}
 use Rattle.field.specs.declared.InfixOp.the-variants.{Divide, DivideZ, Multiply, Add, Subtract, Equal, Exponentiate, IntDivide, Modulo}
-use Rattle.source.specs.Trees.{Pat, Expr, unit, nil, sequence, product, cons, binary, negate, application, constant, variable, function, intrinsic, letting, matching, Module}
+use Rattle.source.specs.Trees.{Pat, Expr, unit, nil, sequence, product, cons, binary, negate, application}
+use Rattle.source.specs.Trees.{constant, variable, function, intrinsic, letting, matching, Module}
 use Rattle.source.specs.Forms.{onInfix, onVariableP}
 use Rattle.numbering.specs.Numbering.{Ids, found, registered}
 

@@ -54,7 +54,8 @@ PlainModulesAgree =
     isPlainBody m ≡ true →
     (capacity : ℕ) (f : FlatModule) →
     evaluated capacity (numbered m) ≡ flat f →
-    PlainFlat m f × ((ρ : ℕ → ℤ) → ((x : ℕ) → elem P (ρ x) ≡ ρ x) → NoDivisorZero m ρ → (υ : Assignment) → Elements υ → Gives m ρ υ → SaysTheSame m ρ f υ (workedOut (f .definitions) υ))
+    PlainFlat m f × ((ρ : ℕ → ℤ) → ((x : ℕ) → elem P (ρ x) ≡ ρ x) → NoDivisorZero m ρ → (υ : Assignment) → Elements υ → Gives m ρ υ →
+    SaysTheSame m ρ f υ (workedOut (f .definitions) υ))
 
 -- A PLAIN MODULE HAS A PLAIN BODY, which is all that the theorems ask
 abbrev pub PlainHasPlainBody : Type 0

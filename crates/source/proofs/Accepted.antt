@@ -8,7 +8,8 @@ use lib.ListN.{length}
 use lib.Dec.{leb, ltb, eqb}
 use borrow.Author.Tests.{leb-true}
 use Rattle.source.specs.Trees.{Module}
-use Rattle.source.specs.Layout.{counted, listed, names, publics, definitions, expressions, nodes, publicsAt, definitionsAt, expressionsAt, nodesAt, textAt}
+use Rattle.source.specs.Layout.{counted, listed, names, publics, definitions, expressions}
+use Rattle.source.specs.Layout.{nodes, publicsAt, definitionsAt, expressionsAt, nodesAt, textAt}
 use Rattle.source.specs.Names.{namesFit, namesDiffer}
 use Rattle.source.specs.Nodes.{nodesFit, publicsFit, definitionsFit, expressionsFit}
 use Rattle.source.specs.Record.{Read, shaped, usedOnce, moduleOf, unless, sourceOf}

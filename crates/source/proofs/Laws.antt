@@ -45,7 +45,8 @@ alike a b = alike-at (eqb a b) a b refl
 pub every-fails : (n k : ℕ) (p : ℕ → Bool) → k < n → p k ≡ false → false ≡ every n p
 unfolding every
 every-fails zero k p l e = absurd (omega arith)
-every-fails (suc n) k p l e = ⊎-elim (λ (h : k < n). rw (← every-fails n k p h e)) (λ (h : n ≤ k). let q : k ≡ n = omega arith in rw (← q, e, and-false)) (split k n)
+every-fails (suc n) k p l e =
+    ⊎-elim (λ (h : k < n). rw (← every-fails n k p h e)) (λ (h : n ≤ k). let q : k ≡ n = omega arith in rw (← q, e, and-false)) (split k n)
 
 -- one more index passes
 pub every-more : (k : ℕ) (p : ℕ → Bool) → every k p ≡ true → p k ≡ true → every (k + 1) p ≡ true
@@ -64,7 +65,9 @@ every-none p = refl
 pub every-at : (n k : ℕ) (p : ℕ → Bool) → every n p ≡ true → k < n → p k ≡ true
 unfolding every
 every-at zero k p h l = absurd (omega arith)
-every-at (suc n) k p h l = ⊎-elim (λ (g : k < n). every-at n k p (and-left (every n p) (p n) h) g) (λ (g : n ≤ k). let e : k ≡ n = omega arith in rw e (and-right (every n p) (p n) h)) (split k n)
+every-at (suc n) k p h l =
+    ⊎-elim (λ (g : k < n). every-at n k p (and-left (every n p) (p n) h) g)
+    (λ (g : n ≤ k). let e : k ≡ n = omega arith in rw e (and-right (every n p) (p n) h)) (split k n)
 
 pub every-same : (n : ℕ) (p q : ℕ → Bool) → ((k : ℕ) → k < n → p k ≡ q k) → every n p ≡ every n q
 unfolding every

@@ -47,7 +47,8 @@ module _ (b : List ℕ) (from : ℕ) where
       printed-fails n (n - 1) (omega arith) (rw z)
 
   pub printed-within : (n : ℕ) → 1 ≤ n → printed b from n ≡ true → from + n ≤ length b
-  printed-within n p h = ⊎-elim (λ (l : length b < from + n). absurd (not-both (sym (printed-past n p l)) h)) (λ (l : from + n ≤ length b). l) (split (length b) (from + n))
+  printed-within n p h =
+      ⊎-elim (λ (l : length b < from + n). absurd (not-both (sym (printed-past n p l)) h)) (λ (l : from + n ≤ length b). l) (split (length b) (from + n))
 
 -- ---- a name
 
@@ -113,7 +114,8 @@ pub names-fail : (b : List ℕ) (text n k : ℕ) {t : Bool} → k < n → t ≡ 
 unfolding namesFit
 names-fail b text n k l e f = and-no _ _ (sym (every-fails n k (nameFits b text) l (sym e ∙ f)))
 
-pub names-end : (b : List ℕ) (text n k : ℕ) {end : ℕ} → every k (nameFits b text) ≡ true → end ≡ endOf b k → k ≡ n → eqb (length b) (text + end) ≡ namesFit b text n
+pub names-end : (b : List ℕ) (text n k : ℕ) {end : ℕ} → every k (nameFits b text) ≡ true → end ≡ endOf b k → k ≡ n
+    → eqb (length b) (text + end) ≡ namesFit b text n
 unfolding namesFit
 names-end b text n k {end} h e q = rw (← q, ← e, h) (eqb-sym (length b) (text + end))
 
@@ -145,7 +147,8 @@ module _ (b : List ℕ) (text j k : ℕ) {x y : ℕ} (e1 : x ≡ nameEntry b j .
 pub new-none : (b : List ℕ) (text k : ℕ) → every 0 (λ j. not (sameName b text j k)) ≡ true
 new-none b text k = every-none _
 
-pub new-more : (b : List ℕ) (text k j : ℕ) {r : Bool} → every j (λ i. not (sameName b text i k)) ≡ true → r ≡ sameName b text j k → r ≡ false → every (j + 1) (λ i. not (sameName b text i k)) ≡ true
+pub new-more : (b : List ℕ) (text k j : ℕ) {r : Bool} → every j (λ i. not (sameName b text i k)) ≡ true → r ≡ sameName b text j k → r ≡ false
+    → every (j + 1) (λ i. not (sameName b text i k)) ≡ true
 new-more b text k j h e f = every-more j _ h (ap not (sym e ∙ f))
 
 pub new-fails : (b : List ℕ) (text k j : ℕ) {r : Bool} → j < k → r ≡ sameName b text j k → r ≡ true → false ≡ nameNew b text k
@@ -202,7 +205,8 @@ module _ (b : List ℕ) (text : ℕ) where
   unfolding sameName
   text-same j k p q h =
       let e : lengthOf b j ≡ lengthOf b k = sym (text-length j p) ∙ ap length h ∙ text-length k q in
-      rw (eq-eqb (lengthOf b j) (lengthOf b k) e) (bytes-same (text + offsetOf b j) (text + offsetOf b k) (lengthOf b j) (λ i l. sym (text-byte j i l) ∙ ap (λ (t : List ℕ). getD t i 0) h ∙ text-byte k i (rw e at l)))
+      rw (eq-eqb (lengthOf b j) (lengthOf b k) e) (bytes-same (text + offsetOf b j) (text + offsetOf b k) (lengthOf b j)
+      (λ i l. sym (text-byte j i l) ∙ ap (λ (t : List ℕ). getD t i 0) h ∙ text-byte k i (rw e at l)))
 
   -- names that differ by the test have different texts
   pub differ-texts : (n j k : ℕ) → namesFit b text n ≡ true → namesDiffer b text n ≡ true → j < k → k < n → nameOf b text j ≡ nameOf b text k → ⊥

@@ -13,13 +13,16 @@ use Rattle.words.specs.Words.{wordAt, bytesOf}
 use Rattle.words.proofs.Laws.{wordAt-bytesOf, length-bytesOf}
 use Rattle.source.specs.Trees.{Pat, Expr, Text, Module}
 use Rattle.source.specs.Indices.{every, total, rows}
-use Rattle.source.specs.Layout.{names, publics, definitions, expressions, nodes, publicsAt, definitionsAt, expressionsAt, nodesAt, textAt, counted, listed}
+use Rattle.source.specs.Layout.{names, publics, definitions, expressions, nodes, publicsAt}
+use Rattle.source.specs.Layout.{definitionsAt, expressionsAt, nodesAt, textAt, counted, listed}
 use Rattle.source.specs.Layout.{nameEntry, publicAt, definitionEntry, expressionRoot, NAME-WORDS, DEFINITION-WORDS}
 use Rattle.source.specs.Names.{offsetOf, lengthOf, endOf, printed, nameFits, namesFit, sameName, nameNew, namesDiffer, nameOf}
 use Rattle.source.specs.Nodes.{nodesFit, publicsFit, definitionsFit, expressionsFit, patternFits, expressionFits}
 use Rattle.source.specs.Uses.{same, byNodes, byDefinitions, byExpressions}
 use Rattle.source.specs.Record.{Read, tree, definitionAt, expressionAt, moduleOf, shaped, usedOnce, sourceOf}
-use Rattle.source.specs.Encoding.{rootOf, patCount, exprCount, patNodes, exprNodes, definitionsCount, definitionsNodes, definitionsWords, expressionsCount, expressionsNodes, expressionsWords, pairWords, joined, recordWords, recordOf, All, PatFits, ExprFits, TextFits, Different, Writable}
+use Rattle.source.specs.Encoding.{rootOf, patCount, exprCount, patNodes, exprNodes, definitionsCount, definitionsNodes}
+use Rattle.source.specs.Encoding.{definitionsWords, expressionsCount, expressionsNodes, expressionsWords, pairWords}
+use Rattle.source.specs.Encoding.{joined, recordWords, recordOf, All, PatFits, ExprFits, TextFits, Different, Writable}
 use Rattle.source.proofs.Laws.{every-none, every-more, total-more}
 use Rattle.source.proofs.Publics.{publics-more, publics-none}
 use Rattle.source.proofs.Names.{named-at, same-text}
@@ -39,7 +42,9 @@ every-holds (suc n) p h = rw (every-holds n p (λ k l. h k (omega arith)), h n (
 
 definitionsUse : ℕ → List (Pat × Expr) → ℕ → ℕ
 definitionsUse s [] j = 0
-definitionsUse s (d ∷ ds) j = same (rootOf s (patCount (d .0))) j + same (rootOf (s + patCount (d .0)) (exprCount (d .1))) j + definitionsUse (s + patCount (d .0) + exprCount (d .1)) ds j
+definitionsUse s (d ∷ ds) j =
+    same (rootOf s (patCount (d .0))) j + same (rootOf (s + patCount (d .0)) (exprCount (d .1))) j
+    + definitionsUse (s + patCount (d .0) + exprCount (d .1)) ds j
 
 record DefinitionsAt (b : List ℕ) (at names nodes list s k : ℕ) (ds : List (Pat × Expr)) : Type 0 where
   pub span : Span b at names s (s + definitionsCount ds) (definitionsUse s ds)
@@ -87,7 +92,9 @@ module _ (b : List ℕ) (at names nodes list : ℕ) where
         span = rw a (span-join b at names (omega arith) (omega arith) (span-join b at names (omega arith) (omega arith) (p .span) (x .span)) (r .span));
         fits = λ h. rw g (r .fits (definition-fits k _ _ e f (pat-fits b at names p nodes (omega arith)) (expr-fits b at names x nodes few) h));
         uses = λ j. rw g (omega (arith, r .uses j, definition-uses k _ _ j e f));
-        read = definitions-cons (definition-read k _ _ e f (pat-below b at names p nodes (omega arith)) (expr-below b at names x nodes few)) (rw add-one at (r .read));
+        read =
+            definitions-cons (definition-read k _ _ e f (pat-below b at names p nodes (omega arith)) (expr-below b at names x nodes few))
+            (rw add-one at (r .read));
       }
     where
       definitions-cons : {c e : Pat × Expr} {cs es : List (Pat × Expr)} → c ≡ e → cs ≡ es → c ∷ cs ≡ e ∷ es
@@ -165,7 +172,8 @@ module _ (b : List ℕ) (at names nodes list : ℕ) where
         read = expressions-cons (expression-read k _ e (expr-below b at names y nodes few)) (rw add-one at (r .read));
       }
 
-  expressions-at : (xs : List Expr) (s k : ℕ) → All (ExprFits names) xs → s + expressionsCount xs ≤ nodes → nodes ≤ 2048 → Holds b (at + 4 * s) (expressionsNodes s xs) → Holds b (list + k) (expressionsWords s xs) → ExpressionsAt b at names nodes list s k xs
+  expressions-at : (xs : List Expr) (s k : ℕ) → All (ExprFits names) xs → s + expressionsCount xs ≤ nodes → nodes ≤ 2048
+      → Holds b (at + 4 * s) (expressionsNodes s xs) → Holds b (list + k) (expressionsWords s xs) → ExpressionsAt b at names nodes list s k xs
   unfolding expressionsCount expressionsNodes expressionsWords
   expressions-at [] s k f few big h w = expressions-none s k
   expressions-at (x ∷ xs) s k f few big h w =
@@ -174,16 +182,19 @@ module _ (b : List ℕ) (at names nodes list : ℕ) where
       expressions-more s k x xs (omega arith)
       (expr-at b at names x s (f .0) (omega arith) (holds-left b (at + 4 * s) (exprNodes s x) _ h))
       (rw z at (w 0 (omega arith)))
-      (expressions-at xs (s + n) (k + 1) (f .1) (omega arith) big (nodes-after b at s n (exprNodes s x) _ (expr-length s x) h) (λ j l. let q : list + (k + 1) + j ≡ list + k + suc j = omega arith in rw q (w (suc j) (omega arith))))
+      (expressions-at xs (s + n) (k + 1) (f .1) (omega arith) big (nodes-after b at s n (exprNodes s x) _ (expr-length s x) h)
+      (λ j l. let q : list + (k + 1) + j ≡ list + k + suc j = omega arith in rw q (w (suc j) (omega arith))))
 
 -- ---- publics
 
-publics-at : (b : List ℕ) (names list k : ℕ) (vs : List ℕ) → All (λ v. v < names) vs → Holds b (list + k) vs → publicsFit b names list k ≡ true → publicsFit b names list (k + length vs) ≡ true
+publics-at : (b : List ℕ) (names list k : ℕ) (vs : List ℕ) → All (λ v. v < names) vs → Holds b (list + k) vs → publicsFit b names list k ≡ true
+    → publicsFit b names list (k + length vs) ≡ true
 publics-at b names list k [] f w h = let e : k + 0 ≡ k = omega arith in rw e h
 publics-at b names list k (v ∷ vs) f w h =
     let g : k + suc (length vs) ≡ k + 1 + length vs = omega arith in
     let z : list + k + 0 ≡ list + k = omega arith in
-    rw g (publics-at b names list (k + 1) vs (f .1) (λ j l. let q : list + (k + 1) + j ≡ list + k + suc j = omega arith in rw q (w (suc j) (omega arith))) (publics-more b names list k h (sym (rw z at (w 0 (omega arith)))) (f .0)))
+    rw g (publics-at b names list (k + 1) vs (f .1) (λ j l. let q : list + (k + 1) + j ≡ list + k + suc j = omega arith in rw q (w (suc j) (omega arith)))
+    (publics-more b names list k h (sym (rw z at (w 0 (omega arith)))) (f .0)))
 
 publics-read : (b : List ℕ) (list k : ℕ) (vs : List ℕ) → Holds b (list + k) vs → rows (length vs) k (publicAt b list) ≡ vs
 unfolding rows
@@ -254,7 +265,9 @@ names-at b text k o (t ∷ ts) f w tail =
     rw q (w (suc (suc j)) (omega arith)) in
     let r = names-at b text (k + 1) (o + length t) ts (f .1) next (name-tail b text k o t (joined ts) e1 e2 tail) in
     record {
-      fits = λ h q. rw g (r .fits (every-more k (nameFits b text) h (name-fits b text k o t (joined ts) e1 e2 tail q (f .0))) (name-ends b text k o t (joined ts) e1 e2 tail));
+      fits = λ h q.
+          rw g (r .fits (every-more k (nameFits b text) h (name-fits b text k o t (joined ts) e1 e2 tail q (f .0)))
+          (name-ends b text k o t (joined ts) e1 e2 tail));
       ends = λ q. rw g (r .ends (name-ends b text k o t (joined ts) e1 e2 tail) ∙ simp length-append (omega arith));
       read = texts-cons (name-read b text k o t (joined ts) e1 e2 tail) (rw add-one at (r .read));
     }
@@ -276,9 +289,12 @@ not-true-false : (t : Bool) → (t ≡ true → ⊥) → t ≡ false
 not-true-false true f = absurd (f refl)
 not-true-false false f = refl
 
-names-new : (b : List ℕ) (text n : ℕ) → namesFit b text n ≡ true → ((j k : ℕ) → j < k → k < n → nameOf b text j ≡ nameOf b text k → ⊥) → namesDiffer b text n ≡ true
+names-new : (b : List ℕ) (text n : ℕ) → namesFit b text n ≡ true → ((j k : ℕ) → j < k → k < n → nameOf b text j ≡ nameOf b text k → ⊥)
+    → namesDiffer b text n ≡ true
 unfolding namesDiffer nameNew
-names-new b text n h f = every-holds n _ (λ k l. every-holds k _ (λ j g. ap not (not-true-false (sameName b text j k) (λ q. f j k g l (same-text b text j k (named-at b text n j h (omega arith)) (named-at b text n k h l) q)))))
+names-new b text n h f =
+    every-holds n _ (λ k l. every-holds k _ (λ j g.
+    ap not (not-true-false (sameName b text j k) (λ q. f j k g l (same-text b text j k (named-at b text n j h (omega arith)) (named-at b text n k h l) q)))))
 
 names-whole : (b : List ℕ) (text : ℕ) (ts : List Text) → NamesAt b text 0 0 ts → length b ≡ text + length (joined ts) → namesFit b text (length ts) ≡ true
 unfolding namesFit endOf
@@ -298,7 +314,8 @@ unfolding joined
 text-named text n [] e = rw (← e, eq-eqb (text + 0) text (omega arith))
 text-named text n (t ∷ ts) e = rw (lt-ltb 0 n (omega arith))
 
-module-is : (m : Module) {ns : List Text} {ps : List ℕ} {ds : List (Pat × Expr)} {xs : List Expr} → ns ≡ m .names → ps ≡ m .publics → ds ≡ m .definitions → xs ≡ m .expressions → record { names = ns; publics = ps; definitions = ds; expressions = xs } ≡ m
+module-is : (m : Module) {ns : List Text} {ps : List ℕ} {ds : List (Pat × Expr)} {xs : List Expr} → ns ≡ m .names → ps ≡ m .publics → ds ≡ m .definitions
+    → xs ≡ m .expressions → record { names = ns; publics = ps; definitions = ds; expressions = xs } ≡ m
 module-is m p q r s = λ i. record { names = p i; publics = q i; definitions = r i; expressions = s i }
 
 from-zero : (b : List ℕ) (i : ℕ) (ws : List ℕ) → Holds b i ws → Holds b (i + 0) ws
@@ -331,17 +348,27 @@ no-expressions b list j = refl
 
 -- ---- a record whose words and text are those of a module that fits
 
-module _ (m : Module) (w : Writable m) (b : List ℕ) (c0 : names b ≡ length (m .names)) (c1 : publics b ≡ length (m .publics)) (c2 : definitions b ≡ length (m .definitions)) (c3 : expressions b ≡ length (m .expressions)) (c4 : nodes b ≡ definitionsCount (m .definitions) + expressionsCount (m .expressions)) (long : length b ≡ textAt b + length (joined (m .names))) where
+module _ (m : Module) (w : Writable m) (b : List ℕ) (c0 : names b ≡ length (m .names)) (c1 : publics b ≡ length (m .publics))
+    (c2 : definitions b ≡ length (m .definitions)) (c3 : expressions b ≡ length (m .expressions))
+    (c4 : nodes b ≡ definitionsCount (m .definitions) + expressionsCount (m .expressions)) (long : length b ≡ textAt b + length (joined (m .names))) where
   header-long : leb 20 (length b) ≡ true
   header-long = le-leb 20 (length b) (omega arith)
 
   counts-few : counted b ≡ true
   unfolding counted
-  counts-few = rw (le-leb (names b) 512 (omega (arith, w .names-few)), le-leb (publics b) 64 (omega (arith, w .publics-few)), le-leb (definitions b) 512 (omega (arith, w .definitions-few)), le-leb (expressions b) 512 (omega (arith, w .expressions-few)), le-leb (nodes b) 2048 (omega (arith, w .nodes-few)))
+  counts-few = rw (
+    le-leb (names b) 512 (omega (arith, w .names-few)),
+    le-leb (publics b) 64 (omega (arith, w .publics-few)),
+    le-leb (definitions b) 512 (omega (arith, w .definitions-few)),
+    le-leb (expressions b) 512 (omega (arith, w .expressions-few)),
+    le-leb (nodes b) 2048 (omega (arith, w .nodes-few)),
+  )
 
   lists-whole : listed b ≡ true
   unfolding listed
-  lists-whole = rw (le-leb (textAt b) (length b) (omega arith)) (ap (λ (n : ℕ). ltb 0 (names b) || eqb n (textAt b)) long ∙ text-named (textAt b) (names b) (m .names) (sym c0))
+  lists-whole =
+      rw (le-leb (textAt b) (length b) (omega arith))
+      (ap (λ (n : ℕ). ltb 0 (names b) || eqb n (textAt b)) long ∙ text-named (textAt b) (names b) (m .names) (sym c0))
 
   module _ (hp : Holds b 5 (pairWords 0 (m .names))) (text : drop (textAt b) b ≡ joined (m .names)) where
     the-names : NamesAt b (textAt b) 0 0 (m .names)
@@ -354,7 +381,9 @@ module _ (m : Module) (w : Writable m) (b : List ℕ) (c0 : names b ≡ length (
     names-fit = ap (namesFit b (textAt b)) c0 ∙ names-whole b (textAt b) (m .names) the-names long
 
     names-different : namesDiffer b (textAt b) (names b) ≡ true
-    names-different = names-new b (textAt b) (names b) names-fit (λ j k l g e. different-at (m .names) (w .names-differ) j k l (omega arith) (names-get b (textAt b) (names b) (m .names) names-read j (omega arith) ∙ e ∙ sym (names-get b (textAt b) (names b) (m .names) names-read k g)))
+    names-different =
+        names-new b (textAt b) (names b) names-fit (λ j k l g e. different-at (m .names) (w .names-differ) j k l (omega arith)
+        (names-get b (textAt b) (names b) (m .names) names-read j (omega arith) ∙ e ∙ sym (names-get b (textAt b) (names b) (m .names) names-read k g)))
 
   module _ (hu : Holds b (publicsAt b) (m .publics)) where
     publics-good : publicsFit b (names b) (publicsAt b) (publics b) ≡ true
@@ -370,21 +399,32 @@ module _ (m : Module) (w : Writable m) (b : List ℕ) (c0 : names b ≡ length (
         ap (λ (i : ℕ). rows i 0 (publicAt b (publicsAt b))) c1
         ∙ publics-read b (publicsAt b) 0 (m .publics) (from-zero b (publicsAt b) (m .publics) hu)
 
-  module _ (hd : Holds b (definitionsAt b) (definitionsWords 0 (m .definitions))) (he : Holds b (expressionsAt b) (expressionsWords (definitionsCount (m .definitions)) (m .expressions))) (hn : Holds b (nodesAt b) (definitionsNodes 0 (m .definitions))) (hx : Holds b (nodesAt b + 4 * definitionsCount (m .definitions)) (expressionsNodes (definitionsCount (m .definitions)) (m .expressions))) where
+  module _ (hd : Holds b (definitionsAt b) (definitionsWords 0 (m .definitions)))
+      (he : Holds b (expressionsAt b) (expressionsWords (definitionsCount (m .definitions)) (m .expressions)))
+      (hn : Holds b (nodesAt b) (definitionsNodes 0 (m .definitions)))
+      (hx : Holds b (nodesAt b + 4 * definitionsCount (m .definitions)) (expressionsNodes (definitionsCount (m .definitions)) (m .expressions))) where
     few : nodes b ≤ 2048
     few = omega (arith, w .nodes-few)
 
     the-definitions : DefinitionsAt b (nodesAt b) (length (m .names)) (nodes b) (definitionsAt b) 0 0 (m .definitions)
-    the-definitions = definitions-at b (nodesAt b) (length (m .names)) (nodes b) (definitionsAt b) (m .definitions) 0 0 (w .definitions-fit) (omega arith) few (from-zero b (nodesAt b) (definitionsNodes 0 (m .definitions)) hn) (from-zero b (definitionsAt b) (definitionsWords 0 (m .definitions)) hd)
+    the-definitions =
+        definitions-at b (nodesAt b) (length (m .names)) (nodes b) (definitionsAt b) (m .definitions) 0 0 (w .definitions-fit) (omega arith) few
+        (from-zero b (nodesAt b) (definitionsNodes 0 (m .definitions)) hn) (from-zero b (definitionsAt b) (definitionsWords 0 (m .definitions)) hd)
 
     the-expressions : ExpressionsAt b (nodesAt b) (length (m .names)) (nodes b) (expressionsAt b) (definitionsCount (m .definitions)) 0 (m .expressions)
-    the-expressions = expressions-at b (nodesAt b) (length (m .names)) (nodes b) (expressionsAt b) (m .expressions) (definitionsCount (m .definitions)) 0 (w .expressions-fit) (omega arith) few hx (from-zero b (expressionsAt b) (expressionsWords (definitionsCount (m .definitions)) (m .expressions)) he)
+    the-expressions =
+        expressions-at b (nodesAt b) (length (m .names)) (nodes b) (expressionsAt b) (m .expressions) (definitionsCount (m .definitions)) 0
+        (w .expressions-fit) (omega arith) few hx (from-zero b (expressionsAt b) (expressionsWords (definitionsCount (m .definitions)) (m .expressions)) he)
 
     definitions-good : definitionsFit b (nodesAt b) (nodes b) (definitionsAt b) (definitions b) ≡ true
-    definitions-good = let e : definitions b ≡ 0 + length (m .definitions) = omega arith in ap (definitionsFit b (nodesAt b) (nodes b) (definitionsAt b)) e ∙ the-definitions .fits (none-defined b (nodesAt b) (nodes b) (definitionsAt b))
+    definitions-good =
+        let e : definitions b ≡ 0 + length (m .definitions) = omega arith in
+        ap (definitionsFit b (nodesAt b) (nodes b) (definitionsAt b)) e ∙ the-definitions .fits (none-defined b (nodesAt b) (nodes b) (definitionsAt b))
 
     expressions-good : expressionsFit b (nodesAt b) (nodes b) (expressionsAt b) (expressions b) ≡ true
-    expressions-good = let e : expressions b ≡ 0 + length (m .expressions) = omega arith in ap (expressionsFit b (nodesAt b) (nodes b) (expressionsAt b)) e ∙ the-expressions .fits (none-listed b (nodesAt b) (nodes b) (expressionsAt b))
+    expressions-good =
+        let e : expressions b ≡ 0 + length (m .expressions) = omega arith in
+        ap (expressionsFit b (nodesAt b) (nodes b) (expressionsAt b)) e ∙ the-expressions .fits (none-listed b (nodesAt b) (nodes b) (expressionsAt b))
 
     definitions-back : rows (definitions b) 0 (definitionAt b (nodesAt b) (nodes b) (definitionsAt b)) ≡ m .definitions
     definitions-back = ap (λ (i : ℕ). rows i 0 (definitionAt b (nodesAt b) (nodes b) (definitionsAt b))) c2 ∙ the-definitions .read
@@ -393,13 +433,16 @@ module _ (m : Module) (w : Writable m) (b : List ℕ) (c0 : names b ≡ length (
     expressions-back = ap (λ (i : ℕ). rows i 0 (expressionAt b (nodesAt b) (nodes b) (expressionsAt b))) c3 ∙ the-expressions .read
 
     -- all nodes
-    the-nodes : Span b (nodesAt b) (length (m .names)) 0 (nodes b) (λ j. definitionsUse 0 (m .definitions) j + expressionsUse (definitionsCount (m .definitions)) (m .expressions) j)
+    the-nodes : Span b (nodesAt b) (length (m .names)) 0 (nodes b)
+        (λ j. definitionsUse 0 (m .definitions) j + expressionsUse (definitionsCount (m .definitions)) (m .expressions) j)
     the-nodes =
         let d = definitionsCount (m .definitions) in
         let n = length (m .names) in
         let z : 0 + d ≡ d = omega arith in
-        let x : Span b (nodesAt b) n 0 d (definitionsUse 0 (m .definitions)) = subst (λ (i : ℕ). Span b (nodesAt b) n 0 i (definitionsUse 0 (m .definitions))) z (the-definitions .span) in
-        subst⁻¹ (λ (i : ℕ). Span b (nodesAt b) n 0 i (λ j. definitionsUse 0 (m .definitions) j + expressionsUse d (m .expressions) j)) c4 (span-join b (nodesAt b) n (omega arith) (omega arith) x (the-expressions .span))
+        let x : Span b (nodesAt b) n 0 d (definitionsUse 0 (m .definitions)) =
+        subst (λ (i : ℕ). Span b (nodesAt b) n 0 i (definitionsUse 0 (m .definitions))) z (the-definitions .span) in
+        subst⁻¹ (λ (i : ℕ). Span b (nodesAt b) n 0 i (λ j. definitionsUse 0 (m .definitions) j + expressionsUse d (m .expressions) j)) c4
+        (span-join b (nodesAt b) n (omega arith) (omega arith) x (the-expressions .span))
 
     nodes-good : nodesFit b (nodesAt b) (names b) (nodes b) ≡ true
     nodes-good = ap (λ (i : ℕ). nodesFit b (nodesAt b) i (nodes b)) c0 ∙ the-nodes .fits (no-nodes b (nodesAt b) (length (m .names)))
@@ -409,8 +452,20 @@ module _ (m : Module) (w : Writable m) (b : List ℕ) (c0 : names b ≡ length (
     once = every-holds (nodes b) _ (λ k l.
         let e : definitions b ≡ 0 + length (m .definitions) = omega arith in
         let f : expressions b ≡ 0 + length (m .expressions) = omega arith in
-        eq-eqb (byNodes b (nodesAt b) (nodes b) k + (byDefinitions b (definitionsAt b) (definitions b) k + byExpressions b (expressionsAt b) (expressions b) k)) 1
-        (omega (arith, the-nodes .uses k, within-yes 0 (nodes b) k (omega arith) l, ap (λ (i : ℕ). byDefinitions b (definitionsAt b) i k) e, the-definitions .uses k, ap (λ (i : ℕ). byExpressions b (expressionsAt b) i k) f, the-expressions .uses k, no-uses b (nodesAt b) k, no-definitions b (definitionsAt b) k, no-expressions b (expressionsAt b) k)))
+        eq-eqb
+        (byNodes b (nodesAt b) (nodes b) k + (byDefinitions b (definitionsAt b) (definitions b) k + byExpressions b (expressionsAt b) (expressions b) k)) 1
+        (omega (
+          arith,
+          the-nodes .uses k,
+          within-yes 0 (nodes b) k (omega arith) l,
+          ap (λ (i : ℕ). byDefinitions b (definitionsAt b) i k) e,
+          the-definitions .uses k,
+          ap (λ (i : ℕ). byExpressions b (expressionsAt b) i k) f,
+          the-expressions .uses k,
+          no-uses b (nodesAt b) k,
+          no-definitions b (definitionsAt b) k,
+          no-expressions b (expressionsAt b) k,
+        )))
 
     module _ (hp : Holds b 5 (pairWords 0 (m .names))) (text : drop (textAt b) b ≡ joined (m .names)) (hu : Holds b (publicsAt b) (m .publics)) where
       all-passed : Passed b
@@ -452,7 +507,9 @@ expressions-words s (x ∷ xs) = omega (arith, expressions-words (s + exprCount 
 definitions-nodes : (s : ℕ) (ds : List (Pat × Expr)) → length (definitionsNodes s ds) ≡ 4 * definitionsCount ds
 unfolding definitionsNodes definitionsCount
 definitions-nodes s [] = refl
-definitions-nodes s (d ∷ ds) = simp length-append (omega (arith, pat-length s (d .0), expr-length (s + patCount (d .0)) (d .1), definitions-nodes (s + patCount (d .0) + exprCount (d .1)) ds))
+definitions-nodes s (d ∷ ds) =
+    simp length-append
+    (omega (arith, pat-length s (d .0), expr-length (s + patCount (d .0)) (d .1), definitions-nodes (s + patCount (d .0) + exprCount (d .1)) ds))
 
 expressions-nodes : (s : ℕ) (xs : List Expr) → length (expressionsNodes s xs) ≡ 4 * expressionsCount xs
 unfolding expressionsNodes expressionsCount
@@ -464,7 +521,8 @@ bytes-held : (ws text : List ℕ) → Holds (bytesOf ws ++ text) 0 ws
 unfolding wordAt
 bytes-held ws text j l =
     let z : 0 + j ≡ j = omega arith in
-    let f : (i : ℕ) → i < 4 → getD (bytesOf ws ++ text) (4 * j + i) 0 ≡ getD (bytesOf ws) (4 * j + i) 0 = λ i g. List·getD-append (bytesOf ws) text 0 (4 * j + i) (omega (arith, length-bytesOf ws)) in
+    let f : (i : ℕ) → i < 4 → getD (bytesOf ws ++ text) (4 * j + i) 0 ≡ getD (bytesOf ws) (4 * j + i) 0 =
+    λ i g. List·getD-append (bytesOf ws) text 0 (4 * j + i) (omega (arith, length-bytesOf ws)) in
     let y : 4 * j + 0 ≡ 4 * j = omega arith in
     ap (wordAt (bytesOf ws ++ text)) z ∙ rw (rw y at (f 0 (omega arith)), f 1 (omega arith), f 2 (omega arith), f 3 (omega arith)) (wordAt-bytesOf ws j)
 
@@ -477,7 +535,14 @@ words-length : (m : Module) → length (recordWords m) ≡
 unfolding recordWords
 words-length m =
     let d = definitionsCount (m .definitions) in
-    simp length-append (omega (arith, pairs-length 0 (m .names), definitions-words 0 (m .definitions), expressions-words d (m .expressions), definitions-nodes 0 (m .definitions), expressions-nodes d (m .expressions)))
+    simp length-append (omega (
+      arith,
+      pairs-length 0 (m .names),
+      definitions-words 0 (m .definitions),
+      expressions-words d (m .expressions),
+      definitions-nodes 0 (m .definitions),
+      expressions-nodes d (m .expressions),
+    ))
 
 -- what is written is read back
 pub read-back : (m : Module) → Writable m → sourceOf (recordOf m) ≡ Read.module-of m

@@ -55,13 +55,15 @@ module _ (b : List ℕ) (at k x : ℕ) where
   pattern-is l q h = rw (← q, h, lt-ltb x k l)
 
 -- what fits is of its sort: the `else` of a walk over an accepted record is never met
-pub sure-expression : (b : List ℕ) (at k x : ℕ) {e : Node} → ExpressionBelow b at k x → e ≡ entryOf b at x → OneOf (1 ∷ 2 ∷ 3 ∷ []) (tagOf Entry.the-type e) → ⊥
+pub sure-expression : (b : List ℕ) (at k x : ℕ) {e : Node} → ExpressionBelow b at k x → e ≡ entryOf b at x
+    → OneOf (1 ∷ 2 ∷ 3 ∷ []) (tagOf Entry.the-type e) → ⊥
 sure-expression b at k x {e} f q o = not-both (not-expression e o) (ap isExpression q ∙ f .sort)
 
 pub sure-pattern : (b : List ℕ) (at k x : ℕ) {e : Node} → PatternBelow b at k x → e ≡ entryOf b at x → OneOf (0 ∷ 2 ∷ 3 ∷ []) (tagOf Entry.the-type e) → ⊥
 sure-pattern b at k x {e} f q o = not-both (not-pattern e o) (ap isPattern q ∙ f .sort)
 
-pub sure-link : (b : List ℕ) (at : ℕ) (h : Chain) (k x : ℕ) {e : Node} → chainFits b at h k x ≡ true → e ≡ entryOf b at x → OneOf (0 ∷ 1 ∷ 3 ∷ []) (tagOf Entry.the-type e) → ⊥
+pub sure-link : (b : List ℕ) (at : ℕ) (h : Chain) (k x : ℕ) {e : Node} → chainFits b at h k x ≡ true → e ≡ entryOf b at x
+    → OneOf (0 ∷ 1 ∷ 3 ∷ []) (tagOf Entry.the-type e) → ⊥
 sure-link b at h k x {e} f q o =
     let w = link-of b at h k x f in
     miss (0 ∷ 1 ∷ 3 ∷ []) 2 tt (rw (q ∙ w .3) at o)

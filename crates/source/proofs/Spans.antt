@@ -124,17 +124,35 @@ module _ (b : List ℕ) (at names : ℕ) where
   node-uses t j = total-more t (λ i. childrenUse b at i (childrenOf (entryOf b at i)) j)
 
   -- a node that uses what was owed is owed itself
-  pub span-node : {s t : ℕ} {f : ℕ → ℕ} {n : Entry} → s ≤ t → Span b at names s t f → entryOf b at t ≡ n → childrenFit b at names t (childrenOf n) ≡ true → ((j : ℕ) → childrenUse b at t (childrenOf n) j ≡ f j) → Span b at names s (t + 1) (same t)
+  pub span-node : {s t : ℕ} {f : ℕ → ℕ} {n : Entry} → s ≤ t → Span b at names s t f → entryOf b at t ≡ n → childrenFit b at names t (childrenOf n) ≡ true
+      → ((j : ℕ) → childrenUse b at t (childrenOf n) j ≡ f j) → Span b at names s (t + 1) (same t)
   span-node {s} {t} p x e c u = record {
     fits = λ h. node-fits t (ap (λ (i : Entry). childrenFit b at names t (childrenOf i)) e ∙ c) (x .fits h);
-    uses = λ j. omega (arith, node-uses t j, ap (λ (i : Entry). childrenUse b at t (childrenOf i) j) e, u j, x .uses j, within-one t j, within-join s t (t + 1) j p (omega arith));
+    uses = λ j. omega (
+      arith,
+      node-uses t j,
+      ap (λ (i : Entry). childrenUse b at t (childrenOf i) j) e,
+      u j,
+      x .uses j,
+      within-one t j,
+      within-join s t (t + 1) j p (omega arith),
+    );
   }
 
   -- a node that uses nothing leaves what was owed, and is owed itself
-  pub span-link : {s t : ℕ} {f : ℕ → ℕ} {n : Entry} → s ≤ t → Span b at names s t f → entryOf b at t ≡ n → childrenFit b at names t (childrenOf n) ≡ true → ((j : ℕ) → childrenUse b at t (childrenOf n) j ≡ 0) → Span b at names s (t + 1) (λ j. same t j + f j)
+  pub span-link : {s t : ℕ} {f : ℕ → ℕ} {n : Entry} → s ≤ t → Span b at names s t f → entryOf b at t ≡ n → childrenFit b at names t (childrenOf n) ≡ true
+      → ((j : ℕ) → childrenUse b at t (childrenOf n) j ≡ 0) → Span b at names s (t + 1) (λ j. same t j + f j)
   span-link {s} {t} p x e c u = record {
     fits = λ h. node-fits t (ap (λ (i : Entry). childrenFit b at names t (childrenOf i)) e ∙ c) (x .fits h);
-    uses = λ j. omega (arith, node-uses t j, ap (λ (i : Entry). childrenUse b at t (childrenOf i) j) e, u j, x .uses j, within-one t j, within-join s t (t + 1) j p (omega arith));
+    uses = λ j. omega (
+      arith,
+      node-uses t j,
+      ap (λ (i : Entry). childrenUse b at t (childrenOf i) j) e,
+      u j,
+      x .uses j,
+      within-one t j,
+      within-join s t (t + 1) j p (omega arith),
+    );
   }
 
 -- ---- roots

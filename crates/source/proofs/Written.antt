@@ -18,13 +18,16 @@ use Rattle.source.specs.declared.Child.{Child}
 use Rattle.source.specs.declared.Children.{Children}
 use Rattle.source.specs.Trees.{Pat, Expr, Items, Arms, Env}
 use Rattle.source.specs.Indices.{pick}
-use Rattle.source.specs.Nodes.{operatorOf, infixFor, entryFor, entryOf, isExpression, isPattern, expressionFits, patternFits, itemFits, resultFits, linkFits, chainFits, childFits, formChildren, shapeChildren, childrenFit}
+use Rattle.source.specs.Nodes.{operatorOf, infixFor, entryFor, entryOf, isExpression, isPattern, expressionFits, patternFits}
+use Rattle.source.specs.Nodes.{itemFits, resultFits, linkFits, chainFits, childFits, formChildren, shapeChildren, childrenFit}
 use Rattle.source.specs.Uses.{same, resultUses, linkUses, chainUses, childUses, childrenUse}
 use Rattle.source.specs.Record.{Tree, expressionOf, patternOf, linkOf, tree, nodeTree}
-use Rattle.source.specs.Encoding.{node, rootOf, linkTo, operatorNumber, patCount, patsCount, exprCount, itemsCount, armsCount, patNodes, patsNodes, exprNodes, itemsNodes, armsNodes, All, PatFits, ExprFits, ItemsFit, ArmsFit}
+use Rattle.source.specs.Encoding.{node, rootOf, linkTo, operatorNumber, patCount, patsCount, exprCount, itemsCount, armsCount}
+use Rattle.source.specs.Encoding.{patNodes, patsNodes, exprNodes, itemsNodes, armsNodes, All, PatFits, ExprFits, ItemsFit, ArmsFit}
 use Rattle.source.proofs.Nodes.{settled, expression-is, pattern-is, link-is}
 use Rattle.source.proofs.Links.{chain-is, uses-is}
-use Rattle.source.proofs.Spans.{Holds, holds-left, nodes-after, node-held, Span, span-none, span-join, span-owed, span-node, span-link, root-is, root-below, link-to, link-root}
+use Rattle.source.proofs.Spans.{Holds, holds-left, nodes-after, node-held, Span, span-none, span-join}
+use Rattle.source.proofs.Spans.{span-owed, span-node, span-link, root-is, root-below, link-to, link-root}
 
 -- ---- four words a node
 
@@ -62,7 +65,8 @@ mutual
   expr-length s (Expr.variable v) = refl
   expr-length s (Expr.function ps x env) = simp length-append (omega (arith, pats-length s ps, expr-length (s + patsCount ps) x))
   expr-length s (Expr.intrinsic w n ps env) = refl
-  expr-length s (Expr.letting p x y) = simp length-append (omega (arith, pat-length s p, expr-length (s + patCount p) x, expr-length (s + patCount p + exprCount x) y))
+  expr-length s (Expr.letting p x y) =
+      simp length-append (omega (arith, pat-length s p, expr-length (s + patCount p) x, expr-length (s + patCount p + exprCount x) y))
   expr-length s (Expr.matching x rs) = simp length-append (omega (arith, expr-length s x, arms-length (s + exprCount x) rs))
 
   pub items-length : (s : ℕ) (is : Items) → length (itemsNodes s is) ≡ 4 * itemsCount is
@@ -71,7 +75,8 @@ mutual
 
   pub arms-length : (s : ℕ) (rs : Arms) → length (armsNodes s rs) ≡ 4 * armsCount rs
   arms-length s Arms.noArm = refl
-  arms-length s (Arms.arm p x rs) = simp length-append (omega (arith, arms-length s rs, pat-length (s + armsCount rs) p, expr-length (s + armsCount rs + patCount p) x))
+  arms-length s (Arms.arm p x rs) =
+      simp length-append (omega (arith, arms-length s rs, pat-length (s + armsCount rs) p, expr-length (s + armsCount rs + patCount p) x))
 
 -- ---- patterns: n nodes from s on
 
@@ -83,7 +88,9 @@ pub record PatAt (b : List ℕ) (at names s n : ℕ) (p : Pat) : Type 0 where
 
 module _ (b : List ℕ) (at names : ℕ) where
   -- the root of a pattern, over what it uses
-  pat-node : (s n t : ℕ) {f : ℕ → ℕ} {c : Shape} {p : Pat} → s + n ≡ t → Span b at names s t f → entryOf b at t ≡ Entry.Pattern c → childrenFit b at names t (shapeChildren c) ≡ true → ((j : ℕ) → childrenUse b at t (shapeChildren c) j ≡ f j) → patternOf (tree b at t) c ≡ p → PatAt b at names s (n + 1) p
+  pat-node : (s n t : ℕ) {f : ℕ → ℕ} {c : Shape} {p : Pat} → s + n ≡ t → Span b at names s t f → entryOf b at t ≡ Entry.Pattern c
+      → childrenFit b at names t (shapeChildren c) ≡ true → ((j : ℕ) → childrenUse b at t (shapeChildren c) j ≡ f j) → patternOf (tree b at t) c ≡ p
+      → PatAt b at names s (n + 1) p
   unfolding isPattern
   pat-node s n t q x e c u w =
       let r : rootOf s (n + 1) ≡ t = root-is s n ∙ q in
@@ -106,7 +113,9 @@ module _ (b : List ℕ) (at names : ℕ) where
     pub pat-below : tree b at t (rootOf s n) .pattern ≡ p
     pat-below = ap (λ (i : Tree). i .pattern) (settled b at t (rootOf s n) pat-early) ∙ x .grows
 
-  pat-two : (s m n : ℕ) {p q z : Pat} (c : Shape) → PatAt b at names s m p → PatAt b at names (s + m) n q → entryOf b at (s + m + n) ≡ Entry.Pattern c → shapeChildren c ≡ record { first = Child.Pattern (rootOf s m); second = Child.Pattern (rootOf (s + m) n); third = Child.Nothing } → patternOf (tree b at (s + m + n)) c ≡ z → PatAt b at names s (m + n + 1) z
+  pat-two : (s m n : ℕ) {p q z : Pat} (c : Shape) → PatAt b at names s m p → PatAt b at names (s + m) n q → entryOf b at (s + m + n) ≡ Entry.Pattern c
+      → shapeChildren c ≡ record { first = Child.Pattern (rootOf s m); second = Child.Pattern (rootOf (s + m) n); third = Child.Nothing }
+      → patternOf (tree b at (s + m + n)) c ≡ z → PatAt b at names s (m + n + 1) z
   unfolding childrenFit childFits childrenUse childUses
   pat-two s m n c x y e k w = pat-node s (m + n) (s + m + n) (omega arith) (span-join b at names (omega arith) (omega arith) (x .span) (y .span)) e
       (ap (childrenFit b at names (s + m + n)) k ∙ rw (pat-fits x (s + m + n) (omega arith), pat-fits y (s + m + n) (omega arith)))
@@ -130,7 +139,8 @@ module _ (b : List ℕ) (at names : ℕ) where
       let h1 = nodes-after b at s m (patNodes s p) _ (pat-length s p) h in
       let x = pat-at p s (f .0) (holds-left b (at + 4 * s) (patNodes s p) _ h) in
       let y = pat-at q (s + m) (f .1) (holds-left b (at + 4 * (s + m)) (patNodes (s + m) q) _ h1) in
-      pat-two s m n (Shape.Product (rootOf s m) (rootOf (s + m) n)) x y (node-held b at (s + m + n) (nodes-after b at (s + m) n (patNodes (s + m) q) _ (pat-length (s + m) q) h1)) refl
+      pat-two s m n (Shape.Product (rootOf s m) (rootOf (s + m) n)) x y
+      (node-held b at (s + m + n) (nodes-after b at (s + m) n (patNodes (s + m) q) _ (pat-length (s + m) q) h1)) refl
       (rw (pat-below x (s + m + n) (omega arith), pat-below y (s + m + n) (omega arith)))
   pat-at (Pat.consP p q) s f h =
       let m = patCount p in
@@ -138,10 +148,12 @@ module _ (b : List ℕ) (at names : ℕ) where
       let h1 = nodes-after b at s m (patNodes s p) _ (pat-length s p) h in
       let x = pat-at p s (f .0) (holds-left b (at + 4 * s) (patNodes s p) _ h) in
       let y = pat-at q (s + m) (f .1) (holds-left b (at + 4 * (s + m)) (patNodes (s + m) q) _ h1) in
-      pat-two s m n (Shape.Cons (rootOf s m) (rootOf (s + m) n)) x y (node-held b at (s + m + n) (nodes-after b at (s + m) n (patNodes (s + m) q) _ (pat-length (s + m) q) h1)) refl
+      pat-two s m n (Shape.Cons (rootOf s m) (rootOf (s + m) n)) x y
+      (node-held b at (s + m + n) (nodes-after b at (s + m) n (patNodes (s + m) q) _ (pat-length (s + m) q) h1)) refl
       (rw (pat-below x (s + m + n) (omega arith), pat-below y (s + m + n) (omega arith)))
   pat-at (Pat.variableP v) s f h = pat-node s 0 s (omega arith) (span-none b at names s) (node-held b at s h) (rw (lt-ltb v names f)) (λ j. refl) refl
-  pat-at (Pat.constantP z) s f h = pat-node s 0 s (omega arith) (span-none b at names s) (node-held b at s h) refl (λ j. refl) (ap Pat.constantP (toZ-ofZ w32 z f))
+  pat-at (Pat.constantP z) s f h =
+      pat-node s 0 s (omega arith) (span-none b at names s) (node-held b at s h) refl (λ j. refl) (ap Pat.constantP (toZ-ofZ w32 z f))
 
 -- ---- chains: n nodes from s on, whose last is the first link
 
@@ -155,7 +167,9 @@ module _ (b : List ℕ) (at names : ℕ) (h : Chain) where
   chain-none s = let e : s + 0 ≡ s = omega arith in record { span = λ k l. rw e (span-none b at names s); good = λ k l. refl }
 
   -- one link more, at t: after the rest of the chain, its item and its arm result
-  chain-more : (s n m t item result : ℕ) {g : ℕ → ℕ} → s + n ≤ t → s + m ≡ t → t < 2048 → ChainAt b at names h s n → Span b at names (s + n) t g → ((j : ℕ) → g j ≡ same item j + resultUses h result j) → entryOf b at t ≡ Entry.Link item (linkTo s n) result → itemFits b at h t item ≡ true → resultFits b at h t result ≡ true → ChainAt b at names h s (m + 1)
+  chain-more : (s n m t item result : ℕ) {g : ℕ → ℕ} → s + n ≤ t → s + m ≡ t → t < 2048 → ChainAt b at names h s n → Span b at names (s + n) t g
+      → ((j : ℕ) → g j ≡ same item j + resultUses h result j) → entryOf b at t ≡ Entry.Link item (linkTo s n) result → itemFits b at h t item ≡ true
+      → resultFits b at h t result ≡ true → ChainAt b at names h s (m + 1)
   unfolding pick childrenFit childFits childrenUse childUses linkFits linkUses
   chain-more s n m t item result {g} p q few x y u e c d =
       let r : linkTo s (m + 1) ≡ t = link-to s m ∙ q in
@@ -163,7 +177,9 @@ module _ (b : List ℕ) (at names : ℕ) (h : Chain) where
       let f : eqb t 4294967295 ≡ false = ne-eqb t 4294967295 (λ w. omega arith) in
       record {
         span = λ k a. rw (r, l, f) (span-owed b at names (chainUses b at h k t)
-            (λ j. let v : chainUses b at h k t j ≡ same t j + (same item j + (resultUses h result j + pick (eqb (linkTo s n) 4294967295) 0 (chainUses b at h t (linkTo s n) j))) = uses-is b at h k t j (omega arith) ∙ ap (λ (i : Entry). same t j + linkUses h (λ z. chainUses b at h t z j) i j) e in omega (arith, u j))
+            (λ j. let v : chainUses b at h k t j
+            ≡ same t j + (same item j + (resultUses h result j + pick (eqb (linkTo s n) 4294967295) 0 (chainUses b at h t (linkTo s n) j))) =
+            uses-is b at h k t j (omega arith) ∙ ap (λ (i : Entry). same t j + linkUses h (λ z. chainUses b at h t z j) i j) e in omega (arith, u j))
             (span-link b at names (omega arith) (span-join b at names (omega arith) p (x .span t p) y) e refl (λ j. refl)));
         good = λ k a. rw (r, f) (chain-is b at h k t (omega arith) ∙ ap (linkFits b at h (chainFits b at h t) t) e ∙ rw (c, d, x .good t p));
       }
@@ -190,7 +206,8 @@ cons-is : {p q : Pat} {ps qs : List Pat} → p ≡ q → ps ≡ qs → p ∷ ps 
 cons-is e f = cc
 
 module _ (b : List ℕ) (at names : ℕ) where
-  pats-more : (s n m : ℕ) {p : Pat} {ps : List Pat} → s + n + m < 2048 → PatsAt b at names s n ps → PatAt b at names (s + n) m p → entryOf b at (s + n + m) ≡ Entry.Link (rootOf (s + n) m) (linkTo s n) 0 → PatsAt b at names s (n + m + 1) (p ∷ ps)
+  pats-more : (s n m : ℕ) {p : Pat} {ps : List Pat} → s + n + m < 2048 → PatsAt b at names s n ps → PatAt b at names (s + n) m p
+      → entryOf b at (s + n + m) ≡ Entry.Link (rootOf (s + n) m) (linkTo s n) 0 → PatsAt b at names s (n + m + 1) (p ∷ ps)
   unfolding itemFits resultFits resultUses linkOf
   pats-more s n m few y x e =
       let t = s + n + m in
@@ -199,13 +216,16 @@ module _ (b : List ℕ) (at names : ℕ) where
       let l : s + n ≤ t = omega arith in
       let w : s + n + m ≤ t = omega arith in
       record {
-        chain = chain-more b at names Chain.Parameters s n (n + m) t (rootOf (s + n) m) 0 l q few (y .chain) (x .span) (λ j. omega arith) e (pat-fits b at names x t w) refl;
+        chain =
+            chain-more b at names Chain.Parameters s n (n + m) t (rootOf (s + n) m) 0 l q few (y .chain) (x .span) (λ j. omega arith) e
+            (pat-fits b at names x t w) refl;
         grows = λ k a. rw (r, ne-eqb t 4294967295 (λ z. omega arith), r)
             (ap (λ (i : Tree). i .parameters) (settled b at k t (omega arith) ∙ link-is b at t e)
             ∙ cons-is (pat-below b at names x t w) (y .grows t l));
       }
 
-  pub pats-at : (ps : List Pat) (s : ℕ) → All (PatFits names) ps → s + patsCount ps ≤ 2048 → Holds b (at + 4 * s) (patsNodes s ps) → PatsAt b at names s (patsCount ps) ps
+  pub pats-at : (ps : List Pat) (s : ℕ) → All (PatFits names) ps → s + patsCount ps ≤ 2048 → Holds b (at + 4 * s) (patsNodes s ps)
+      → PatsAt b at names s (patsCount ps) ps
   unfolding patsNodes patsCount linkTo entryFor pick
   pats-at [] s f few h = record { chain = chain-none b at names Chain.Parameters s; grows = λ k l. refl }
   pats-at (p ∷ ps) s f few h =
@@ -242,7 +262,9 @@ then-is e f = cc
 
 module _ (b : List ℕ) (at names : ℕ) where
   -- the root of an expression, over what it uses
-  expr-node : (s n t : ℕ) {f : ℕ → ℕ} {c : Form} {z : Expr} → s + n ≡ t → Span b at names s t f → entryOf b at t ≡ Entry.Expression c → childrenFit b at names t (formChildren c) ≡ true → ((j : ℕ) → childrenUse b at t (formChildren c) j ≡ f j) → expressionOf (tree b at t) c ≡ z → ExprAt b at names s (n + 1) z
+  expr-node : (s n t : ℕ) {f : ℕ → ℕ} {c : Form} {z : Expr} → s + n ≡ t → Span b at names s t f → entryOf b at t ≡ Entry.Expression c
+      → childrenFit b at names t (formChildren c) ≡ true → ((j : ℕ) → childrenUse b at t (formChildren c) j ≡ f j) → expressionOf (tree b at t) c ≡ z
+      → ExprAt b at names s (n + 1) z
   unfolding isExpression
   expr-node s n t q x e c u w =
       let r : rootOf s (n + 1) ≡ t = root-is s n ∙ q in
@@ -266,14 +288,17 @@ module _ (b : List ℕ) (at names : ℕ) where
     expr-below = ap (λ (i : Tree). i .expression) (settled b at t (rootOf s n) expr-early) ∙ x .grows
 
   -- two expressions under a node
-  expr-two : (s m n : ℕ) {x y z : Expr} (c : Form) → ExprAt b at names s m x → ExprAt b at names (s + m) n y → entryOf b at (s + m + n) ≡ Entry.Expression c → formChildren c ≡ record { first = Child.Expression (rootOf s m); second = Child.Expression (rootOf (s + m) n); third = Child.Nothing } → expressionOf (tree b at (s + m + n)) c ≡ z → ExprAt b at names s (m + n + 1) z
+  expr-two : (s m n : ℕ) {x y z : Expr} (c : Form) → ExprAt b at names s m x → ExprAt b at names (s + m) n y → entryOf b at (s + m + n) ≡ Entry.Expression c
+      → formChildren c ≡ record { first = Child.Expression (rootOf s m); second = Child.Expression (rootOf (s + m) n); third = Child.Nothing }
+      → expressionOf (tree b at (s + m + n)) c ≡ z → ExprAt b at names s (m + n + 1) z
   unfolding childrenFit childFits childrenUse childUses
   expr-two s m n c x y e k w = expr-node s (m + n) (s + m + n) (omega arith) (span-join b at names (omega arith) (omega arith) (x .span) (y .span)) e
       (ap (childrenFit b at names (s + m + n)) k ∙ rw (expr-fits x (s + m + n) (omega arith), expr-fits y (s + m + n) (omega arith)))
       (λ j. ap (λ (i : Children). childrenUse b at (s + m + n) i j) k ∙ omega arith)
       w
 
-  items-last : (s m : ℕ) {x : Expr} → s + m < 2048 → ExprAt b at names s m x → entryOf b at (s + m) ≡ Entry.Link (rootOf s m) 4294967295 0 → ItemsAt b at names s (m + 1) (Items.last x)
+  items-last : (s m : ℕ) {x : Expr} → s + m < 2048 → ExprAt b at names s m x → entryOf b at (s + m) ≡ Entry.Link (rootOf s m) 4294967295 0
+      → ItemsAt b at names s (m + 1) (Items.last x)
   unfolding itemFits resultFits resultUses linkOf linkTo
   items-last s m few x e =
       let t = s + m in
@@ -281,11 +306,14 @@ module _ (b : List ℕ) (at names : ℕ) where
       let w : s + m ≤ t = omega arith in
       record {
         some = omega arith;
-        chain = chain-more b at names Chain.Items s 0 m t (rootOf s m) 0 {g = same (rootOf s m)} (omega arith) refl few (chain-none b at names Chain.Items s) (rw z (x .span)) (λ j. omega arith) e (expr-fits x t w) refl;
+        chain =
+            chain-more b at names Chain.Items s 0 m t (rootOf s m) 0 {g = same (rootOf s m)} (omega arith) refl few (chain-none b at names Chain.Items s)
+            (rw z (x .span)) (λ j. omega arith) e (expr-fits x t w) refl;
         grows = rw (root-is s m) (ap (λ (i : Tree). i .items) (link-is b at t e) ∙ ap Items.last (expr-below x t w));
       }
 
-  items-then : (s n m : ℕ) {x : Expr} {is : Items} → s + n + m < 2048 → ItemsAt b at names s n is → ExprAt b at names (s + n) m x → entryOf b at (s + n + m) ≡ Entry.Link (rootOf (s + n) m) (linkTo s n) 0 → ItemsAt b at names s (n + m + 1) (Items._then_ x is)
+  items-then : (s n m : ℕ) {x : Expr} {is : Items} → s + n + m < 2048 → ItemsAt b at names s n is → ExprAt b at names (s + n) m x
+      → entryOf b at (s + n + m) ≡ Entry.Link (rootOf (s + n) m) (linkTo s n) 0 → ItemsAt b at names s (n + m + 1) (Items._then_ x is)
   unfolding itemFits resultFits resultUses linkOf
   items-then s n m few y x e =
       let t = s + n + m in
@@ -308,7 +336,9 @@ module _ (b : List ℕ) (at names : ℕ) where
   unfolding linkTo
   arms-none s = record { chain = chain-none b at names Chain.Arms s; grows = λ k l. refl }
 
-  arms-more : (s n m o : ℕ) {p : Pat} {x : Expr} {rs : Arms} → s + n + m + o < 2048 → ArmsAt b at names s n rs → PatAt b at names (s + n) m p → ExprAt b at names (s + n + m) o x → entryOf b at (s + n + m + o) ≡ Entry.Link (rootOf (s + n) m) (linkTo s n) (rootOf (s + n + m) o) → ArmsAt b at names s (n + m + o + 1) (Arms.arm p x rs)
+  arms-more : (s n m o : ℕ) {p : Pat} {x : Expr} {rs : Arms} → s + n + m + o < 2048 → ArmsAt b at names s n rs → PatAt b at names (s + n) m p
+      → ExprAt b at names (s + n + m) o x → entryOf b at (s + n + m + o) ≡ Entry.Link (rootOf (s + n) m) (linkTo s n) (rootOf (s + n + m) o)
+      → ArmsAt b at names s (n + m + o + 1) (Arms.arm p x rs)
   unfolding itemFits resultFits resultUses linkOf
   arms-more s n m o few y p x e =
       let t = s + n + m + o in
@@ -318,7 +348,9 @@ module _ (b : List ℕ) (at names : ℕ) where
       let w : s + n + m ≤ t = omega arith in
       let v : s + n + m + o ≤ t = omega arith in
       record {
-        chain = chain-more b at names Chain.Arms s n (n + m + o) t (rootOf (s + n) m) (rootOf (s + n + m) o) l q few (y .chain) (span-join b at names (omega arith) (omega arith) (p .span) (x .span)) (λ j. refl) e (pat-fits b at names p t w) (expr-fits x t v);
+        chain =
+            chain-more b at names Chain.Arms s n (n + m + o) t (rootOf (s + n) m) (rootOf (s + n + m) o) l q few (y .chain)
+            (span-join b at names (omega arith) (omega arith) (p .span) (x .span)) (λ j. refl) e (pat-fits b at names p t w) (expr-fits x t v);
         grows = λ k a. rw (r, ne-eqb t 4294967295 (λ z. omega arith), r)
             (ap (λ (i : Tree). i .arms) (settled b at k t (omega arith) ∙ link-is b at t e)
             ∙ arm-is (pat-below b at names p t w) (expr-below x t v) (y .grows t l));
@@ -345,7 +377,9 @@ pats-some (p ∷ ps) h = omega arith
 
 module _ (b : List ℕ) (at names : ℕ) where
   -- a function over its parameters and body, a match over its value and arms, a sequence over its items, a let over its three parts
-  expr-function : (s m n : ℕ) {ps : List Pat} {x : Expr} {env : Env} → 1 ≤ m → s + m ≤ 2048 → env ≡ Env.empty → PatsAt b at names s m ps → ExprAt b at names (s + m) n x → entryOf b at (s + m + n) ≡ Entry.Expression (Form.Function (rootOf s m) (rootOf (s + m) n)) → ExprAt b at names s (m + n + 1) (Expr.function ps x env)
+  expr-function : (s m n : ℕ) {ps : List Pat} {x : Expr} {env : Env} → 1 ≤ m → s + m ≤ 2048 → env ≡ Env.empty → PatsAt b at names s m ps
+      → ExprAt b at names (s + m) n x → entryOf b at (s + m + n) ≡ Entry.Expression (Form.Function (rootOf s m) (rootOf (s + m) n))
+      → ExprAt b at names s (m + n + 1) (Expr.function ps x env)
   unfolding childrenFit childFits childrenUse childUses expressionOf
   expr-function s m n {ps} {x} {env} some few none y z e =
       let t = s + m + n in
@@ -353,12 +387,14 @@ module _ (b : List ℕ) (at names : ℕ) where
       let w : s + m + n ≤ t = omega arith in
       let r = rootOf s m in
       let v : tree b at t r .parameters ≡ ps = rw (is-link b at names Chain.Parameters s m t some few l (y .chain), link-root s m some) at (y .grows t l) in
-      expr-node b at names s (m + n) t (omega arith) (span-join b at names (omega arith) (omega arith) (chain-span b at names Chain.Parameters s m t some few l (y .chain)) (z .span)) e
+      expr-node b at names s (m + n) t (omega arith)
+      (span-join b at names (omega arith) (omega arith) (chain-span b at names Chain.Parameters s m t some few l (y .chain)) (z .span)) e
       (rw (chain-fits b at names Chain.Parameters s m t some few l (y .chain), expr-fits b at names z t w))
       (λ j. omega arith)
       (rw (v, expr-below b at names z t w, none))
 
-  expr-match : (s m n : ℕ) {x : Expr} {rs : Arms} → 1 ≤ n → s + m + n ≤ 2048 → ExprAt b at names s m x → ArmsAt b at names (s + m) n rs → entryOf b at (s + m + n) ≡ Entry.Expression (Form.Match (rootOf s m) (rootOf (s + m) n)) → ExprAt b at names s (m + n + 1) (Expr.matching x rs)
+  expr-match : (s m n : ℕ) {x : Expr} {rs : Arms} → 1 ≤ n → s + m + n ≤ 2048 → ExprAt b at names s m x → ArmsAt b at names (s + m) n rs
+      → entryOf b at (s + m + n) ≡ Entry.Expression (Form.Match (rootOf s m) (rootOf (s + m) n)) → ExprAt b at names s (m + n + 1) (Expr.matching x rs)
   unfolding childrenFit childFits childrenUse childUses expressionOf
   expr-match s m n {x} {rs} some few z y e =
       let t = s + m + n in
@@ -366,12 +402,14 @@ module _ (b : List ℕ) (at names : ℕ) where
       let w : s + m + n ≤ t = omega arith in
       let r = rootOf (s + m) n in
       let v : tree b at t r .arms ≡ rs = rw (is-link b at names Chain.Arms (s + m) n t some few w (y .chain), link-root (s + m) n some) at (y .grows t w) in
-      expr-node b at names s (m + n) t (omega arith) (span-join b at names (omega arith) (omega arith) (z .span) (chain-span b at names Chain.Arms (s + m) n t some few w (y .chain))) e
+      expr-node b at names s (m + n) t (omega arith)
+      (span-join b at names (omega arith) (omega arith) (z .span) (chain-span b at names Chain.Arms (s + m) n t some few w (y .chain))) e
       (rw (expr-fits b at names z t l, chain-fits b at names Chain.Arms (s + m) n t some few w (y .chain)))
       (λ j. omega arith)
       (rw (expr-below b at names z t l, v))
 
-  expr-sequence : (s m : ℕ) {is : Items} → s + m ≤ 2048 → ItemsAt b at names s m is → entryOf b at (s + m) ≡ Entry.Expression (Form.Sequence (rootOf s m)) → ExprAt b at names s (m + 1) (Expr.sequence is)
+  expr-sequence : (s m : ℕ) {is : Items} → s + m ≤ 2048 → ItemsAt b at names s m is → entryOf b at (s + m) ≡ Entry.Expression (Form.Sequence (rootOf s m))
+      → ExprAt b at names s (m + 1) (Expr.sequence is)
   unfolding childrenFit childFits childrenUse childUses expressionOf
   expr-sequence s m few y e =
       let t = s + m in
@@ -383,14 +421,17 @@ module _ (b : List ℕ) (at names : ℕ) where
       (λ j. omega arith)
       (ap Expr.sequence (ap (λ (i : Tree). i .items) (settled b at t r early) ∙ y .grows))
 
-  expr-let : (s m n o : ℕ) {p : Pat} {x y : Expr} → PatAt b at names s m p → ExprAt b at names (s + m) n x → ExprAt b at names (s + m + n) o y → entryOf b at (s + m + n + o) ≡ Entry.Expression (Form.Let (rootOf s m) (rootOf (s + m) n) (rootOf (s + m + n) o)) → ExprAt b at names s (m + n + o + 1) (Expr.letting p x y)
+  expr-let : (s m n o : ℕ) {p : Pat} {x y : Expr} → PatAt b at names s m p → ExprAt b at names (s + m) n x → ExprAt b at names (s + m + n) o y
+      → entryOf b at (s + m + n + o) ≡ Entry.Expression (Form.Let (rootOf s m) (rootOf (s + m) n) (rootOf (s + m + n) o))
+      → ExprAt b at names s (m + n + o + 1) (Expr.letting p x y)
   unfolding childrenFit childFits childrenUse childUses expressionOf
   expr-let s m n o p x y e =
       let t = s + m + n + o in
       let l : s + m ≤ t = omega arith in
       let w : s + m + n ≤ t = omega arith in
       let v : s + m + n + o ≤ t = omega arith in
-      expr-node b at names s (m + n + o) t (omega arith) (span-join b at names (omega arith) (omega arith) (p .span) (span-join b at names (omega arith) (omega arith) (x .span) (y .span))) e
+      expr-node b at names s (m + n + o) t (omega arith)
+      (span-join b at names (omega arith) (omega arith) (p .span) (span-join b at names (omega arith) (omega arith) (x .span) (y .span))) e
       (rw (pat-fits b at names p t l, expr-fits b at names x t w, expr-fits b at names y t v))
       (λ j. omega arith)
       (rw (pat-below b at names p t l, expr-below b at names x t w, expr-below b at names y t v))
@@ -403,14 +444,16 @@ module _ (b : List ℕ) (at names : ℕ) where
     expr-at Expr.nil s f few h = expr-node b at names s 0 s (omega arith) (span-none b at names s) (node-held b at s h) refl (λ j. refl) refl
     expr-at (Expr.sequence is) s f few h =
         let m = itemsCount is in
-        expr-sequence s m (omega arith) (items-at is s f (omega arith) (holds-left b (at + 4 * s) (itemsNodes s is) _ h)) (node-held b at (s + m) (nodes-after b at s m (itemsNodes s is) _ (items-length s is) h))
+        expr-sequence s m (omega arith) (items-at is s f (omega arith) (holds-left b (at + 4 * s) (itemsNodes s is) _ h))
+        (node-held b at (s + m) (nodes-after b at s m (itemsNodes s is) _ (items-length s is) h))
     expr-at (Expr.product x y) s f few h =
         let m = exprCount x in
         let n = exprCount y in
         let h1 = nodes-after b at s m (exprNodes s x) _ (expr-length s x) h in
         let u = expr-at x s (f .0) (omega arith) (holds-left b (at + 4 * s) (exprNodes s x) _ h) in
         let v = expr-at y (s + m) (f .1) (omega arith) (holds-left b (at + 4 * (s + m)) (exprNodes (s + m) y) _ h1) in
-        expr-two b at names s m n (Form.Product (rootOf s m) (rootOf (s + m) n)) u v (node-held b at (s + m + n) (nodes-after b at (s + m) n (exprNodes (s + m) y) _ (expr-length (s + m) y) h1)) refl
+        expr-two b at names s m n (Form.Product (rootOf s m) (rootOf (s + m) n)) u v
+        (node-held b at (s + m + n) (nodes-after b at (s + m) n (exprNodes (s + m) y) _ (expr-length (s + m) y) h1)) refl
         (rw (expr-below b at names u (s + m + n) (omega arith), expr-below b at names v (s + m + n) (omega arith)))
     expr-at (Expr.cons x y) s f few h =
         let m = exprCount x in
@@ -418,7 +461,8 @@ module _ (b : List ℕ) (at names : ℕ) where
         let h1 = nodes-after b at s m (exprNodes s x) _ (expr-length s x) h in
         let u = expr-at x s (f .0) (omega arith) (holds-left b (at + 4 * s) (exprNodes s x) _ h) in
         let v = expr-at y (s + m) (f .1) (omega arith) (holds-left b (at + 4 * (s + m)) (exprNodes (s + m) y) _ h1) in
-        expr-two b at names s m n (Form.Cons (rootOf s m) (rootOf (s + m) n)) u v (node-held b at (s + m + n) (nodes-after b at (s + m) n (exprNodes (s + m) y) _ (expr-length (s + m) y) h1)) refl
+        expr-two b at names s m n (Form.Cons (rootOf s m) (rootOf (s + m) n)) u v
+        (node-held b at (s + m + n) (nodes-after b at (s + m) n (exprNodes (s + m) y) _ (expr-length (s + m) y) h1)) refl
         (rw (expr-below b at names u (s + m + n) (omega arith), expr-below b at names v (s + m + n) (omega arith)))
     expr-at (Expr.binary o x y) s f few h =
         let m = exprCount x in
@@ -426,7 +470,9 @@ module _ (b : List ℕ) (at names : ℕ) where
         let h1 = nodes-after b at s m (exprNodes s x) _ (expr-length s x) h in
         let u = expr-at x s (f .0) (omega arith) (holds-left b (at + 4 * s) (exprNodes s x) _ h) in
         let v = expr-at y (s + m) (f .1) (omega arith) (holds-left b (at + 4 * (s + m)) (exprNodes (s + m) y) _ h1) in
-        expr-two b at names s m n (Form.Infix o (rootOf s m) (rootOf (s + m) n)) u v (node-held b at (s + m + n) (nodes-after b at (s + m) n (exprNodes (s + m) y) _ (expr-length (s + m) y) h1) ∙ operator-read o (rootOf s m) (rootOf (s + m) n)) refl
+        expr-two b at names s m n (Form.Infix o (rootOf s m) (rootOf (s + m) n)) u v
+        (node-held b at (s + m + n) (nodes-after b at (s + m) n (exprNodes (s + m) y) _ (expr-length (s + m) y) h1)
+        ∙ operator-read o (rootOf s m) (rootOf (s + m) n)) refl
         (rw (expr-below b at names u (s + m + n) (omega arith), expr-below b at names v (s + m + n) (omega arith)))
     expr-at (Expr.negate x) s f few h =
         let m = exprCount x in
@@ -441,10 +487,13 @@ module _ (b : List ℕ) (at names : ℕ) where
         let h1 = nodes-after b at s m (exprNodes s x) _ (expr-length s x) h in
         let u = expr-at x s (f .0) (omega arith) (holds-left b (at + 4 * s) (exprNodes s x) _ h) in
         let v = expr-at y (s + m) (f .1) (omega arith) (holds-left b (at + 4 * (s + m)) (exprNodes (s + m) y) _ h1) in
-        expr-two b at names s m n (Form.Application (rootOf s m) (rootOf (s + m) n)) u v (node-held b at (s + m + n) (nodes-after b at (s + m) n (exprNodes (s + m) y) _ (expr-length (s + m) y) h1)) refl
+        expr-two b at names s m n (Form.Application (rootOf s m) (rootOf (s + m) n)) u v
+        (node-held b at (s + m + n) (nodes-after b at (s + m) n (exprNodes (s + m) y) _ (expr-length (s + m) y) h1)) refl
         (rw (expr-below b at names u (s + m + n) (omega arith), expr-below b at names v (s + m + n) (omega arith)))
-    expr-at (Expr.constant z) s f few h = expr-node b at names s 0 s (omega arith) (span-none b at names s) (node-held b at s h) refl (λ j. refl) (ap Expr.constant (toZ-ofZ w32 z f))
-    expr-at (Expr.variable v) s f few h = expr-node b at names s 0 s (omega arith) (span-none b at names s) (node-held b at s h) (rw (lt-ltb v names f)) (λ j. refl) refl
+    expr-at (Expr.constant z) s f few h =
+        expr-node b at names s 0 s (omega arith) (span-none b at names s) (node-held b at s h) refl (λ j. refl) (ap Expr.constant (toZ-ofZ w32 z f))
+    expr-at (Expr.variable v) s f few h =
+        expr-node b at names s 0 s (omega arith) (span-none b at names s) (node-held b at s h) (rw (lt-ltb v names f)) (λ j. refl) refl
     expr-at (Expr.function ps x env) s f few h =
         let m = patsCount ps in
         let n = exprCount x in
@@ -474,7 +523,8 @@ module _ (b : List ℕ) (at names : ℕ) where
         (arms-at rs (s + m) (f .1 .1) (omega arith) (holds-left b (at + 4 * (s + m)) (armsNodes (s + m) rs) _ h1))
         (node-held b at (s + m + n) (nodes-after b at (s + m) n (armsNodes (s + m) rs) _ (arms-length (s + m) rs) h1))
 
-    items-at : (is : Items) (s : ℕ) → ItemsFit names is → s + itemsCount is ≤ 2048 → Holds b (at + 4 * s) (itemsNodes s is) → ItemsAt b at names s (itemsCount is) is
+    items-at : (is : Items) (s : ℕ) → ItemsFit names is → s + itemsCount is ≤ 2048 → Holds b (at + 4 * s) (itemsNodes s is)
+        → ItemsAt b at names s (itemsCount is) is
     items-at (Items.last x) s f few h =
         let m = exprCount x in
         items-last b at names s m (omega arith)

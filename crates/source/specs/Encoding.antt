@@ -10,7 +10,8 @@ use mir.Syntax.{w32}
 use Rattle.words.specs.Words.{bytesOf}
 use Rattle.field.specs.declared.InfixOp.{InfixOp}
 use Rattle.source.specs.Trees.{Which, Pat, Expr, Items, Arms, Env, Text, Module}
-use Rattle.records.specs.Kinds.{APPLICATION, AS-PATTERN, CONS, CONS-PATTERN, CONSTANT, CONSTANT-PATTERN, FUNCTION, INFIX, LET, LINK, MATCH, NEGATE, NIL, NIL-PATTERN, PRODUCT, PRODUCT-PATTERN, SEQUENCE, UNIT, UNIT-PATTERN, VARIABLE, VARIABLE-PATTERN}
+use Rattle.records.specs.Kinds.{APPLICATION, AS-PATTERN, CONS, CONS-PATTERN, CONSTANT, CONSTANT-PATTERN, FUNCTION, INFIX, LET, LINK, MATCH}
+use Rattle.records.specs.Kinds.{NEGATE, NIL, NIL-PATTERN, PRODUCT, PRODUCT-PATTERN, SEQUENCE, UNIT, UNIT-PATTERN, VARIABLE, VARIABLE-PATTERN}
 use Rattle.records.specs.Operators.{ADD, DIVIDE, DIVIDE-Z, EQUAL, EXPONENTIATE, INT-DIVIDE, MODULO, MULTIPLY, SUBTRACT}
 use Rattle.records.specs.SourceRecord.{DEFINITIONS, EXPRESSIONS, NAME-BYTES, NAMES, NO-LINK, NODES, PUBLICS}
 use Rattle.source.specs.Names.{FIRST-BYTE, LAST-BYTE}
@@ -83,8 +84,10 @@ unfoldable pub patNodes : ℕ → Pat → List ℕ
 patNodes s Pat.unitP = node UNIT-PATTERN 0 0 0
 patNodes s Pat.nilP = node NIL-PATTERN 0 0 0
 patNodes s (Pat.asP p v) = patNodes s p ++ node AS-PATTERN (rootOf s (patCount p)) v 0
-patNodes s (Pat.productP p q) = patNodes s p ++ (patNodes (s + patCount p) q ++ node PRODUCT-PATTERN (rootOf s (patCount p)) (rootOf (s + patCount p) (patCount q)) 0)
-patNodes s (Pat.consP p q) = patNodes s p ++ (patNodes (s + patCount p) q ++ node CONS-PATTERN (rootOf s (patCount p)) (rootOf (s + patCount p) (patCount q)) 0)
+patNodes s (Pat.productP p q) =
+    patNodes s p ++ (patNodes (s + patCount p) q ++ node PRODUCT-PATTERN (rootOf s (patCount p)) (rootOf (s + patCount p) (patCount q)) 0)
+patNodes s (Pat.consP p q) =
+    patNodes s p ++ (patNodes (s + patCount p) q ++ node CONS-PATTERN (rootOf s (patCount p)) (rootOf (s + patCount p) (patCount q)) 0)
 patNodes s (Pat.variableP v) = node VARIABLE-PATTERN v 0 0
 patNodes s (Pat.constantP z) = node CONSTANT-PATTERN (ofZ w32 z) 0 0
 
@@ -119,7 +122,8 @@ unfoldable mutual
 
   pub itemsNodes : ℕ → Items → List ℕ
   itemsNodes s (Items.last x) = exprNodes s x ++ node LINK (rootOf s (exprCount x)) NO-LINK 0
-  itemsNodes s (Items._then_ x is) = itemsNodes s is ++ (exprNodes (s + itemsCount is) x ++ node LINK (rootOf (s + itemsCount is) (exprCount x)) (linkTo s (itemsCount is)) 0)
+  itemsNodes s (Items._then_ x is) =
+      itemsNodes s is ++ (exprNodes (s + itemsCount is) x ++ node LINK (rootOf (s + itemsCount is) (exprCount x)) (linkTo s (itemsCount is)) 0)
 
   pub armsNodes : ℕ → Arms → List ℕ
   armsNodes s Arms.noArm = []
@@ -142,7 +146,8 @@ definitionsNodes s (d ∷ ds) = patNodes s (d .0) ++ (exprNodes (s + patCount (d
 
 unfoldable pub definitionsWords : ℕ → List (Pat × Expr) → List ℕ
 definitionsWords s [] = []
-definitionsWords s (d ∷ ds) = rootOf s (patCount (d .0)) ∷ rootOf (s + patCount (d .0)) (exprCount (d .1)) ∷ definitionsWords (s + patCount (d .0) + exprCount (d .1)) ds
+definitionsWords s (d ∷ ds) =
+    rootOf s (patCount (d .0)) ∷ rootOf (s + patCount (d .0)) (exprCount (d .1)) ∷ definitionsWords (s + patCount (d .0) + exprCount (d .1)) ds
 
 unfoldable pub expressionsCount : List Expr → ℕ
 expressionsCount [] = 0

@@ -15,7 +15,8 @@ use Rattle.source.specs.declared.Child.{Child}
 use Rattle.source.specs.declared.Children.{Children}
 use Rattle.source.specs.Indices.{every, pick}
 use Rattle.source.specs.Layout.{publicAt, definitionEntry, expressionRoot, nodeEntry}
-use Rattle.records.specs.Kinds.{APPLICATION, AS-PATTERN, CONS, CONS-PATTERN, CONSTANT, CONSTANT-PATTERN, FUNCTION, INFIX, LET, LINK, MATCH, NEGATE, NIL, NIL-PATTERN, PRODUCT, PRODUCT-PATTERN, SEQUENCE, UNIT, UNIT-PATTERN, VARIABLE, VARIABLE-PATTERN}
+use Rattle.records.specs.Kinds.{APPLICATION, AS-PATTERN, CONS, CONS-PATTERN, CONSTANT, CONSTANT-PATTERN, FUNCTION, INFIX, LET, LINK, MATCH}
+use Rattle.records.specs.Kinds.{NEGATE, NIL, NIL-PATTERN, PRODUCT, PRODUCT-PATTERN, SEQUENCE, UNIT, UNIT-PATTERN, VARIABLE, VARIABLE-PATTERN}
 use Rattle.records.specs.Operators.{ADD, DIVIDE, DIVIDE-Z, EQUAL, EXPONENTIATE, INT-DIVIDE, MULTIPLY, SUBTRACT}
 use Rattle.records.specs.SourceRecord.{NO-LINK}
 

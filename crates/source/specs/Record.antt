@@ -1,4 +1,5 @@
--- What a source record is: its module, or the first of the numbers 1 to 6. For a reader with document 01, "Source record" and "Numbers by place of the check", beside it.
+-- What a source record is: its module, or the first of the numbers 1 to 6. For a reader with document 01, "Source record" and "Numbers by place of the check",
+-- beside it.
 use Prim.Native.Nat.{ℕ, zero, suc, _+_}
 use mathlib.Core.List.{List, [], _∷_}
 use mathlib.Core.Bool.{Bool, true, false, _&&_}
@@ -18,7 +19,8 @@ use Rattle.records.specs.SourceRecord.{NO-LINK}
 
 -- ---- trees
 
--- what a node stands for: an expression, a pattern, or, of a link, the parameters, the arms or the items from it on. Only what its sort and its owner say is ever asked of it
+-- what a node stands for: an expression, a pattern, or, of a link, the parameters, the arms or the items from it on. Only what its sort and its owner say is
+-- ever asked of it
 pub record Tree : Type 0 where
   pub expression : Expr
   pub pattern : Pat
@@ -115,7 +117,9 @@ shaped b =
 
 -- not 6: "every node is used exactly once"
 unfoldable pub usedOnce : List ℕ → Bool
-usedOnce b = every (nodes b) (λ k. eqb (byNodes b (nodesAt b) (nodes b) k + (byDefinitions b (definitionsAt b) (definitions b) k + byExpressions b (expressionsAt b) (expressions b) k)) 1)
+usedOnce b =
+    every (nodes b) (λ k.
+    eqb (byNodes b (nodesAt b) (nodes b) k + (byDefinitions b (definitionsAt b) (definitions b) k + byExpressions b (expressionsAt b) (expressions b) k)) 1)
 
 pub data Read : Type 0 where
   module-of : Module → Read

@@ -49,12 +49,14 @@ module _ (b : List ℕ) {l : Layout} (e : l ≡ layoutOf b) {r1 : Checked} (p1 :
     unfolding shaped outcome layoutOf
     trees-publics f = rw (rw e at (accepted 5 _ p1 a1), rw e at (refused 5 _ p2 f))
 
-    module _ {r3 : Checked} (a2 : r2 ≡ Checked.Accepted) (p3 : r3 ≡ verdict 5 (definitionsFit b (l .«nodes_at») (l .nodes) (l .«definitions_at») (l .definitions))) where
+    module _ {r3 : Checked} (a2 : r2 ≡ Checked.Accepted)
+        (p3 : r3 ≡ verdict 5 (definitionsFit b (l .«nodes_at») (l .nodes) (l .«definitions_at») (l .definitions))) where
       pub trees-definitions : {n : ℕ} → r3 ≡ Checked.Refused n → Checked.Refused 5 ≡ outcome (shaped b) (usedOnce b)
       unfolding shaped outcome layoutOf
       trees-definitions f = rw (rw e at (accepted 5 _ p1 a1), rw e at (accepted 5 _ p2 a2), rw e at (refused 5 _ p3 f))
 
-      module _ {r4 : Checked} (a3 : r3 ≡ Checked.Accepted) (p4 : r4 ≡ verdict 5 (expressionsFit b (l .«nodes_at») (l .nodes) (l .«expressions_at») (l .expressions))) where
+      module _ {r4 : Checked} (a3 : r3 ≡ Checked.Accepted)
+          (p4 : r4 ≡ verdict 5 (expressionsFit b (l .«nodes_at») (l .nodes) (l .«expressions_at») (l .expressions))) where
         pub trees-expressions : {n : ℕ} → r4 ≡ Checked.Refused n → Checked.Refused 5 ≡ outcome (shaped b) (usedOnce b)
         unfolding shaped outcome layoutOf
         trees-expressions f = rw (rw e at (accepted 5 _ p1 a1), rw e at (accepted 5 _ p2 a2), rw e at (accepted 5 _ p3 a3), rw e at (refused 5 _ p4 f))
@@ -64,11 +66,15 @@ module _ (b : List ℕ) {l : Layout} (e : l ≡ layoutOf b) {r1 : Checked} (p1 :
         trees-shaped a4 = rw (rw e at (accepted 5 _ p1 a1), rw e at (accepted 5 _ p2 a2), rw e at (accepted 5 _ p3 a3), rw e at (accepted 5 _ p4 a4))
 
 -- the marks, from none to the end's test
-pub trees-marked : (b : List ℕ) {l : Layout} {m m1 m2 m3 : List ℕ} {t : Bool} → l ≡ layoutOf b → l .nodes ≤ 2048 → m ≡ noMarks → Adds m m1 (byNodes b (l .«nodes_at») (l .nodes)) → Adds m1 m2 (byDefinitions b (l .«definitions_at») (l .definitions)) → Adds m2 m3 (byExpressions b (l .«expressions_at») (l .expressions)) → t ≡ every (l .nodes) (λ k. eqb (getD m3 k 0) 1) → t ≡ usedOnce b
+pub trees-marked : (b : List ℕ) {l : Layout} {m m1 m2 m3 : List ℕ} {t : Bool} → l ≡ layoutOf b → l .nodes ≤ 2048 → m ≡ noMarks
+    → Adds m m1 (byNodes b (l .«nodes_at») (l .nodes)) → Adds m1 m2 (byDefinitions b (l .«definitions_at») (l .definitions))
+    → Adds m2 m3 (byExpressions b (l .«expressions_at») (l .expressions)) → t ≡ every (l .nodes) (λ k. eqb (getD m3 k 0) 1) → t ≡ usedOnce b
 unfolding usedOnce layoutOf
 trees-marked b {l} e few z u1 u2 u3 q =
-    let f : ℕ → ℕ = λ k. byNodes b (l .«nodes_at») (l .nodes) k + (byDefinitions b (l .«definitions_at») (l .definitions) k + byExpressions b (l .«expressions_at») (l .expressions) k) in
-    rw e at (q ∙ counted-once (l .nodes) f few z (adds-more f u1 (adds-more (λ k. byDefinitions b (l .«definitions_at») (l .definitions) k + byExpressions b (l .«expressions_at») (l .expressions) k) u2 u3 (λ k. refl)) (λ k. refl)))
+    let f : ℕ → ℕ = λ k. byNodes b (l .«nodes_at») (l .nodes) k
+    + (byDefinitions b (l .«definitions_at») (l .definitions) k + byExpressions b (l .«expressions_at») (l .expressions) k) in
+    rw e at (q ∙ counted-once (l .nodes) f few z (adds-more f u1 (adds-more (λ k.
+    byDefinitions b (l .«definitions_at») (l .definitions) k + byExpressions b (l .«expressions_at») (l .expressions) k) u2 u3 (λ k. refl)) (λ k. refl)))
 
 pub trees-once : (b : List ℕ) {t : Bool} → shaped b ≡ true → t ≡ usedOnce b → t ≡ true → Checked.Accepted ≡ outcome (shaped b) (usedOnce b)
 unfolding outcome verdict
@@ -84,7 +90,8 @@ pub is-short : (b : List ℕ) → length b < 20 → Checked.Refused 1 ≡ checke
 unfolding sourceOf checked unless
 is-short b h = rw (lt-leb 20 (length b) h)
 
-module _ (b : List ℕ) (long : 20 ≤ length b) {l : Layout} (e : l ≡ layoutOf b) {t : Bool} (c : t ≡ leb (l .names) 512 && (leb (l .publics) 64 && (leb (l .definitions) 512 && (leb (l .expressions) 512 && leb (l .nodes) 2048)))) where
+module _ (b : List ℕ) (long : 20 ≤ length b) {l : Layout} (e : l ≡ layoutOf b) {t : Bool}
+    (c : t ≡ leb (l .names) 512 && (leb (l .publics) 64 && (leb (l .definitions) 512 && (leb (l .expressions) 512 && leb (l .nodes) 2048)))) where
   counts : t ≡ counted b
   unfolding counted layoutOf
   counts = rw e at c
@@ -130,10 +137,14 @@ module _ (b : List ℕ) (long : 20 ≤ length b) {l : Layout} (e : l ≡ layoutO
         is-trees y4 p = p ∙ trees y4 (shaped b) (usedOnce b) refl refl
 
 -- what a record with few counts and whole lists has
-pub few-names : (l : Layout) → (leb (l .names) 512 && (leb (l .publics) 64 && (leb (l .definitions) 512 && (leb (l .expressions) 512 && leb (l .nodes) 2048)))) ≡ true → l .names ≤ 512
-few-names l h = leb-true (l .names) 512 (and-left (leb (l .names) 512) (leb (l .publics) 64 && (leb (l .definitions) 512 && (leb (l .expressions) 512 && leb (l .nodes) 2048))) h)
+pub few-names : (l : Layout)
+    → (leb (l .names) 512 && (leb (l .publics) 64 && (leb (l .definitions) 512 && (leb (l .expressions) 512 && leb (l .nodes) 2048)))) ≡ true → l .names ≤ 512
+few-names l h =
+    leb-true (l .names) 512
+    (and-left (leb (l .names) 512) (leb (l .publics) 64 && (leb (l .definitions) 512 && (leb (l .expressions) 512 && leb (l .nodes) 2048))) h)
 
-pub few-nodes : (l : Layout) → (leb (l .names) 512 && (leb (l .publics) 64 && (leb (l .definitions) 512 && (leb (l .expressions) 512 && leb (l .nodes) 2048)))) ≡ true → l .nodes ≤ 2048
+pub few-nodes : (l : Layout)
+    → (leb (l .names) 512 && (leb (l .publics) 64 && (leb (l .definitions) 512 && (leb (l .expressions) 512 && leb (l .nodes) 2048)))) ≡ true → l .nodes ≤ 2048
 few-nodes l h =
     let a = leb (l .names) 512 in
     let b = leb (l .publics) 64 in

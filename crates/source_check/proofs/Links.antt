@@ -47,7 +47,8 @@ pub record Onward (m₀ m : List ℕ) (f g : ℕ → ℕ) : Type 0 where
 pub onward-start : (m : List ℕ) (f : ℕ → ℕ) → Onward m m f f
 onward-start m f = record { onward = λ m′ a. a }
 
-not-link : (b : List ℕ) (at : ℕ) (h : Owner) (rest : ℕ → Bool) (k : ℕ) (e : Node) → OneOf (0 ∷ 1 ∷ 3 ∷ []) (tagOf Entry.the-type e) → linkFits b at h rest k e ≡ false
+not-link : (b : List ℕ) (at : ℕ) (h : Owner) (rest : ℕ → Bool) (k : ℕ) (e : Node) → OneOf (0 ∷ 1 ∷ 3 ∷ []) (tagOf Entry.the-type e)
+    → linkFits b at h rest k e ≡ false
 unfolding linkFits
 not-link b at h rest k (Node.Expression f) o = refl
 not-link b at h rest k (Node.Pattern p) o = refl
@@ -75,8 +76,11 @@ module _ (b : List ℕ) (at : ℕ) (h : Owner) (k first above x : ℕ) (i : chai
         pub way-result : {r2 : Checked} {n : ℕ} → r2 ≡ verdict 5 (resultFits b at h x result) → r2 ≡ Checked.Refused n → chainFits b at h k first ≡ false
         way-result p f = link-is ∙ rw (accepted 5 _ p1 a1, refused 5 _ p f)
 
-        module _ {r2 : Checked} {m₀ m m1 m2 m3 : List ℕ} (p2 : r2 ≡ verdict 5 (resultFits b at h x result)) (a2 : r2 ≡ Checked.Accepted) (j : Onward m₀ m (chainUses b at h k first) (chainUses b at h above x)) (u1 : m1 ≡ set m x (bump (getD m x 0))) (u2 : Adds m1 m2 (same item)) (u3 : Adds m2 m3 (resultUses h result)) where
-          used : (y : ℕ) → chainUses b at h above x y ≡ same x y + (same item y + (resultUses h result y + pick (eqb next 4294967295) 0 (chainUses b at h x next y)))
+        module _ {r2 : Checked} {m₀ m m1 m2 m3 : List ℕ} (p2 : r2 ≡ verdict 5 (resultFits b at h x result)) (a2 : r2 ≡ Checked.Accepted)
+            (j : Onward m₀ m (chainUses b at h k first) (chainUses b at h above x)) (u1 : m1 ≡ set m x (bump (getD m x 0))) (u2 : Adds m1 m2 (same item))
+            (u3 : Adds m2 m3 (resultUses h result)) where
+          used : (y : ℕ)
+              → chainUses b at h above x y ≡ same x y + (same item y + (resultUses h result y + pick (eqb next 4294967295) 0 (chainUses b at h x next y)))
           unfolding linkUses
           used y = uses-is b at h above x y l ∙ ap (λ (n : Node). same x y + linkUses h (λ z. chainUses b at h x z y) n y) (sym q ∙ w)
 
@@ -87,12 +91,20 @@ module _ (b : List ℕ) (at : ℕ) (h : Owner) (k first above x : ℕ) (i : chai
           unfolding pick
           way-end z = (
             link-is ∙ rw (accepted 5 _ p1 a1, accepted 5 _ p2 a2, eq-eqb next 4294967295 z),
-            j .onward m3 (adds-same (chainUses b at h above x) three (λ y. let v : chainUses b at h above x y ≡ same x y + (same item y + (resultUses h result y + 0)) = used y ∙ rw (eq-eqb next 4294967295 z) in omega arith)),
+            j .onward m3
+                (adds-same (chainUses b at h above x) three (λ y. let v : chainUses b at h above x y ≡ same x y + (same item y + (resultUses h result y + 0)) =
+                used y ∙ rw (eq-eqb next 4294967295 z) in omega arith)),
           )
 
-          pub way-on : (next ≡ 4294967295 → ⊥) → (chainFits b at h k first ≡ chainFits b at h x next) × Onward m₀ m3 (chainUses b at h k first) (chainUses b at h x next)
+          pub way-on : (next ≡ 4294967295 → ⊥)
+              → (chainFits b at h k first ≡ chainFits b at h x next) × Onward m₀ m3 (chainUses b at h k first) (chainUses b at h x next)
           unfolding pick
           way-on z = (
             link-is ∙ rw (accepted 5 _ p1 a1, accepted 5 _ p2 a2, ne-eqb next 4294967295 z),
-            record { onward = λ m′ a. j .onward m′ (adds-more (chainUses b at h above x) three a (λ y. let v : chainUses b at h above x y ≡ same x y + (same item y + (resultUses h result y + chainUses b at h x next y)) = used y ∙ rw (ne-eqb next 4294967295 z) in omega arith)) },
+            record {
+              onward = λ m′ a.
+                  j .onward m′ (adds-more (chainUses b at h above x) three a
+                  (λ y. let v : chainUses b at h above x y ≡ same x y + (same item y + (resultUses h result y + chainUses b at h x next y)) =
+                  used y ∙ rw (ne-eqb next 4294967295 z) in omega arith));
+            },
           )

@@ -42,9 +42,11 @@ module _ (b : List ℕ) (at names k : ℕ) (c : Children) {r1 : Checked} (p1 : r
       unfolding childrenFit
       children-third = rw (accepted 5 _ p1 a1, accepted 5 _ p2 a2) p3
 
-pub children-used : (b : List ℕ) (at k : ℕ) (c : Children) {m m1 m2 m3 : List ℕ} → Adds m m1 (childUses b at k (c .first)) → Adds m1 m2 (childUses b at k (c .second)) → Adds m2 m3 (childUses b at k (c .third)) → Adds m m3 (childrenUse b at k c)
+pub children-used : (b : List ℕ) (at k : ℕ) (c : Children) {m m1 m2 m3 : List ℕ} → Adds m m1 (childUses b at k (c .first))
+    → Adds m1 m2 (childUses b at k (c .second)) → Adds m2 m3 (childUses b at k (c .third)) → Adds m m3 (childrenUse b at k c)
 unfolding childrenUse
-children-used b at k c u1 u2 u3 = adds-more _ u1 (adds-more (λ j. childUses b at k (c .second) j + childUses b at k (c .third) j) u2 u3 (λ j. refl)) (λ j. refl)
+children-used b at k c u1 u2 u3 =
+    adds-more _ u1 (adds-more (λ j. childUses b at k (c .second) j + childUses b at k (c .third) j) u2 u3 (λ j. refl)) (λ j. refl)
 
 -- ---- the loop over nodes
 
@@ -55,7 +57,8 @@ pub nodes-none : (b : List ℕ) (at names : ℕ) (m : List ℕ) → (nodesFit b 
 unfolding nodesFit byNodes total
 nodes-none b at names m = (every-none _, adds-none m _ (λ k. refl))
 
-module _ (b : List ℕ) (at names k : ℕ) {e : Entry} {c : Children} {r : Checked} (q : e ≡ entryOf b at k) (w : c ≡ childrenOf e) (p : r ≡ verdict 5 (childrenFit b at names k c)) where
+module _ (b : List ℕ) (at names k : ℕ) {e : Entry} {c : Children} {r : Checked} (q : e ≡ entryOf b at k) (w : c ≡ childrenOf e)
+    (p : r ≡ verdict 5 (childrenFit b at names k c)) where
   node-is : childrenFit b at names k c ≡ fits b at names k
   node-is = ap (childrenFit b at names k) (w ∙ ap childrenOf q)
 
@@ -63,11 +66,13 @@ module _ (b : List ℕ) (at names k : ℕ) {e : Entry} {c : Children} {r : Check
   unfolding nodesFit
   nodes-fail n l f = sym (every-fails n k (fits b at names) l (sym node-is ∙ refused 5 _ p f))
 
-  pub nodes-more : {m m1 m2 : List ℕ} → nodesFit b at names k ≡ true → Adds m m1 (byNodes b at k) → r ≡ Checked.Accepted → Adds m1 m2 (childrenUse b at k c) → (nodesFit b at names (k + 1) ≡ true) × Adds m m2 (byNodes b at (k + 1))
+  pub nodes-more : {m m1 m2 : List ℕ} → nodesFit b at names k ≡ true → Adds m m1 (byNodes b at k) → r ≡ Checked.Accepted → Adds m1 m2 (childrenUse b at k c)
+      → (nodesFit b at names (k + 1) ≡ true) × Adds m m2 (byNodes b at (k + 1))
   unfolding nodesFit byNodes
   nodes-more h u a v = (
     every-more k (fits b at names) h (sym node-is ∙ accepted 5 _ p a),
-    adds-more (byNodes b at (k + 1)) u v (λ j. total-more k (λ i. childrenUse b at i (childrenOf (entryOf b at i)) j) ∙ ap (λ (d : Children). byNodes b at k j + childrenUse b at k d j) (sym (w ∙ ap childrenOf q))),
+    adds-more (byNodes b at (k + 1)) u v (λ j. total-more k (λ i. childrenUse b at i (childrenOf (entryOf b at i)) j)
+        ∙ ap (λ (d : Children). byNodes b at k j + childrenUse b at k d j) (sym (w ∙ ap childrenOf q))),
   )
 
 -- ---- the loops over definitions and expressions
@@ -91,7 +96,8 @@ module _ (b : List ℕ) (at nodes list k : ℕ) {x : ℕ} {r1 : Checked}
     unfolding definitionsFit
     definitions-value n l f = sym (every-fails n k (pairs b at nodes list) l (rw (← e1, ← e2, accepted 5 _ p1 a1, refused 5 _ p2 f)))
 
-    pub definitions-more : {m m1 m2 m3 : List ℕ} → definitionsFit b at nodes list k ≡ true → Adds m m1 (byDefinitions b list k) → Adds m1 m2 (same x) → r2 ≡ Checked.Accepted → Adds m2 m3 (same y) → (definitionsFit b at nodes list (k + 1) ≡ true) × Adds m m3 (byDefinitions b list (k + 1))
+    pub definitions-more : {m m1 m2 m3 : List ℕ} → definitionsFit b at nodes list k ≡ true → Adds m m1 (byDefinitions b list k) → Adds m1 m2 (same x)
+        → r2 ≡ Checked.Accepted → Adds m2 m3 (same y) → (definitionsFit b at nodes list (k + 1) ≡ true) × Adds m m3 (byDefinitions b list (k + 1))
     unfolding definitionsFit byDefinitions
     definitions-more h u v a w = (
       every-more k (pairs b at nodes list) h (rw (← e1, ← e2, accepted 5 _ p1 a1, accepted 5 _ p2 a)),
@@ -108,7 +114,8 @@ module _ (b : List ℕ) (at nodes list k : ℕ) {x : ℕ} {r : Checked} (e : x �
   unfolding expressionsFit
   expressions-fail n l f = sym (every-fails n k (λ j. expressionFits b at nodes (expressionRoot b list j)) l (rw (← e) (refused 5 _ p f)))
 
-  pub expressions-more : {m m1 m2 : List ℕ} → expressionsFit b at nodes list k ≡ true → Adds m m1 (byExpressions b list k) → r ≡ Checked.Accepted → Adds m1 m2 (same x) → (expressionsFit b at nodes list (k + 1) ≡ true) × Adds m m2 (byExpressions b list (k + 1))
+  pub expressions-more : {m m1 m2 : List ℕ} → expressionsFit b at nodes list k ≡ true → Adds m m1 (byExpressions b list k) → r ≡ Checked.Accepted
+      → Adds m1 m2 (same x) → (expressionsFit b at nodes list (k + 1) ≡ true) × Adds m m2 (byExpressions b list (k + 1))
   unfolding expressionsFit byExpressions
   expressions-more h u a v = (
     every-more k (λ j. expressionFits b at nodes (expressionRoot b list j)) h (rw (← e) (accepted 5 _ p a)),

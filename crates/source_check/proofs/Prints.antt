@@ -22,7 +22,8 @@ pub print-none : (b : List ℕ) (from : ℕ) → 0 ≡ fingerprintOf b from 0
 unfolding fingerprintOf
 print-none b from = refl
 
-pub print-more : (b : List ℕ) (from i : ℕ) {h c : ℕ} → h ≡ fingerprintOf b from i → c ≡ getD b (from + i) 0 → (h % 16777216) * 31 + c ≡ fingerprintOf b from (i + 1)
+pub print-more : (b : List ℕ) (from i : ℕ) {h c : ℕ} → h ≡ fingerprintOf b from i → c ≡ getD b (from + i) 0
+    → (h % 16777216) * 31 + c ≡ fingerprintOf b from (i + 1)
 unfolding fingerprintOf
 print-more b from i e q = rw (add-one, e, q)
 
@@ -47,7 +48,8 @@ same-bytes-print b from to (suc n) h =
     let y = eqb (getD b (from + n) 0) (getD b (to + n) 0) in
     rw (same-bytes-print b from to n (and-left x y h), eqb-true (getD b (from + n) 0) (getD b (to + n) 0) (and-right x y h))
 
-same-name-print : (b : List ℕ) (text j k : ℕ) → sameName b text j k ≡ true → fingerprintOf b (text + offsetOf b j) (lengthOf b j) ≡ fingerprintOf b (text + offsetOf b k) (lengthOf b k)
+same-name-print : (b : List ℕ) (text j k : ℕ) → sameName b text j k ≡ true
+    → fingerprintOf b (text + offsetOf b j) (lengthOf b j) ≡ fingerprintOf b (text + offsetOf b k) (lengthOf b k)
 unfolding sameName
 same-name-print b text j k h =
     let x = eqb (lengthOf b j) (lengthOf b k) in

@@ -17,7 +17,8 @@ ghost use Prim.Native.Nat.{_+_, _*_, _≤_, _<_};
 ghost use lib.ListN.{length, getD, set};
 ghost use lib.Dec.{eqb};
 ghost use Rattle.source.specs.Indices.{every};
-ghost use Rattle.source.specs.Nodes.{expressionFits, patternFits, itemFits, resultFits, chainFits, childFits, childrenFit, nodesFit, publicsFit, definitionsFit, expressionsFit};
+ghost use Rattle.source.specs.Nodes.{expressionFits, patternFits, itemFits, resultFits, chainFits, childFits};
+ghost use Rattle.source.specs.Nodes.{childrenFit, nodesFit, publicsFit, definitionsFit, expressionsFit};
 ghost use Rattle.source.specs.Uses.{same, resultUses, chainUses, childUses, childrenUse, byNodes, byDefinitions, byExpressions};
 ghost use Rattle.source_check.specs.Marks.{verdict, outcome, bump, Adds, noMarks};
 ghost use Rattle.source.specs.Layout.{layoutOf, DEFINITION-WORDS};
@@ -48,7 +49,8 @@ fn use_node(marks: &mut [u32; NODES], x: usize)
 // Node k uses x, which must be an expression before it.
 fn use_expression(s: &[u8], at: usize, k: usize, x: usize, marks: &mut [u32; NODES]) -> Checked
     requires { ⌜ (4 * (at + 4 * k) ≤ length (now s)) × (k ≤ NODES) ⌝ }
-    ensures { λ r. ⌜ (r ≡ verdict 5 (expressionFits (now (s .entry)) at k x)) × (r ≡ Checked.Accepted → Adds (now (marks .entry)) (now (marks .exit)) (same x)) ⌝ }
+    ensures { λ r.
+        ⌜ (r ≡ verdict 5 (expressionFits (now (s .entry)) at k x)) × (r ≡ Checked.Accepted → Adds (now (marks .entry)) (now (marks .exit)) (same x)) ⌝ }
 {
     if k <= x {
         return Checked::Refused(5);
@@ -63,7 +65,8 @@ fn use_expression(s: &[u8], at: usize, k: usize, x: usize, marks: &mut [u32; NOD
 // Node k uses x, which must be a pattern before it.
 fn use_pattern(s: &[u8], at: usize, k: usize, x: usize, marks: &mut [u32; NODES]) -> Checked
     requires { ⌜ (4 * (at + 4 * k) ≤ length (now s)) × (k ≤ NODES) ⌝ }
-    ensures { λ r. ⌜ (r ≡ verdict 5 (patternFits (now (s .entry)) at k x)) × (r ≡ Checked.Accepted → Adds (now (marks .entry)) (now (marks .exit)) (same x)) ⌝ }
+    ensures { λ r.
+        ⌜ (r ≡ verdict 5 (patternFits (now (s .entry)) at k x)) × (r ≡ Checked.Accepted → Adds (now (marks .entry)) (now (marks .exit)) (same x)) ⌝ }
 {
     if k <= x {
         return Checked::Refused(5);
@@ -85,7 +88,8 @@ fn use_item(
     marks: &mut [u32; NODES],
 ) -> Checked
     requires { ⌜ (4 * (at + 4 * k) ≤ length (now s)) × (k ≤ NODES) ⌝ }
-    ensures { λ r. ⌜ (r ≡ verdict 5 (itemFits (now (s .entry)) at chain k x)) × (r ≡ Checked.Accepted → Adds (now (marks .entry)) (now (marks .exit)) (same x)) ⌝ }
+    ensures { λ r.
+        ⌜ (r ≡ verdict 5 (itemFits (now (s .entry)) at chain k x)) × (r ≡ Checked.Accepted → Adds (now (marks .entry)) (now (marks .exit)) (same x)) ⌝ }
 {
     match chain {
         Chain::Parameters => use_pattern(s, at, k, x, marks),
@@ -104,7 +108,8 @@ fn use_result(
     marks: &mut [u32; NODES],
 ) -> Checked
     requires { ⌜ (4 * (at + 4 * k) ≤ length (now s)) × (k ≤ NODES) ⌝ }
-    ensures { λ r. ⌜ (r ≡ verdict 5 (resultFits (now (s .entry)) at chain k x)) × (r ≡ Checked.Accepted → Adds (now (marks .entry)) (now (marks .exit)) (resultUses chain x)) ⌝ }
+    ensures { λ r. ⌜ (r ≡ verdict 5 (resultFits (now (s .entry)) at chain k x))
+        × (r ≡ Checked.Accepted → Adds (now (marks .entry)) (now (marks .exit)) (resultUses chain x)) ⌝ }
 {
     if let Chain::Arms = chain {
         return use_expression(s, at, k, x, marks);
@@ -126,7 +131,8 @@ fn use_chain(
     marks: &mut [u32; NODES],
 ) -> Checked
     requires { ⌜ (4 * (at + 4 * k) ≤ length (now s)) × (k ≤ NODES) ⌝ }
-    ensures { λ r. ⌜ (r ≡ verdict 5 (chainFits (now (s .entry)) at chain k first)) × (r ≡ Checked.Accepted → Adds (now (marks .entry)) (now (marks .exit)) (chainUses (now (s .entry)) at chain k first)) ⌝ }
+    ensures { λ r. ⌜ (r ≡ verdict 5 (chainFits (now (s .entry)) at chain k first))
+        × (r ≡ Checked.Accepted → Adds (now (marks .entry)) (now (marks .exit)) (chainUses (now (s .entry)) at chain k first)) ⌝ }
 {
     let mut above = k;
     let mut link = first;
@@ -160,7 +166,8 @@ fn use_child(
     marks: &mut [u32; NODES],
 ) -> Checked
     requires { ⌜ (4 * (at + 4 * k) ≤ length (now s)) × (k ≤ NODES) ⌝ }
-    ensures { λ r. ⌜ (r ≡ verdict 5 (childFits (now (s .entry)) at names k child)) × (r ≡ Checked.Accepted → Adds (now (marks .entry)) (now (marks .exit)) (childUses (now (s .entry)) at k child)) ⌝ }
+    ensures { λ r. ⌜ (r ≡ verdict 5 (childFits (now (s .entry)) at names k child))
+        × (r ≡ Checked.Accepted → Adds (now (marks .entry)) (now (marks .exit)) (childUses (now (s .entry)) at k child)) ⌝ }
 {
     match child {
         Child::Nothing => Checked::Accepted,
@@ -187,7 +194,8 @@ fn use_children(
     marks: &mut [u32; NODES],
 ) -> Checked
     requires { ⌜ (4 * (at + 4 * k) ≤ length (now s)) × (k ≤ NODES) ⌝ }
-    ensures { λ r. ⌜ (r ≡ verdict 5 (childrenFit (now (s .entry)) at names k c)) × (r ≡ Checked.Accepted → Adds (now (marks .entry)) (now (marks .exit)) (childrenUse (now (s .entry)) at k c)) ⌝ }
+    ensures { λ r. ⌜ (r ≡ verdict 5 (childrenFit (now (s .entry)) at names k c))
+        × (r ≡ Checked.Accepted → Adds (now (marks .entry)) (now (marks .exit)) (childrenUse (now (s .entry)) at k c)) ⌝ }
 {
     let first = c.first;
     let Checked::Accepted = use_child(s, at, names, k, first, marks) else {
@@ -204,7 +212,8 @@ fn use_children(
 // Whether n nodes fit; then what they use is marked.
 fn read_nodes(s: &[u8], at: usize, names: usize, n: usize, marks: &mut [u32; NODES]) -> Checked
     requires { ⌜ (4 * (at + 4 * n) ≤ length (now s)) × (n ≤ NODES) ⌝ }
-    ensures { λ r. ⌜ (r ≡ verdict 5 (nodesFit (now (s .entry)) at names n)) × (r ≡ Checked.Accepted → Adds (now (marks .entry)) (now (marks .exit)) (byNodes (now (s .entry)) at n)) ⌝ }
+    ensures { λ r. ⌜ (r ≡ verdict 5 (nodesFit (now (s .entry)) at names n))
+        × (r ≡ Checked.Accepted → Adds (now (marks .entry)) (now (marks .exit)) (byNodes (now (s .entry)) at n)) ⌝ }
 {
     let mut k = 0usize;
     while k < n {
@@ -242,7 +251,8 @@ fn read_definitions(
     marks: &mut [u32; NODES],
 ) -> Checked
     requires { ⌜ (4 * (list + DEFINITION-WORDS * n) ≤ length (now s)) × ((4 * (at + 4 * nodes) ≤ length (now s)) × (nodes ≤ NODES)) ⌝ }
-    ensures { λ r. ⌜ (r ≡ verdict 5 (definitionsFit (now (s .entry)) at nodes list n)) × (r ≡ Checked.Accepted → Adds (now (marks .entry)) (now (marks .exit)) (byDefinitions (now (s .entry)) list n)) ⌝ }
+    ensures { λ r. ⌜ (r ≡ verdict 5 (definitionsFit (now (s .entry)) at nodes list n))
+        × (r ≡ Checked.Accepted → Adds (now (marks .entry)) (now (marks .exit)) (byDefinitions (now (s .entry)) list n)) ⌝ }
 {
     let mut k = 0usize;
     while k < n {
@@ -268,7 +278,8 @@ fn read_expressions(
     marks: &mut [u32; NODES],
 ) -> Checked
     requires { ⌜ (4 * (list + n) ≤ length (now s)) × ((4 * (at + 4 * nodes) ≤ length (now s)) × (nodes ≤ NODES)) ⌝ }
-    ensures { λ r. ⌜ (r ≡ verdict 5 (expressionsFit (now (s .entry)) at nodes list n)) × (r ≡ Checked.Accepted → Adds (now (marks .entry)) (now (marks .exit)) (byExpressions (now (s .entry)) list n)) ⌝ }
+    ensures { λ r. ⌜ (r ≡ verdict 5 (expressionsFit (now (s .entry)) at nodes list n))
+        × (r ≡ Checked.Accepted → Adds (now (marks .entry)) (now (marks .exit)) (byExpressions (now (s .entry)) list n)) ⌝ }
 {
     let mut k = 0usize;
     while k < n {

@@ -52,14 +52,18 @@ loop-again c =
     let at-loop-test = c .before .before .before .before in
     let at-loop = at-loop-test .before in
     let inv = at-loop .loop .inv .0 in
-    let there = at-loop-test .loop-test .taken in
-    ((digit-more _ _ _ (inv .0) there refl (c .before .before .if1 .left) (c .before .if2 .left) (c .at-most .ensures .0), c .at-most .ensures .1), omega (arith, there))
+    let there = at-loop-test .loop-test .taken in (
+      (digit-more _ _ _ (inv .0) there refl (c .before .before .if1 .left) (c .before .if2 .left) (c .at-most .ensures .0), c .at-most .ensures .1),
+      omega (arith, there),
+    )
 
 returns-3 : tie.Need-returns-3 Inv-loop μ-loop
 returns-3 c = digits-none _ _ (c .before .loop-test .left) (c .if3 .taken)
 
 returns-4 : tie.Need-returns-4 Inv-loop μ-loop
-returns-4 c = digits-all _ _ _ (c .before .before .loop .inv .0 .0) (c .before .loop-test .left) (c .before .before .loop .inv .1) (c .if3 .left) (c .before .before .loop .inv .0 .1)
+returns-4 c =
+    digits-all _ _ _ (c .before .before .loop .inv .0 .0) (c .before .loop-test .left) (c .before .before .loop .inv .1) (c .if3 .left)
+    (c .before .before .loop .inv .0 .1)
 
 pub number-spec : {M : Type 1} → statement M
 number-spec =

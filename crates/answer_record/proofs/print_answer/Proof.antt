@@ -31,7 +31,8 @@ returns c =
     let start = at-answer .before .before .before in
     let fits = c .before .before .if1 .taken in
     let out = start .args .out .now in
-    whole-as (c .print-record .result) _ _ _ (length out) (at-answer .answer .given .1) (length-take-le {A = ℕ} _ out fits ∙ given-all _ _ fits) (c .print-record .ensures)
+    whole-as (c .print-record .result) _ _ _ (length out) (at-answer .answer .given .1) (length-take-le {A = ℕ} _ out fits ∙ given-all _ _ fits)
+    (c .print-record .ensures)
 
 returns-2 : tie.Need-returns-2
 returns-2 c = whole-as (Output.All 0) _ _ _ _ (c .before .before .answer .given .1) (given-none _ _ (c .if1 .left)) refl
@@ -39,7 +40,8 @@ returns-2 c = whole-as (Output.All 0) _ _ _ _ (c .before .before .answer .given 
 returns-3 : tie.Need-returns-3
 returns-3 c =
     let start = c .before .before .before .before .before in
-    whole-as (c .print-refused .result) _ _ _ (length (start .args .out .now)) (c .before .before .answer2 .given .1) (given-refused _ _) (c .print-refused .ensures)
+    whole-as (c .print-refused .result) _ _ _ (length (start .args .out .now)) (c .before .before .answer2 .given .1) (given-refused _ _)
+    (c .print-refused .ensures)
 
 pub print-answer-spec : {M : Type 1} → statement M
 print-answer-spec =

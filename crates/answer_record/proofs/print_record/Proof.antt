@@ -24,7 +24,8 @@ returns-2 : tie.Need-returns-2
 returns-2 c =
     let at-write-output = c .before .before .before .before in
     let start = at-write-output .before .before in
-    whole-then (at-write-output .write-output .result) (c .close-output .result) _ (length (start .args .bytes .now)) (c .before .before .n .given .1) (at-write-output .write-output .ensures) (c .close-output .ensures)
+    whole-then (at-write-output .write-output .result) (c .close-output .result) _ (length (start .args .bytes .now)) (c .before .before .n .given .1)
+    (at-write-output .write-output .ensures) (c .close-output .ensures)
 
 pub print-record-spec : {M : Type 1} → statement M
 print-record-spec =

@@ -9,7 +9,8 @@ use Rattle.eval_write.specs.Written.{written, writeDefinitions}
 use Rattle.eval_write.proofs.Ways.{definitions-none, definitions-more, definitions-all}
 
 abbrev Inv-loop : tie.InvT-loop
-Inv-loop fixed store rows out₀ at list count k₀ d₀ out k d = ((written k out ≡ writeDefinitions fixed store at rows list d (written 0 out₀)) × (k ≤ 16384)) × (d ≤ count)
+Inv-loop fixed store rows out₀ at list count k₀ d₀ out k d =
+    ((written k out ≡ writeDefinitions fixed store at rows list d (written 0 out₀)) × (k ≤ 16384)) × (d ≤ count)
 
 abbrev μ-loop : tie.MeasureT-loop
 μ-loop fixed store rows out₀ at list count k₀ d₀ out k d = count - d
@@ -57,7 +58,8 @@ loop-again c =
     let was = turn .before .loop .inv in
     let put = c .put-definition .ensures in (
       (
-        definitions-more _ _ _ _ _ _ _ (was .0 .0) (tree .before .listed .ensures) (tree .write-tree .ensures .0) (ids .listed2 .ensures) (c .before .below .ensures) put,
+        definitions-more _ _ _ _ _ _ _ (was .0 .0) (tree .before .listed .ensures) (tree .write-tree .ensures .0) (ids .listed2 .ensures)
+            (c .before .below .ensures) put,
         tree .write-tree .ensures .1,
       ),
       omega (arith, turn .loop-test .taken),

@@ -9,7 +9,8 @@ use Rattle.eval_write.specs.Written.{written, writeEquations}
 use Rattle.eval_write.proofs.Ways.{equations-none, equations-more, equations-all}
 
 abbrev Inv-loop : tie.InvT-loop
-Inv-loop fixed store rows out₀ at list count from k₀ e₀ out k e = ((written k out ≡ writeEquations fixed store at rows list e (written from out₀)) × (k ≤ 16384)) × (e ≤ count)
+Inv-loop fixed store rows out₀ at list count from k₀ e₀ out k e =
+    ((written k out ≡ writeEquations fixed store at rows list e (written from out₀)) × (k ≤ 16384)) × (e ≤ count)
 
 abbrev μ-loop : tie.MeasureT-loop
 μ-loop fixed store rows out₀ at list count from k₀ e₀ out k e = count - e

@@ -11,7 +11,8 @@ use Rattle.eval_write.specs.Written.{upTo, ifMarked, marked}
 use Rattle.eval_write.proofs.Ways.{more, all-ids, marked-none, marked-more}
 
 abbrev Inv-loop : tie.InvT-loop
-Inv-loop out₀ marks at i₀ to₀ out i to = ((out ≡ setWords out₀ at (upTo i (ifMarked marks))) × (to ≡ at + length (upTo i (ifMarked marks)))) × ((to ≤ at + i) × (i ≤ 65536))
+Inv-loop out₀ marks at i₀ to₀ out i to =
+    ((out ≡ setWords out₀ at (upTo i (ifMarked marks))) × (to ≡ at + length (upTo i (ifMarked marks)))) × ((to ≤ at + i) × (i ≤ 65536))
 
 abbrev μ-loop : tie.MeasureT-loop
 μ-loop out₀ marks at i₀ to₀ out i to = 65536 - i
@@ -29,7 +30,13 @@ loop-less : tie.Need-loop-less Inv-loop μ-loop
 loop-less c = search needs
 
 loop-again : tie.Need-loop-again Inv-loop μ-loop
-loop-again c = ((more _ _ _ _ (c .before .before .before .loop .inv .0 .0) (c .before .before .before .loop .inv .0 .1) (c .write-prover .ensures .0), marked-more _ _ _ _ _ (c .before .before .before .loop .inv .0 .1) (c .write-prover .ensures .1 .0)), (omega (arith, c .write-prover .ensures .1 .1, c .before .before .before .loop .inv .1 .0), omega (arith, c .before .before .loop-test .taken)))
+loop-again c = (
+  (
+    more _ _ _ _ (c .before .before .before .loop .inv .0 .0) (c .before .before .before .loop .inv .0 .1) (c .write-prover .ensures .0),
+    marked-more _ _ _ _ _ (c .before .before .before .loop .inv .0 .1) (c .write-prover .ensures .1 .0),
+  ),
+  (omega (arith, c .write-prover .ensures .1 .1, c .before .before .before .loop .inv .1 .0), omega (arith, c .before .before .loop-test .taken)),
+)
 
 returns : tie.Need-returns Inv-loop μ-loop
 unfolding marked

@@ -64,31 +64,36 @@ returns : tie.Need-returns
 unfolding infixOf
 returns c =
     let s : tie.Start = c .before .before .before in
-    passed2 (divideOf P) _ _ (s .fits .a) (s .fits .b) (c .divide .ensures) ∙ sym (ap (λ (o : InfixOp). infixOf P o (s .args .a) (s .args .b)) (c .before .enum-told .given .1))
+    passed2 (divideOf P) _ _ (s .fits .a) (s .fits .b) (c .divide .ensures)
+    ∙ sym (ap (λ (o : InfixOp). infixOf P o (s .args .a) (s .args .b)) (c .before .enum-told .given .1))
 
 returns-2 : tie.Need-returns-2
 unfolding infixOf
 returns-2 c =
     let s : tie.Start = c .before .before .before in
-    passed2 (divideZOf P) _ _ (s .fits .a) (s .fits .b) (c .divide-z .ensures) ∙ sym (ap (λ (o : InfixOp). infixOf P o (s .args .a) (s .args .b)) (c .before .enum-told2 .given .1))
+    passed2 (divideZOf P) _ _ (s .fits .a) (s .fits .b) (c .divide-z .ensures)
+    ∙ sym (ap (λ (o : InfixOp). infixOf P o (s .args .a) (s .args .b)) (c .before .enum-told2 .given .1))
 
 returns-3 : tie.Need-returns-3
 unfolding infixOf
 returns-3 c =
     let s : tie.Start = c .before .before .before in
-    ap Value (returned _ (c .multiply .ok) (passed2 (product P) _ _ (s .fits .a) (s .fits .b) (c .multiply .ensures))) ∙ sym (ap (λ (o : InfixOp). infixOf P o (s .args .a) (s .args .b)) (c .before .enum-told3 .given .1))
+    ap Value (returned _ (c .multiply .ok) (passed2 (product P) _ _ (s .fits .a) (s .fits .b) (c .multiply .ensures)))
+    ∙ sym (ap (λ (o : InfixOp). infixOf P o (s .args .a) (s .args .b)) (c .before .enum-told3 .given .1))
 
 returns-4 : tie.Need-returns-4
 unfolding infixOf
 returns-4 c =
     let s : tie.Start = c .before .before .before in
-    ap Value (returned _ (c .add .ok) (passed2 (sum P) _ _ (s .fits .a) (s .fits .b) (c .add .ensures))) ∙ sym (ap (λ (o : InfixOp). infixOf P o (s .args .a) (s .args .b)) (c .before .enum-told4 .given .1))
+    ap Value (returned _ (c .add .ok) (passed2 (sum P) _ _ (s .fits .a) (s .fits .b) (c .add .ensures)))
+    ∙ sym (ap (λ (o : InfixOp). infixOf P o (s .args .a) (s .args .b)) (c .before .enum-told4 .given .1))
 
 returns-5 : tie.Need-returns-5
 unfolding infixOf
 returns-5 c =
     let s : tie.Start = c .before .before .before in
-    ap Value (returned _ (c .subtract .ok) (passed2 (difference P) _ _ (s .fits .a) (s .fits .b) (c .subtract .ensures))) ∙ sym (ap (λ (o : InfixOp). infixOf P o (s .args .a) (s .args .b)) (c .before .enum-told5 .given .1))
+    ap Value (returned _ (c .subtract .ok) (passed2 (difference P) _ _ (s .fits .a) (s .fits .b) (c .subtract .ensures)))
+    ∙ sym (ap (λ (o : InfixOp). infixOf P o (s .args .a) (s .args .b)) (c .before .enum-told5 .given .1))
 
 returns-6 : tie.Need-returns-6
 unfolding infixOf
@@ -100,19 +105,22 @@ returns-7 : tie.Need-returns-7
 unfolding infixOf
 returns-7 c =
     let s : tie.Start = c .before .before .before in
-    passed2 (exponentiateOf P) _ _ (s .fits .a) (s .fits .b) (c .exponentiate .ensures) ∙ sym (ap (λ (o : InfixOp). infixOf P o (s .args .a) (s .args .b)) (c .before .enum-told7 .given .1))
+    passed2 (exponentiateOf P) _ _ (s .fits .a) (s .fits .b) (c .exponentiate .ensures)
+    ∙ sym (ap (λ (o : InfixOp). infixOf P o (s .args .a) (s .args .b)) (c .before .enum-told7 .given .1))
 
 returns-8 : tie.Need-returns-8
 unfolding infixOf
 returns-8 c =
     let s : tie.Start = c .before .before .before in
-    passed2 (intDivideOf P) _ _ (s .fits .a) (s .fits .b) (c .int-divide .ensures) ∙ sym (ap (λ (o : InfixOp). infixOf P o (s .args .a) (s .args .b)) (c .before .enum-told8 .given .1))
+    passed2 (intDivideOf P) _ _ (s .fits .a) (s .fits .b) (c .int-divide .ensures)
+    ∙ sym (ap (λ (o : InfixOp). infixOf P o (s .args .a) (s .args .b)) (c .before .enum-told8 .given .1))
 
 returns-9 : tie.Need-returns-9
 unfolding infixOf
 returns-9 c =
     let s : tie.Start = c .before .before .before in
-    passed2 (moduloOf P) _ _ (s .fits .a) (s .fits .b) (c .modulo .ensures) ∙ sym (ap (λ (o : InfixOp). infixOf P o (s .args .a) (s .args .b)) (c .before .enum-told9 .given .1))
+    passed2 (moduloOf P) _ _ (s .fits .a) (s .fits .b) (c .modulo .ensures)
+    ∙ sym (ap (λ (o : InfixOp). infixOf P o (s .args .a) (s .args .b)) (c .before .enum-told9 .given .1))
 
 pub infix-spec : {M : Type 1} → statement M
 infix-spec =

@@ -67,8 +67,10 @@ returns-2 c =
     let b : ℤ = s .args .b in
     let x : back (f .before .canonical .result) ≡ elem P a = returned _ (f .before .canonical .ok) (x-is (f .before)) in
     let y : back (f .canonical2 .result) ≡ elem P b = returned _ (f .canonical2 .ok) (y-is f) in
-    let q : back (g .whole-quotient .result) ≡ wholeQuotient (elem P a) (elem P b) = returned _ (g .whole-quotient .ok) (g .whole-quotient .ensures ∙ ap₂ wholeQuotient x y) in
-    let w : back (m .multiply .result) ≡ product P (elem P b) (wholeQuotient (elem P a) (elem P b)) = returned _ (m .multiply .ok) (m .multiply .ensures ∙ ap₂ (product P) y q) in
+    let q : back (g .whole-quotient .result) ≡ wholeQuotient (elem P a) (elem P b) =
+    returned _ (g .whole-quotient .ok) (g .whole-quotient .ensures ∙ ap₂ wholeQuotient x y) in
+    let w : back (m .multiply .result) ≡ product P (elem P b) (wholeQuotient (elem P a) (elem P b)) =
+    returned _ (m .multiply .ok) (m .multiply .ensures ∙ ap₂ (product P) y q) in
     ap Value
     (returned _ (c .subtract .ok)
     (c .subtract .ensures

@@ -34,7 +34,8 @@ size c = passed mag _ (c .before .before .fits .n) (c .magnitude .ensures)
 below : (c : tie.Then1) → c .before .before .before .args .n ≡ negsuc (mag (c .before .before .before .args .n))
 below c = negative _ (c .before .before .before .fits .n) (c .if1 .taken)
 
-powered : (c : tie.After-power-of) → c .power-of .result ≡ res P (c .before .before .before .before .before .args .a) ^ suc (mag (c .before .before .before .before .before .args .n)) % P
+powered : (c : tie.After-power-of)
+    → c .power-of .result ≡ res P (c .before .before .before .before .before .args .a) ^ suc (mag (c .before .before .before .before .before .args .n)) % P
 powered c =
     let m : tie.After-magnitude = c .before .before .before in
     let one : m .magnitude .result + 1 ≡ suc (mag (m .before .before .args .n)) = omega (arith, size m) in
@@ -76,7 +77,9 @@ unfolding inverse
 returns-2 c =
     let e : tie.Else2 = c .before .before .before in
     let s : tie.Start = e .before .before .before .before in
-    ap Value (returned _ (c .centred .ok) (c .centred .ensures ∙ ap (centre P) (c .before .inverse-of .ensures ∙ ap (inv P) (powered (c .before .before) ∙ sym (res-power P P-prime (s .args .a) (suc (mag (s .args .n))))))))
+    ap Value (returned _ (c .centred .ok) (c .centred .ensures
+    ∙ ap (centre P)
+    (c .before .inverse-of .ensures ∙ ap (inv P) (powered (c .before .before) ∙ sym (res-power P P-prime (s .args .a) (suc (mag (s .args .n))))))))
     ∙ sym (pick-else _ _ _ (λ z. e .if2 .left (base (e .before .before .before) ∙ z)))
     ∙ sym (power-below P _ _ _ (below (e .before)))
 
@@ -90,7 +93,8 @@ returns-3 : tie.Need-returns-3
 unfolding power
 returns-3 c =
     let e : tie.Else1 = c .before .before in
-    ap Value (returned _ (c .centred2 .ok) (c .centred2 .ensures ∙ ap (centre P) (c .before .power-of2 .ensures ∙ ap₂ (λ (b n : ℕ). b ^ n % P) (base (e .before .before)) (size (e .before)))))
+    ap Value (returned _ (c .centred2 .ok)
+    (c .centred2 .ensures ∙ ap (centre P) (c .before .power-of2 .ensures ∙ ap₂ (λ (b n : ℕ). b ^ n % P) (base (e .before .before)) (size (e .before)))))
     ∙ sym (power-above P _ _ _ (positive _ (e .before .before .before .fits .n) (e .if1 .left)))
 
 pub raise-spec : {M : Type 1} → statement M

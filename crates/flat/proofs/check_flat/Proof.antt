@@ -29,7 +29,8 @@ returns-2 c =
 returns-3 : tie.Need-returns-3
 returns-3 c =
     let at-measures = c .before .before .before .before in
-    is-accepted _ (at-measures .measures .ensures) (not-false _ (c .before .before .before .if1 .left)) (c .before .rules-hold .ensures) (not-false _ (c .if2 .left))
+    is-accepted _ (at-measures .measures .ensures) (not-false _ (c .before .before .before .if1 .left)) (c .before .rules-hold .ensures)
+    (not-false _ (c .if2 .left))
 
 pub check-flat-spec : {M : Type 1} → statement M
 check-flat-spec =

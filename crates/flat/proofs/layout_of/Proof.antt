@@ -50,7 +50,8 @@ returns : tie.Need-returns
 returns c =
     let at-count2 = c .before .before .before .before in
     let at-count = at-count2 .before in
-    laid-out _ (c .count6 .ensures .0) (at-count .count .ensures .0) (at-count2 .count2 .ensures .0) (c .before .before .before .count3 .ensures .0) (c .before .before .count4 .ensures .0) (c .before .count5 .ensures .0)
+    laid-out _ (c .count6 .ensures .0) (at-count .count .ensures .0) (at-count2 .count2 .ensures .0) (c .before .before .before .count3 .ensures .0)
+    (c .before .before .count4 .ensures .0) (c .before .count5 .ensures .0)
 
 pub layout-of-spec : {M : Type 1} → statement M
 layout-of-spec =

@@ -47,7 +47,8 @@ returns : tie.Need-returns
 returns c =
     let at-word-at2 = c .before .before .before .before in
     let at-word-at = at-word-at2 .before in
-    read-4 _ _ _ _ _ (at-word-at .word-at .ensures) (at-word-at2 .word-at2 .ensures) (c .before .before .word-at3 .ensures) (c .before .word-at4 .ensures) (c .before .before .before .if1 .taken) (c .operator .ensures)
+    read-4 _ _ _ _ _ (at-word-at .word-at .ensures) (at-word-at2 .word-at2 .ensures) (c .before .before .word-at3 .ensures) (c .before .word-at4 .ensures)
+    (c .before .before .before .if1 .taken) (c .operator .ensures)
 
 cast-t14 : tie.Need-cast-t14
 cast-t14 c = search needs
@@ -62,12 +63,14 @@ returns-3 : tie.Need-returns-3
 returns-3 c =
     let at-word-at2 = c .before .before .before .before in
     let at-word-at = at-word-at2 .before in
-    read-7 _ _ _ _ _ (at-word-at .word-at .ensures) (at-word-at2 .word-at2 .ensures) (c .before .if3 .taken) (toZ-ofZ w32 _ (record { sfits = c .signed .ok }) ∙ c .signed .ensures)
+    read-7 _ _ _ _ _ (at-word-at .word-at .ensures) (at-word-at2 .word-at2 .ensures) (c .before .if3 .taken)
+    (toZ-ofZ w32 _ (record { sfits = c .signed .ok }) ∙ c .signed .ensures)
 
 returns-4 : tie.Need-returns-4
 returns-4 c =
     let at-word-at = c .before .before .before .before in
-    read-8 _ _ _ _ _ (at-word-at .word-at .ensures) (c .before .before .before .word-at2 .ensures) (c .before .before .if1 .left) (c .before .if2 .left) (c .if3 .left)
+    read-8 _ _ _ _ _ (at-word-at .word-at .ensures) (c .before .before .before .word-at2 .ensures) (c .before .before .if1 .left)
+    (c .before .if2 .left) (c .if3 .left)
 
 pub node-at-spec : {M : Type 1} → statement M
 node-at-spec =

@@ -31,7 +31,9 @@ returns-3 : tie.Need-returns-3
 returns-3 c =
     let at-if1 = c .before .before .before .before in
     let start = at-if1 .before .before in
-    let tests = and-on _ (le-leb _ _ (at-if1 .if1 .left)) (and-on _ (sym (c .before .before .before .all-below .ensures) ∙ not-false _ (c .before .before .if2 .left)) (and-no _ _ (sym (c .before .all-below2 .ensures) ∙ not-true _ (c .if3 .taken)))) in
+    let tests =
+    and-on _ (le-leb _ _ (at-if1 .if1 .left)) (and-on _ (sym (c .before .before .before .all-below .ensures) ∙ not-false _ (c .before .before .if2 .left))
+    (and-no _ _ (sym (c .before .all-below2 .ensures) ∙ not-true _ (c .if3 .taken)))) in
     tests ∙ rules-by _ (start .pre .0)
 
 rises-requires : tie.Need-rises-requires
@@ -45,7 +47,9 @@ returns-4 c =
     let at-all-below = at-if2 .before in
     let at-if1 = at-all-below .before in
     let start = at-if1 .before .before in
-    let tests = and-on _ (le-leb _ _ (at-if1 .if1 .left)) (and-on _ (sym (at-all-below .all-below .ensures) ∙ not-false _ (at-if2 .if2 .left)) (and-on _ (sym (c .before .before .before .all-below2 .ensures) ∙ not-false _ (c .before .before .if3 .left)) (and-no _ _ (sym (c .before .rises .ensures) ∙ not-true _ (c .if4 .taken))))) in
+    let tests = and-on _ (le-leb _ _ (at-if1 .if1 .left)) (and-on _ (sym (at-all-below .all-below .ensures) ∙ not-false _ (at-if2 .if2 .left))
+    (and-on _ (sym (c .before .before .before .all-below2 .ensures) ∙ not-false _ (c .before .before .if3 .left))
+    (and-no _ _ (sym (c .before .rises .ensures) ∙ not-true _ (c .if4 .taken))))) in
     tests ∙ rules-by _ (start .pre .0)
 
 trees-hold-requires : tie.Need-trees-hold-requires
@@ -61,7 +65,9 @@ returns-5 c =
     let at-all-below = at-if2 .before in
     let at-if1 = at-all-below .before in
     let start = at-if1 .before .before in
-    let tests = and-on _ (le-leb _ _ (at-if1 .if1 .left)) (and-on _ (sym (at-all-below .all-below .ensures) ∙ not-false _ (at-if2 .if2 .left)) (and-on _ (sym (at-all-below2 .all-below2 .ensures) ∙ not-false _ (at-if3 .if3 .left)) (and-on _ (sym (c .before .before .before .rises .ensures) ∙ not-false _ (c .before .before .if4 .left)) (and-no _ _ (sym (c .before .trees-hold .ensures) ∙ not-true _ (c .if5 .taken)))))) in
+    let tests = and-on _ (le-leb _ _ (at-if1 .if1 .left)) (and-on _ (sym (at-all-below .all-below .ensures) ∙ not-false _ (at-if2 .if2 .left))
+    (and-on _ (sym (at-all-below2 .all-below2 .ensures) ∙ not-false _ (at-if3 .if3 .left)) (and-on _ (sym (c .before .before .before .rises .ensures)
+    ∙ not-false _ (c .before .before .if4 .left)) (and-no _ _ (sym (c .before .trees-hold .ensures) ∙ not-true _ (c .if5 .taken)))))) in
     tests ∙ rules-by _ (start .pre .0)
 
 in-order-requires : tie.Need-in-order-requires
@@ -81,7 +87,11 @@ returns-6 c =
     let at-all-below = at-if2 .before in
     let at-if1 = at-all-below .before in
     let start = at-if1 .before .before in
-    let tests = and-on _ (le-leb _ _ (at-if1 .if1 .left)) (and-on _ (sym (at-all-below .all-below .ensures) ∙ not-false _ (at-if2 .if2 .left)) (and-on _ (sym (at-all-below2 .all-below2 .ensures) ∙ not-false _ (at-if3 .if3 .left)) (and-on _ (sym (at-rises .rises .ensures) ∙ not-false _ (c .before .before .before .if4 .left)) (and-on _ (sym (c .before .before .trees-hold .ensures) ∙ not-false _ (c .before .if5 .left)) (c .in-order .ensures))))) in
+    let tests = and-on _ (le-leb _ _ (at-if1 .if1 .left)) (and-on _ (sym (at-all-below .all-below .ensures) ∙ not-false _ (at-if2 .if2 .left))
+    (and-on _ (sym (at-all-below2 .all-below2 .ensures) ∙ not-false _ (at-if3 .if3 .left)) (and-on _ (sym (at-rises .rises .ensures)
+    ∙ not-false _
+    (c .before .before .before .if4 .left))
+    (and-on _ (sym (c .before .before .trees-hold .ensures) ∙ not-false _ (c .before .if5 .left)) (c .in-order .ensures))))) in
     tests ∙ rules-by _ (start .pre .0)
 
 pub rules-hold-spec : {M : Type 1} → statement M

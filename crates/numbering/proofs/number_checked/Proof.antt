@@ -12,7 +12,8 @@ use native.Mathlib.Omega.{arith}
 use Prim.Native.Nat.{ℕ, _-_, _+_, _*_, _≤_, _<_}
 use mathlib.Core.Path.{_≡_, refl, _∙_, ap, sym}
 use lib.ListN.{length, length-set}
-use Rattle.numbering.proofs.Entire.{no-row-holds, no-row-long, no-entries-long, three-registered, publics-asked, definitions-asked, expressions-asked, names-asked, entire-at, refused-is}
+use Rattle.numbering.proofs.Entire.{no-row-holds, no-row-long, no-entries-long, three-registered, publics-asked}
+use Rattle.numbering.proofs.Entire.{definitions-asked, expressions-asked, names-asked, entire-at, refused-is}
 
 layout-of-requires : tie.Need-layout-of-requires
 layout-of-requires c κs = search needs
@@ -29,8 +30,10 @@ number-lists-requires : tie.Need-number-lists-requires
 number-lists-requires c κs =
     let at-no-row = c .before .before .before .before .before in
     let at-layout-of = at-no-row .before in
-    let start = at-layout-of .before .before in
-    (((start .pre .0, at-layout-of .layout-of .ensures), (c .before .before .before .register-intrinsics .ensures .0, start .pre .1)), c .before .before .before .register-intrinsics .ensures .1 (no-row-holds (at-no-row .no-row .ensures)))
+    let start = at-layout-of .before .before in (
+      ((start .pre .0, at-layout-of .layout-of .ensures), (c .before .before .before .register-intrinsics .ensures .0, start .pre .1)),
+      c .before .before .before .register-intrinsics .ensures .1 (no-row-holds (at-no-row .no-row .ensures)),
+    )
 
 returns : tie.Need-returns
 returns c = search needs

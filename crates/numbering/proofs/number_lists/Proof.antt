@@ -13,7 +13,8 @@ use native.Mathlib.Omega.{arith}
 use Prim.Native.Nat.{ℕ, _-_, _+_, _*_, _≤_, _<_}
 use mathlib.Core.Path.{_≡_, refl, _∙_, ap, sym}
 use lib.ListN.{length, length-set}
-use Rattle.numbering.proofs.Entire.{no-row-holds, no-row-long, no-entries-long, three-registered, publics-asked, definitions-asked, expressions-asked, names-asked, entire-at, refused-is}
+use Rattle.numbering.proofs.Entire.{no-row-holds, no-row-long, no-entries-long, three-registered, publics-asked}
+use Rattle.numbering.proofs.Entire.{definitions-asked, expressions-asked, names-asked, entire-at, refused-is}
 
 no-row-requires : tie.Need-no-row-requires
 no-row-requires c κs = search needs
@@ -36,14 +37,32 @@ number-definitions-requires c κs =
     let at-no-entries = at-no-entries2 .before in
     let at-no-row = at-no-entries .before in
     let start = at-no-row .before .before in
-    let v = at-number-publics .number-publics .ensures in let w = definitions-asked _ (start .pre .0 .0 .0) _ (start .pre .0 .0 .1) _ (v .few) in (w .0, (w .1, (record { rows = no-row-long (at-no-row .no-row .ensures); undone = no-entries-long (at-no-entries .no-entries .ensures); olds = no-entries-long (at-no-entries2 .no-entries2 .ensures); nodes = start .pre .0 .1 .1 .0 }, v .row)))
+    let v = at-number-publics .number-publics .ensures in
+    let w = definitions-asked _ (start .pre .0 .0 .0) _ (start .pre .0 .0 .1) _ (v .few) in (
+      w .0,
+      (
+        w .1,
+        (
+          record {
+            rows = no-row-long (at-no-row .no-row .ensures);
+            undone = no-entries-long (at-no-entries .no-entries .ensures);
+            olds = no-entries-long (at-no-entries2 .no-entries2 .ensures);
+            nodes = start .pre .0 .1 .1 .0;
+          },
+          v .row,
+        ),
+      ),
+    )
 
 number-expressions-requires : tie.Need-number-expressions-requires
 number-expressions-requires c κs =
     let at-number-definitions = c .before .before .before .before .before in
     let at-number-publics = at-number-definitions .before .before .before .before .before .before in
     let start = at-number-publics .before .before .before .before .before .before .before .before in
-    let v = at-number-publics .number-publics .ensures in let d = at-number-definitions .number-definitions .ensures in let w = expressions-asked _ (start .pre .0 .0 .0) _ (start .pre .0 .0 .1) _ _ (v .few) (d .few) in (w .0, (w .1, (d .sizes, d .row)))
+    let v = at-number-publics .number-publics .ensures in
+    let d = at-number-definitions .number-definitions .ensures in
+    let w = expressions-asked _ (start .pre .0 .0 .0) _ (start .pre .0 .0 .1) _ _ (v .few) (d .few) in
+    (w .0, (w .1, (d .sizes, d .row)))
 
 returns : tie.Need-returns
 returns c =
@@ -51,7 +70,8 @@ returns c =
     let at-number-publics = at-number-definitions .before .before .before .before .before .before in
     let at-no-row = at-number-publics .before .before .before .before .before .before in
     let start = at-no-row .before .before in
-    entire-at _ (start .pre .0 .0 .0) _ (start .pre .0 .0 .1) (at-number-publics .number-publics .ensures) (at-number-definitions .number-definitions .ensures) (c .number-expressions .ensures) (no-row-holds (at-no-row .no-row .ensures)) (start .pre .1) (start .pre .0 .1 .1 .0) (start .pre .0 .1 .1 .1)
+    entire-at _ (start .pre .0 .0 .0) _ (start .pre .0 .0 .1) (at-number-publics .number-publics .ensures) (at-number-definitions .number-definitions .ensures)
+    (c .number-expressions .ensures) (no-row-holds (at-no-row .no-row .ensures)) (start .pre .1) (start .pre .0 .1 .1 .0) (start .pre .0 .1 .1 .1)
 
 pub number-lists-spec : {M : Type 1} → statement M
 number-lists-spec =

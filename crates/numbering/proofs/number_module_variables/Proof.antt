@@ -23,8 +23,10 @@ number-checked-requires : tie.Need-number-checked-requires
 number-checked-requires c κs =
     let at-check-source = c .before .before .before .before in
     let at-no-publics = at-check-source .before in
-    let at-no-entries = at-no-publics .before in
-    (checked-accepted _ (sym (c .before .before .enum-told .given .1) ∙ at-check-source .check-source .ensures) .1, (no-entries-long (at-no-entries .no-entries .ensures), no-publics-long (at-no-publics .no-publics .ensures)))
+    let at-no-entries = at-no-publics .before in (
+      checked-accepted _ (sym (c .before .before .enum-told .given .1) ∙ at-check-source .check-source .ensures) .1,
+      (no-entries-long (at-no-entries .no-entries .ensures), no-publics-long (at-no-publics .no-publics .ensures)),
+    )
 
 enum-known-n : tie.Need-enum-known-n
 enum-known-n c = search needs
@@ -34,15 +36,19 @@ unfolding Outcome
 returns c =
     let at-check-source = c .before .before .before .before .before in
     let at-no-publics = at-check-source .before in
-    let at-no-entries = at-no-publics .before in
-    (checked-accepted _ (sym (c .before .before .before .enum-told .given .1) ∙ at-check-source .check-source .ensures) .0, numbered-from _ _ (at-no-entries .no-entries .ensures) (at-no-publics .no-publics .ensures) (c .number-checked .ensures))
+    let at-no-entries = at-no-publics .before in (
+      checked-accepted _ (sym (c .before .before .before .enum-told .given .1) ∙ at-check-source .check-source .ensures) .0,
+      numbered-from _ _ (at-no-entries .no-entries .ensures) (at-no-publics .no-publics .ensures) (c .number-checked .ensures),
+    )
 
 returns-2 : tie.Need-returns-2
 unfolding Outcome
 returns-2 c =
     let at-no-publics = c .before .before .before .before in
-    let at-no-entries = at-no-publics .before in
-    (refused-is _ (sym (c .before .n .given .1) ∙ c .before .before .before .check-source .ensures), (at-no-entries .no-entries .ensures, at-no-publics .no-publics .ensures))
+    let at-no-entries = at-no-publics .before in (
+      refused-is _ (sym (c .before .n .given .1) ∙ c .before .before .before .check-source .ensures),
+      (at-no-entries .no-entries .ensures, at-no-publics .no-publics .ensures),
+    )
 
 pub number-module-variables-spec : {M : Type 1} → statement M
 number-module-variables-spec =

@@ -9,7 +9,8 @@ use native.Mathlib.Omega.{arith}
 use Prim.Native.Nat.{ℕ, _-_, _+_, _*_, _≤_, _<_}
 use mathlib.Core.Path.{_≡_, refl, _∙_, ap, sym}
 use lib.ListN.{length, length-set}
-use Rattle.numbering.proofs.Entire.{no-row-holds, no-row-long, no-entries-long, three-registered, publics-asked, definitions-asked, expressions-asked, names-asked, entire-at, refused-is}
+use Rattle.numbering.proofs.Entire.{no-row-holds, no-row-long, no-entries-long, three-registered, publics-asked}
+use Rattle.numbering.proofs.Entire.{definitions-asked, expressions-asked, names-asked, entire-at, refused-is}
 
 slice-aggregate-register : tie.Need-slice-aggregate-register
 slice-aggregate-register c = search needs
@@ -31,8 +32,10 @@ register-requires-3 c κs = search needs
 
 returns : tie.Need-returns
 returns c =
-    let at-register = c .before .before .before .before .before .before in
-    (c .register3 .ensures .row, λ h. three-registered _ _ _ (at-register .register .ensures) (c .before .before .before .register2 .ensures) (c .register3 .ensures) h)
+    let at-register = c .before .before .before .before .before .before in (
+      c .register3 .ensures .row,
+      λ h. three-registered _ _ _ (at-register .register .ensures) (c .before .before .before .register2 .ensures) (c .register3 .ensures) h,
+    )
 
 pub register-intrinsics-spec : {M : Type 1} → statement M
 register-intrinsics-spec =

@@ -26,7 +26,8 @@ returns : tie.Need-returns
 returns c =
     let at-flatten-expr-to-3ac2 = c .before .before .before .before .before .before in
     let at-flatten-expr-to-3ac = at-flatten-expr-to-3ac2 .before .before .before .before in
-    way-both _ _ _ _ _ _ _ (at-flatten-expr-to-3ac .flatten-expr-to-3ac .ensures) (at-flatten-expr-to-3ac2 .flatten-expr-to-3ac2 .ensures) (c .before .before .place-term .ensures)
+    way-both _ _ _ _ _ _ _ (at-flatten-expr-to-3ac .flatten-expr-to-3ac .ensures) (at-flatten-expr-to-3ac2 .flatten-expr-to-3ac2 .ensures)
+    (c .before .before .place-term .ensures)
 
 pub flatten-both-spec : {M : Type 1} → statement M
 flatten-both-spec =

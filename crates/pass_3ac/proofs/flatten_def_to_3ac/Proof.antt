@@ -35,7 +35,8 @@ returns-3 c =
     let at-if2 = at-flatten-expr-to-3ac .before .before .before in
     let at-if1 = at-if2 .before .before in
     let start = at-if1 .before .before .before .before in
-    way-counted (start .pre .1) _ _ _ _ _ _ _ _ (at-if1 .if1 .left) (at-if2 .if2 .left) (at-flatten-expr-to-3ac .flatten-expr-to-3ac .ensures) (c .substitute .ensures)
+    way-counted (start .pre .1) _ _ _ _ _ _ _ _ (at-if1 .if1 .left) (at-if2 .if2 .left) (at-flatten-expr-to-3ac .flatten-expr-to-3ac .ensures)
+    (c .substitute .ensures)
 
 pub flatten-def-to-3ac-spec : {M : Type 1} → statement M
 flatten-def-to-3ac-spec =

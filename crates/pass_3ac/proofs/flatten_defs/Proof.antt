@@ -17,13 +17,24 @@ use Rattle.pass_3ac.proofs.Placing.{length-put}
 use Rattle.pass_3ac.proofs.Turns.{DefsFrom, defs-start, defs-turn, defs-end, room-start, room-def, room-turn, over-next}
 
 abbrev Inv-loop : tie.InvT-loop
-Inv-loop s definitions n nodes usage provers subs₀ steps body₀ at next to₀ id₀ k₀ subs body to id k = OverDefinitions s n definitions nodes k × DefsFrom s steps subs₀ body₀ at next subs body to id k × Room (definitionsNodes (definitionsFrom s k)) to id body × (length subs ≡ SUBSTITUTION-WORDS) × (length body ≡ length body₀)
+Inv-loop s definitions n nodes usage provers subs₀ steps body₀ at next to₀ id₀ k₀ subs body to id k =
+    OverDefinitions s n definitions nodes k
+    × DefsFrom s steps subs₀ body₀ at next subs body to id k
+    × Room (definitionsNodes (definitionsFrom s k)) to id body
+    × (length subs ≡ SUBSTITUTION-WORDS)
+    × (length body ≡ length body₀)
 
 abbrev μ-loop : tie.MeasureT-loop
 μ-loop s definitions n nodes usage provers subs₀ steps body₀ at next to₀ id₀ k₀ subs body to id k = n - k
 
 loop-holds : tie.Need-loop-holds Inv-loop μ-loop
-loop-holds c = (record { count = c .before .before .pre .0 .3; place = c .before .before .pre .0 .2; trees = c .before .before .pre .0 .4; within = omega arith }, defs-start _ _ _ _ _ _, room-start _ (c .before .before .pre .1 .1), c .before .before .pre .1 .0, refl)
+loop-holds c = (
+  record { count = c .before .before .pre .0 .3; place = c .before .before .pre .0 .2; trees = c .before .before .pre .0 .4; within = omega arith },
+  defs-start _ _ _ _ _ _,
+  room-start _ (c .before .before .pre .1 .1),
+  c .before .before .pre .1 .0,
+  refl,
+)
 
 definition-at-requires : tie.Need-definition-at-requires Inv-loop μ-loop
 definition-at-requires c κs =

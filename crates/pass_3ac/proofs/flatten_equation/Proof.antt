@@ -15,7 +15,9 @@ is-dead-requires : tie.Need-is-dead-requires
 is-dead-requires c κs = search needs
 
 returns : tie.Need-returns
-returns c = way-dead _ _ _ _ _ (c .before .before .before .copy-expr .ensures) (c .before .before .copy-expr2 .ensures) (c .before .is-dead .ensures) (c .if1 .taken) _ _
+returns c =
+    way-dead _ _ _ _ _ (c .before .before .before .copy-expr .ensures) (c .before .before .copy-expr2 .ensures)
+    (c .before .is-dead .ensures) (c .if1 .taken) _ _
 
 left-side-requires : tie.Need-left-side-requires
 left-side-requires c κs = search needs
@@ -49,7 +51,8 @@ returns-2 c =
     let at-is-dead = at-if1 .before in
     let at-copy-expr2 = at-is-dead .before in
     let at-copy-expr = at-copy-expr2 .before in
-    way-left _ _ _ _ _ (at-copy-expr .copy-expr .ensures) (at-copy-expr2 .copy-expr2 .ensures) (at-is-dead .is-dead .ensures) (at-if1 .if1 .left) (at-left-side .left-side .ensures) _ _ (at-side .side .given .1) (c .before .before .flatten-into .ensures)
+    way-left _ _ _ _ _ (at-copy-expr .copy-expr .ensures) (at-copy-expr2 .copy-expr2 .ensures) (at-is-dead .is-dead .ensures) (at-if1 .if1 .left)
+    (at-left-side .left-side .ensures) _ _ (at-side .side .given .1) (c .before .before .flatten-into .ensures)
 
 same-length-2 : tie.Need-same-length-2
 same-length-2 c = search needs
@@ -62,7 +65,8 @@ returns-3 c =
     let at-is-dead = at-if1 .before in
     let at-copy-expr2 = at-is-dead .before in
     let at-copy-expr = at-copy-expr2 .before in
-    way-right _ _ _ _ _ (at-copy-expr .copy-expr .ensures) (at-copy-expr2 .copy-expr2 .ensures) (at-is-dead .is-dead .ensures) (at-if1 .if1 .left) (at-left-side .left-side .ensures) _ _ (at-side2 .side2 .given .1) (c .before .before .flatten-into2 .ensures)
+    way-right _ _ _ _ _ (at-copy-expr .copy-expr .ensures) (at-copy-expr2 .copy-expr2 .ensures) (at-is-dead .is-dead .ensures) (at-if1 .if1 .left)
+    (at-left-side .left-side .ensures) _ _ (at-side2 .side2 .given .1) (c .before .before .flatten-into2 .ensures)
 
 same-length-3 : tie.Need-same-length-3
 same-length-3 c = search needs
@@ -75,7 +79,8 @@ returns-4 c =
     let at-is-dead = at-if1 .before in
     let at-copy-expr2 = at-is-dead .before in
     let at-copy-expr = at-copy-expr2 .before in
-    way-neither _ _ _ _ _ (at-copy-expr .copy-expr .ensures) (at-copy-expr2 .copy-expr2 .ensures) (at-is-dead .is-dead .ensures) (at-if1 .if1 .left) (at-left-side .left-side .ensures) _ _ (at-enum-told .enum-told .given .1) (c .before .before .flatten-both .ensures)
+    way-neither _ _ _ _ _ (at-copy-expr .copy-expr .ensures) (at-copy-expr2 .copy-expr2 .ensures) (at-is-dead .is-dead .ensures) (at-if1 .if1 .left)
+    (at-left-side .left-side .ensures) _ _ (at-enum-told .enum-told .given .1) (c .before .before .flatten-both .ensures)
 
 pub flatten-equation-spec : {M : Type 1} → statement M
 flatten-equation-spec =

@@ -11,16 +11,26 @@ use Rattle.pass_classify.proofs.Lists.{equationsFrom, OverEquations, left-side,
 use Rattle.pass_copies.specs.Substituted.{substOf}
 use Rattle.pass_3ac.specs.Cutting.{Room}
 use Rattle.pass_3ac.proofs.Placing.{length-put}
-use Rattle.pass_3ac.proofs.Turns.{EquationsFrom, equations-start, equations-turn, equations-end, room-equations-start, room-equation, room-equations-turn, over-equations-next}
+use Rattle.pass_3ac.proofs.Turns.{EquationsFrom, equations-start, equations-turn, equations-end}
+use Rattle.pass_3ac.proofs.Turns.{room-equations-start, room-equation, room-equations-turn, over-equations-next}
 
 abbrev Inv-loop : tie.InvT-loop
-Inv-loop s equations n nodes subs steps body₀ at next to₀ id₀ k₀ body to id k = OverEquations s n equations nodes k × EquationsFrom s steps (substOf subs) body₀ at next body to id k × Room (equationsNodes (equationsFrom s k)) to id body × (length body ≡ length body₀)
+Inv-loop s equations n nodes subs steps body₀ at next to₀ id₀ k₀ body to id k =
+    OverEquations s n equations nodes k
+    × EquationsFrom s steps (substOf subs) body₀ at next body to id k
+    × Room (equationsNodes (equationsFrom s k)) to id body
+    × (length body ≡ length body₀)
 
 abbrev μ-loop : tie.MeasureT-loop
 μ-loop s equations n nodes subs steps body₀ at next to₀ id₀ k₀ body to id k = n - k
 
 loop-holds : tie.Need-loop-holds Inv-loop μ-loop
-loop-holds c = (record { count = c .before .before .pre .2; place = c .before .before .pre .1; trees = c .before .before .pre .3; within = omega arith }, equations-start _ _ _ _ _ _, room-equations-start _ (c .before .before .pre .4), refl)
+loop-holds c = (
+  record { count = c .before .before .pre .2; place = c .before .before .pre .1; trees = c .before .before .pre .3; within = omega arith },
+  equations-start _ _ _ _ _ _,
+  room-equations-start _ (c .before .before .pre .4),
+  refl,
+)
 
 equation-at-requires : tie.Need-equation-at-requires Inv-loop μ-loop
 equation-at-requires c κs =

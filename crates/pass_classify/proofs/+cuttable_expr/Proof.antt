@@ -13,7 +13,8 @@ use borrow.Author.Needs.{needs}
 use native.Mathlib.Omega.{arith}
 use mathlib.Core.Path.{_∙_, sym}
 use borrow.Author.Tests.{not-true, not-false}
-use Rattle.pass_classify.proofs.Walks.{left-inside, right-inside, child-inside, cuttable-operator-no, cuttable-left-no, cuttable-infix, cuttable-negate, cuttable-constant, cuttable-variable}
+use Rattle.pass_classify.proofs.Walks.{left-inside, right-inside, child-inside, cuttable-operator-no, cuttable-left-no}
+use Rattle.pass_classify.proofs.Walks.{cuttable-infix, cuttable-negate, cuttable-constant, cuttable-variable}
 
 abbrev μ-cuttable-expr : Measures 1 cuttable-expr-kinds.ps ℕ
 μ-cuttable-expr κs a = a .1 .1 .0
@@ -54,22 +55,26 @@ cuttable-expr-returns : (t : ℕ) → cuttable-expr-lts.Need-returns (cuttable-e
 cuttable-expr-returns t c =
     let at-node-at = c .before .before .before .before .before in
     let start = at-node-at .before .before in
-    cuttable-operator-no (start .pre .1) (sym (at-node-at .node-at .ensures) ∙ c .before .before .before .node .given .1) (c .before .cuttable-operator .ensures) (not-true _ (c .if1 .taken))
+    cuttable-operator-no (start .pre .1) (sym (at-node-at .node-at .ensures) ∙ c .before .before .before .node .given .1)
+    (c .before .cuttable-operator .ensures) (not-true _ (c .if1 .taken))
 
 cuttable-expr-cuttable-expr-requires : (t : ℕ) → cuttable-expr-lts.Need-cuttable-expr-requires (cuttable-expr-claims t) (cuttable-expr-at t) cuttable-expr.Post
 cuttable-expr-cuttable-expr-requires t c κs =
     let at-node-at = c .before .before .before .before .before in
     let start = at-node-at .before .before in
-    let w = left-inside (start .pre .1) (sym (at-node-at .node-at .ensures) ∙ c .before .before .before .node .given .1) in (omega (arith, start .pre .0, w .0), w .1)
+    let w = left-inside (start .pre .1) (sym (at-node-at .node-at .ensures) ∙ c .before .before .before .node .given .1) in
+    (omega (arith, start .pre .0, w .0), w .1)
 
 cuttable-expr-returns-2 : (t : ℕ) → cuttable-expr-lts.Need-returns-2 (cuttable-expr-claims t) (cuttable-expr-at t) cuttable-expr.Post
 cuttable-expr-returns-2 t c =
     let at-node = c .before .before .before .before .before in
     let at-node-at = at-node .before .before in
     let start = at-node-at .before .before in
-    cuttable-left-no (start .pre .1) (sym (at-node-at .node-at .ensures) ∙ at-node .node .given .1) (c .before .before .before .cuttable-operator .ensures) (not-false _ (c .before .before .if1 .left)) (c .before .cuttable-expr .ensures) (not-true _ (c .if2 .taken))
+    cuttable-left-no (start .pre .1) (sym (at-node-at .node-at .ensures) ∙ at-node .node .given .1) (c .before .before .before .cuttable-operator .ensures)
+    (not-false _ (c .before .before .if1 .left)) (c .before .cuttable-expr .ensures) (not-true _ (c .if2 .taken))
 
-cuttable-expr-cuttable-expr-requires-2 : (t : ℕ) → cuttable-expr-lts.Need-cuttable-expr-requires-2 (cuttable-expr-claims t) (cuttable-expr-at t) cuttable-expr.Post
+cuttable-expr-cuttable-expr-requires-2 : (t : ℕ)
+    → cuttable-expr-lts.Need-cuttable-expr-requires-2 (cuttable-expr-claims t) (cuttable-expr-at t) cuttable-expr.Post
 cuttable-expr-cuttable-expr-requires-2 t c κs =
     let at-node = c .before .before .before .before .before in
     let at-node-at = at-node .before .before in
@@ -79,10 +84,12 @@ cuttable-expr-cuttable-expr-requires-2 t c κs =
 cuttable-expr-enum-known-node-2 : (t : ℕ) → cuttable-expr-lts.Need-enum-known-node-2 (cuttable-expr-claims t) (cuttable-expr-at t) cuttable-expr.Post
 cuttable-expr-enum-known-node-2 t c = search needs
 
-cuttable-expr-cuttable-expr-requires-3 : (t : ℕ) → cuttable-expr-lts.Need-cuttable-expr-requires-3 (cuttable-expr-claims t) (cuttable-expr-at t) cuttable-expr.Post
+cuttable-expr-cuttable-expr-requires-3 : (t : ℕ)
+    → cuttable-expr-lts.Need-cuttable-expr-requires-3 (cuttable-expr-claims t) (cuttable-expr-at t) cuttable-expr.Post
 cuttable-expr-cuttable-expr-requires-3 t c κs =
     let start = c .before .before .before .before .before in
-    let w = child-inside (start .pre .1) (sym (c .before .before .before .node-at .ensures) ∙ c .before .node2 .given .1) in (omega (arith, start .pre .0, w .0), w .1)
+    let w = child-inside (start .pre .1) (sym (c .before .before .before .node-at .ensures) ∙ c .before .node2 .given .1) in
+    (omega (arith, start .pre .0, w .0), w .1)
 
 cuttable-expr-enum-told : (t : ℕ) → cuttable-expr-lts.Need-enum-told (cuttable-expr-claims t) (cuttable-expr-at t) cuttable-expr.Post
 cuttable-expr-enum-told t c = search needs
@@ -96,7 +103,9 @@ cuttable-expr-returns-3 t c =
     let at-node = at-cuttable-operator .before .before in
     let at-node-at = at-node .before .before in
     let start = at-node-at .before .before in
-    cuttable-infix (start .pre .1) (sym (at-node-at .node-at .ensures) ∙ at-node .node .given .1) (at-cuttable-operator .cuttable-operator .ensures) (not-false _ (c .before .before .before .if1 .left)) (c .before .before .cuttable-expr .ensures) (not-false _ (c .before .if2 .left)) (c .cuttable-expr2 .ensures)
+    cuttable-infix (start .pre .1) (sym (at-node-at .node-at .ensures) ∙ at-node .node .given .1) (at-cuttable-operator .cuttable-operator .ensures)
+    (not-false _ (c .before .before .before .if1 .left)) (c .before .before .cuttable-expr .ensures) (not-false _ (c .before .if2 .left))
+    (c .cuttable-expr2 .ensures)
 
 cuttable-expr-returns-4 : (t : ℕ) → cuttable-expr-lts.Need-returns-4 (cuttable-expr-claims t) (cuttable-expr-at t) cuttable-expr.Post
 cuttable-expr-returns-4 t c =

@@ -44,14 +44,16 @@ mark-used-mark-used-requires : (t : ℕ) → mark-used-lts.Need-mark-used-requir
 mark-used-mark-used-requires t c κs =
     let at-node-at = c .before .before .before .before in
     let start = at-node-at .before .before in
-    let w = left-inside (start .pre .1 .0) (sym (at-node-at .node-at .ensures) ∙ c .before .before .node .given .1) in (omega (arith, start .pre .0, w .0), (w .1, start .pre .1 .1, start .pre .1 .2))
+    let w = left-inside (start .pre .1 .0) (sym (at-node-at .node-at .ensures) ∙ c .before .before .node .given .1) in
+    (omega (arith, start .pre .0, w .0), (w .1, start .pre .1 .1, start .pre .1 .2))
 
 mark-used-mark-used-requires-2 : (t : ℕ) → mark-used-lts.Need-mark-used-requires-2 (mark-used-claims t) (mark-used-at t) mark-used.Post
 mark-used-mark-used-requires-2 t c κs =
     let at-node = c .before .before .before .before in
     let at-node-at = at-node .before .before in
     let start = at-node-at .before .before in
-    let w = right-inside (start .pre .1 .0) (sym (at-node-at .node-at .ensures) ∙ at-node .node .given .1) in (omega (arith, start .pre .0, w .0), (w .1, start .pre .1 .1, c .before .mark-used .ensures .codes))
+    let w = right-inside (start .pre .1 .0) (sym (at-node-at .node-at .ensures) ∙ at-node .node .given .1) in
+    (omega (arith, start .pre .0, w .0), (w .1, start .pre .1 .1, c .before .mark-used .ensures .codes))
 
 mark-used-enum-known-node-2 : (t : ℕ) → mark-used-lts.Need-enum-known-node-2 (mark-used-claims t) (mark-used-at t) mark-used.Post
 mark-used-enum-known-node-2 t c = search needs
@@ -60,7 +62,8 @@ mark-used-mark-used-requires-3 : (t : ℕ) → mark-used-lts.Need-mark-used-requ
 mark-used-mark-used-requires-3 t c κs =
     let at-node-at = c .before .before .before .before in
     let start = at-node-at .before .before in
-    let w = child-inside (start .pre .1 .0) (sym (at-node-at .node-at .ensures) ∙ c .before .before .node2 .given .1) in (omega (arith, start .pre .0, w .0), (w .1, start .pre .1 .1, start .pre .1 .2))
+    let w = child-inside (start .pre .1 .0) (sym (at-node-at .node-at .ensures) ∙ c .before .before .node2 .given .1) in
+    (omega (arith, start .pre .0, w .0), (w .1, start .pre .1 .1, start .pre .1 .2))
 
 mark-used-enum-told : (t : ℕ) → mark-used-lts.Need-enum-told (mark-used-claims t) (mark-used-at t) mark-used.Post
 mark-used-enum-told t c = search needs
@@ -79,7 +82,8 @@ mark-used-returns t c =
     let at-node = c .before .before .before .before .before in
     let at-node-at = at-node .before .before in
     let start = at-node-at .before .before in
-    used-infix (start .pre .1 .0) _ _ (sym (at-node-at .node-at .ensures) ∙ at-node .node .given .1) (c .before .before .mark-used .ensures) (c .mark-used2 .ensures)
+    used-infix (start .pre .1 .0) _ _ (sym (at-node-at .node-at .ensures) ∙ at-node .node .given .1) (c .before .before .mark-used .ensures)
+    (c .mark-used2 .ensures)
 
 mark-used-returns-2 : (t : ℕ) → mark-used-lts.Need-returns-2 (mark-used-claims t) (mark-used-at t) mark-used.Post
 mark-used-returns-2 t c =

@@ -20,8 +20,13 @@ mark-equations-requires c κs =
 mark-definitions-requires : tie.Need-mark-definitions-requires
 mark-definitions-requires c κs =
     let at-mark-provers = c .before .before .before .before in
-    let start = at-mark-provers .before .before .before in
-    (start .pre .0, (c .before .before .mark-equations .ensures .codes, provers-marked _ _ (ap marked (start .pre .2) ∙ none-marked) (at-mark-provers .mark-provers .ensures)))
+    let start = at-mark-provers .before .before .before in (
+      start .pre .0,
+      (
+        c .before .before .mark-equations .ensures .codes,
+        provers-marked _ _ (ap marked (start .pre .2) ∙ none-marked) (at-mark-provers .mark-provers .ensures),
+      ),
+    )
 
 layout-of-requires : tie.Need-layout-of-requires
 layout-of-requires c κs = search needs
@@ -38,7 +43,9 @@ returns c =
     let at-mark-equations = at-mark-definitions .before .before .before in
     let at-mark-provers = at-mark-equations .before .before in
     let start = at-mark-provers .before .before .before in
-    classified-whole _ _ (start .pre .0) (start .pre .1) (start .pre .2) (layout-next _ (c .before .before .before .layout-of .ensures)) (at-mark-provers .mark-provers .ensures) (at-mark-equations .mark-equations .ensures) (at-mark-definitions .mark-definitions .ensures) (c .add-witnesses .ensures)
+    classified-whole _ _ (start .pre .0) (start .pre .1) (start .pre .2) (layout-next _ (c .before .before .before .layout-of .ensures))
+    (at-mark-provers .mark-provers .ensures) (at-mark-equations .mark-equations .ensures) (at-mark-definitions .mark-definitions .ensures)
+    (c .add-witnesses .ensures)
 
 pub classify-defs-spec : {M : Type 1} → statement M
 classify-defs-spec =

@@ -28,15 +28,18 @@ cast-id c = search needs
 
 cuttable-def-requires : tie.Need-cuttable-def-requires Inv-loop μ-loop
 cuttable-def-requires c κs =
-    let start = c .before .before .before .before .before .before in
-    (definition-inside (start .pre .0) (c .before .before .before .loop .inv .0) (c .before .before .loop-test .taken) (c .before .definition-at .ensures), definition-small (start .pre .0) (c .before .before .before .loop .inv .0) (c .before .before .loop-test .taken) (c .before .definition-at .ensures))
+    let start = c .before .before .before .before .before .before in (
+      definition-inside (start .pre .0) (c .before .before .before .loop .inv .0) (c .before .before .loop-test .taken) (c .before .definition-at .ensures),
+      definition-small (start .pre .0) (c .before .before .before .loop .inv .0) (c .before .before .loop-test .taken) (c .before .definition-at .ensures),
+    )
 
 returns : tie.Need-returns Inv-loop μ-loop
 returns c =
     let at-loop-test = c .before .before .before .before in
     let at-loop = at-loop-test .before in
     let start = at-loop .before .before .before in
-    counted-fails (start .pre .0) (start .pre .1) (at-loop .loop .inv .0) (at-loop-test .loop-test .taken) (c .before .before .before .definition-at .ensures) (c .before .cuttable-def .ensures) (at-loop .loop .inv .1) (not-true _ (c .if1 .taken))
+    counted-fails (start .pre .0) (start .pre .1) (at-loop .loop .inv .0) (at-loop-test .loop-test .taken) (c .before .before .before .definition-at .ensures)
+    (c .before .cuttable-def .ensures) (at-loop .loop .inv .1) (not-true _ (c .if1 .taken))
 
 add-k : tie.Need-add-k Inv-loop μ-loop
 add-k c = search needs
@@ -48,8 +51,11 @@ loop-again : tie.Need-loop-again Inv-loop μ-loop
 loop-again c =
     let at-loop-test = c .before .before .before .before in
     let at-loop = at-loop-test .before in
-    let start = at-loop .before .before .before in
-    (record { count = at-loop .loop .inv .0 .count; place = at-loop .loop .inv .0 .place; trees = at-loop .loop .inv .0 .trees; within = omega arith }, counted-turn (start .pre .0) (start .pre .1) (at-loop .loop .inv .0) (at-loop-test .loop-test .taken) (c .before .before .before .definition-at .ensures) (c .before .cuttable-def .ensures) (at-loop .loop .inv .1) (not-false _ (c .if1 .left)))
+    let start = at-loop .before .before .before in (
+      record { count = at-loop .loop .inv .0 .count; place = at-loop .loop .inv .0 .place; trees = at-loop .loop .inv .0 .trees; within = omega arith },
+      counted-turn (start .pre .0) (start .pre .1) (at-loop .loop .inv .0) (at-loop-test .loop-test .taken) (c .before .before .before .definition-at .ensures)
+          (c .before .cuttable-def .ensures) (at-loop .loop .inv .1) (not-false _ (c .if1 .left)),
+    )
 
 returns-2 : tie.Need-returns-2 Inv-loop μ-loop
 returns-2 c = counted-end (c .before .loop .inv .0) (c .loop-test .left) (c .before .loop .inv .1)

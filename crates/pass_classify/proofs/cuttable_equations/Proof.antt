@@ -34,7 +34,8 @@ returns c =
     let r = c .before .before in
     let l = r .before .before in
     let readable = l .before .before .before .pre in
-    left-fails readable (l .loop .inv .0) (r .before .loop-test .taken) (r .equation-at .ensures) (l .loop .inv .1) (c .before .cuttable-expr .ensures) (not-true _ (c .if1 .taken))
+    left-fails readable (l .loop .inv .0) (r .before .loop-test .taken) (r .equation-at .ensures) (l .loop .inv .1) (c .before .cuttable-expr .ensures)
+    (not-true _ (c .if1 .taken))
 
 cuttable-expr-requires-2 : tie.Need-cuttable-expr-requires-2 Inv-loop μ-loop
 cuttable-expr-requires-2 c κs =
@@ -50,7 +51,8 @@ returns-2 c =
     let left = c .before .before .before .cuttable-expr .ensures in
     let left-true = not-false _ (c .before .before .if1 .left) in
     let right = c .before .cuttable-expr2 .ensures in
-    right-fails readable (l .loop .inv .0) (r .before .loop-test .taken) (r .equation-at .ensures) (l .loop .inv .1) left left-true right (not-true _ (c .if2 .taken))
+    right-fails readable (l .loop .inv .0) (r .before .loop-test .taken) (r .equation-at .ensures) (l .loop .inv .1) left left-true right
+    (not-true _ (c .if2 .taken))
 
 add-k : tie.Need-add-k Inv-loop μ-loop
 add-k c = search needs

@@ -10,7 +10,8 @@ use Rattle.pass_classify.proofs.Lists.{over-from-last, OverDefinitions,
 use Rattle.pass_classify.proofs.Turns.{ClassifiedFrom, classified-start, classified-turn, classified-end}
 
 abbrev Inv-loop : tie.InvT-loop
-Inv-loop s provers usage₀ n definitions at done₀ usage done = OverDefinitions s n definitions at done × (Codes 2 usage × ClassifiedFrom s usage₀ usage (n - done))
+Inv-loop s provers usage₀ n definitions at done₀ usage done =
+    OverDefinitions s n definitions at done × (Codes 2 usage × ClassifiedFrom s usage₀ usage (n - done))
 
 abbrev μ-loop : tie.MeasureT-loop
 μ-loop s provers usage₀ n definitions at done₀ usage done = n - done
@@ -36,16 +37,23 @@ cast-id c = search needs
 override-usage-requires : tie.Need-override-usage-requires Inv-loop μ-loop
 override-usage-requires c κs =
     let at-loop = c .before .before .before .before in
-    let start = at-loop .before .before .before in
-    (definition-small (start .pre .0) (over-from-last (at-loop .loop .inv .0) (c .before .before .before .loop-test .taken)) (omega arith) (c .before .before .definition-at .ensures), at-loop .loop .inv .1 .0)
+    let start = at-loop .before .before .before in (
+      definition-small (start .pre .0) (over-from-last (at-loop .loop .inv .0) (c .before .before .before .loop-test .taken)) (omega arith)
+          (c .before .before .definition-at .ensures),
+      at-loop .loop .inv .1 .0,
+    )
 
 mark-used-requires : tie.Need-mark-used-requires Inv-loop μ-loop
 mark-used-requires c κs =
     let at-definition-at = c .before .before .before .before in
     let at-loop-test = at-definition-at .before in
     let at-loop = at-loop-test .before in
-    let start = at-loop .before .before .before in
-    (definition-inside (start .pre .0) (over-from-last (at-loop .loop .inv .0) (at-loop-test .loop-test .taken)) (omega arith) (at-definition-at .definition-at .ensures), rw (c .before .override-usage .ensures .0) (code-small _), c .before .override-usage .ensures .1 .codes)
+    let start = at-loop .before .before .before in (
+      definition-inside (start .pre .0) (over-from-last (at-loop .loop .inv .0) (at-loop-test .loop-test .taken)) (omega arith)
+          (at-definition-at .definition-at .ensures),
+      rw (c .before .override-usage .ensures .0) (code-small _),
+      c .before .override-usage .ensures .1 .codes,
+    )
 
 loop-less : tie.Need-loop-less Inv-loop μ-loop
 loop-less c = search needs
@@ -55,8 +63,14 @@ loop-again c =
     let at-definition-at = c .before .before .before .before .before in
     let at-loop-test = at-definition-at .before in
     let at-loop = at-loop-test .before in
-    let start = at-loop .before .before .before in
-    (record { count = at-loop .loop .inv .0 .count; place = at-loop .loop .inv .0 .place; trees = at-loop .loop .inv .0 .trees; within = omega arith }, (c .mark-used .ensures .codes, classified-turn _ _ _ _ (start .pre .0) (at-loop .loop .inv .0) (at-loop-test .loop-test .taken) (at-definition-at .definition-at .ensures) (start .pre .1 .1) (at-loop .loop .inv .1 .1) (c .before .before .override-usage .ensures) (c .mark-used .ensures)))
+    let start = at-loop .before .before .before in (
+      record { count = at-loop .loop .inv .0 .count; place = at-loop .loop .inv .0 .place; trees = at-loop .loop .inv .0 .trees; within = omega arith },
+      (
+        c .mark-used .ensures .codes,
+        classified-turn _ _ _ _ (start .pre .0) (at-loop .loop .inv .0) (at-loop-test .loop-test .taken) (at-definition-at .definition-at .ensures)
+            (start .pre .1 .1) (at-loop .loop .inv .1 .1) (c .before .before .override-usage .ensures) (c .mark-used .ensures),
+      ),
+    )
 
 returns : tie.Need-returns Inv-loop μ-loop
 returns c = classified-end _ _ (c .before .loop .inv .0) (c .loop-test .left) (c .before .loop .inv .1 .1) (c .before .loop .inv .1 .0)

@@ -49,7 +49,8 @@ loop-again c =
     let l = r .before .before in
     let o = l .loop .inv .0 in
     let readable = l .before .before .before .pre .0 in
-    let marked = used-turn _ _ readable o (r .before .loop-test .taken) (r .equation-at .ensures) (l .loop .inv .1 .1) (c .before .before .mark-used .ensures) (c .mark-used2 .ensures) in
+    let marked = used-turn _ _ readable o (r .before .loop-test .taken) (r .equation-at .ensures) (l .loop .inv .1 .1) (c .before .before .mark-used .ensures)
+    (c .mark-used2 .ensures) in
     (record { count = o .count; place = o .place; trees = o .trees; within = omega arith }, (c .mark-used2 .ensures .codes, marked))
 
 returns : tie.Need-returns Inv-loop μ-loop

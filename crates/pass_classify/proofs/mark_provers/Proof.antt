@@ -40,8 +40,15 @@ loop-less c = search needs
 
 loop-again : tie.Need-loop-again Inv-loop μ-loop
 loop-again c =
-    let start = c .before .before .before .before .before in
-    (record { count = c .before .before .loop .inv .0 .count; place = c .before .before .loop .inv .0 .place; within = omega arith }, (codes-set _ 1 (c .before .before .loop .inv .1 .0) (prover-small (start .pre .0) (c .before .before .loop .inv .0) (c .before .loop-test .taken) (c .prover-at .ensures)) (omega arith), marked-turn _ _ (start .pre .0) (c .before .before .loop .inv .0) (c .before .loop-test .taken) (c .prover-at .ensures) (c .before .before .loop .inv .1 .0) (c .before .before .loop .inv .1 .1)))
+    let start = c .before .before .before .before .before in (
+      record { count = c .before .before .loop .inv .0 .count; place = c .before .before .loop .inv .0 .place; within = omega arith },
+      (
+        codes-set _ 1 (c .before .before .loop .inv .1 .0)
+            (prover-small (start .pre .0) (c .before .before .loop .inv .0) (c .before .loop-test .taken) (c .prover-at .ensures)) (omega arith),
+        marked-turn _ _ (start .pre .0) (c .before .before .loop .inv .0) (c .before .loop-test .taken) (c .prover-at .ensures)
+            (c .before .before .loop .inv .1 .0) (c .before .before .loop .inv .1 .1),
+      ),
+    )
 
 returns : tie.Need-returns Inv-loop μ-loop
 returns c = marked-end _ _ (c .before .loop .inv .0) (c .loop-test .left) (c .before .loop .inv .1 .1) (c .before .loop .inv .1 .0)

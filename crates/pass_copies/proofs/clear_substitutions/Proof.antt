@@ -34,7 +34,8 @@ loop-less c = search needs
 loop-again : tie.Need-loop-again Inv-loop μ-loop
 loop-again c =
     let l : c .before .loop .i < length (c .before .before .args .subs .now) = omega (arith, c .loop-test .taken) in
-    let e = ap (λ (t : List ℕ). set t (c .before .loop .i) 0) (c .before .loop .inv .0 .0) ∙ fill-more (c .before .loop .i) 0 (c .before .before .args .subs .now) l in
+    let e =
+    ap (λ (t : List ℕ). set t (c .before .loop .i) 0) (c .before .loop .inv .0 .0) ∙ fill-more (c .before .loop .i) 0 (c .before .before .args .subs .now) l in
     ((e, omega arith), (length-set (c .before .loop .subs) (c .before .loop .i) 0 ∙ c .before .loop .inv .1 .0, c .before .loop .inv .1 .1))
 
 same-length : tie.Need-same-length Inv-loop μ-loop

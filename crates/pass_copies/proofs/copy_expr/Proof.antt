@@ -41,13 +41,15 @@ returns-2 c =
 returns-3 : tie.Need-returns-3
 returns-3 c =
     let start = c .before .before .before .before .before in
-    ap (λ (n : ℤ). Copied.Leaf (Term.Constant n)) (toZ-ofZ w32 _ (record { sfits = c .known-told .given .0 .1 })) ∙ sym (root-leaf _ (copy-constant (start .pre) _ _ (sym (c .before .before .before .node-at .ensures) ∙ c .before .node .given .1)))
+    ap (λ (n : ℤ). Copied.Leaf (Term.Constant n)) (toZ-ofZ w32 _ (record { sfits = c .known-told .given .0 .1 }))
+    ∙ sym (root-leaf _ (copy-constant (start .pre) _ _ (sym (c .before .before .before .node-at .ensures) ∙ c .before .node .given .1)))
 
 returns-4 : tie.Need-returns-4
 returns-4 c =
     let at-node-at = c .before .before .before .before in
     let start = at-node-at .before .before in
-    ap Copied.Leaf (c .resolve .ensures) ∙ sym (root-leaf _ (copy-variable (start .pre) _ _ (sym (at-node-at .node-at .ensures) ∙ c .before .before .node2 .given .1)))
+    ap Copied.Leaf (c .resolve .ensures)
+    ∙ sym (root-leaf _ (copy-variable (start .pre) _ _ (sym (at-node-at .node-at .ensures) ∙ c .before .before .node2 .given .1)))
 
 pub copy-expr-spec : {M : Type 1} → statement M
 copy-expr-spec =

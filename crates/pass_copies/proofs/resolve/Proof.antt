@@ -25,7 +25,8 @@ wide-requires c κs = search needs
 returns : tie.Need-returns Inv-loop μ-loop
 returns c =
     let start = c .before .before .before .before in
-    ends-past (start .args .subs .now) _ (c .before .before .before .loop .left) (c .before .before .before .loop .id) (c .before .before .before .loop .inv) (c .before .wide .result) (c .before .wide .ensures .0) (c .if1 .taken)
+    ends-past (start .args .subs .now) _ (c .before .before .before .loop .left) (c .before .before .before .loop .id) (c .before .before .before .loop .inv)
+    (c .before .wide .result) (c .before .wide .ensures .0) (c .if1 .taken)
 
 mul-kind : tie.Need-mul-kind Inv-loop μ-loop
 mul-kind c = search needs
@@ -40,7 +41,8 @@ returns-2 : tie.Need-returns-2 Inv-loop μ-loop
 returns-2 c =
     let at-loop = c .before .before .before .before .before in
     let start = at-loop .before in
-    ends-none (start .args .subs .now) _ (at-loop .loop .left) (at-loop .loop .id) (at-loop .loop .inv) (c .before .before .before .wide .result) (c .before .before .before .wide .ensures .0) (c .before .before .if1 .left) (c .if2 .taken)
+    ends-none (start .args .subs .now) _ (at-loop .loop .left) (at-loop .loop .id) (at-loop .loop .inv) (c .before .before .before .wide .result)
+    (c .before .before .before .wide .ensures .0) (c .before .before .if1 .left) (c .if2 .taken)
 
 mul-value : tie.Need-mul-value Inv-loop μ-loop
 mul-value c = search needs
@@ -64,7 +66,9 @@ returns-3 c =
     let at-loop-test = at-wide .before in
     let at-loop = at-loop-test .before in
     let start = at-loop .before in
-    ends-constant (start .args .subs .now) _ (at-loop .loop .left) (at-loop .loop .id) (at-loop .loop .inv) (at-wide .wide .result) (at-wide .wide .ensures .0) (at-if1 .if1 .left) (at-loop-test .loop-test .taken) (c .before .before .before .if2 .left) (c .before .if3 .taken) (toZ-ofZ w32 _ (record { sfits = c .signed .ok }) ∙ c .signed .ensures)
+    ends-constant (start .args .subs .now) _ (at-loop .loop .left) (at-loop .loop .id) (at-loop .loop .inv) (at-wide .wide .result)
+    (at-wide .wide .ensures .0) (at-if1 .if1 .left) (at-loop-test .loop-test .taken) (c .before .before .before .if2 .left) (c .before .if3 .taken)
+    (toZ-ofZ w32 _ (record { sfits = c .signed .ok }) ∙ c .signed .ensures)
 
 sub-left : tie.Need-sub-left Inv-loop μ-loop
 sub-left c = search needs
@@ -79,7 +83,8 @@ loop-again c =
     let at-loop-test = at-wide .before in
     let at-loop = at-loop-test .before in
     let start = at-loop .before in
-    turns (start .args .subs .now) _ (at-loop .loop .left) (at-loop .loop .id) (at-loop .loop .inv) (at-wide .wide .result) (at-wide .wide .ensures .0) (at-if1 .if1 .left) (at-loop-test .loop-test .taken) (c .if3 .left)
+    turns (start .args .subs .now) _ (at-loop .loop .left) (at-loop .loop .id) (at-loop .loop .inv) (at-wide .wide .result) (at-wide .wide .ensures .0)
+    (at-if1 .if1 .left) (at-loop-test .loop-test .taken) (c .if3 .left)
 
 returns-4 : tie.Need-returns-4 Inv-loop μ-loop
 returns-4 c = ends-steps (c .before .before .args .subs .now) _ (c .before .loop .left) (c .before .loop .id) (c .before .loop .inv) (c .loop-test .left)

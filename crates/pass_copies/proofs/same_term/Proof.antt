@@ -42,7 +42,8 @@ returns-4 : tie.Need-returns-4
 unfolding sameTerm
 returns-4 c =
     let at-a2 = c .before .before .before .before in
-    same-bits _ _ (record { sfits = c .before .before .before .known-told3 .given .0 .1 }) (record { sfits = c .known-told4 .given .0 .1 }) ∙ sym (ap₂ sameTerm (at-a2 .a2 .given .1) (c .before .b2 .given .1))
+    same-bits _ _ (record { sfits = c .before .before .before .known-told3 .given .0 .1 }) (record { sfits = c .known-told4 .given .0 .1 })
+    ∙ sym (ap₂ sameTerm (at-a2 .a2 .given .1) (c .before .b2 .given .1))
 
 pub same-term-spec : {M : Type 1} → statement M
 same-term-spec =

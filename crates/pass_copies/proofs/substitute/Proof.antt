@@ -44,7 +44,9 @@ returns-2 c =
     let at-term = at-term2 .before .before .before in
     let at-copy-expr = at-term .before .before in
     let start = at-copy-expr .before .before .before in
-    put-variable (start .args .subs .now) (start .args .id) _ (sym (at-copy-expr .copy-expr .ensures) ∙ at-term .term .given .1 ∙ ap Copied.Leaf (at-term2 .term2 .given .1)) (c .before .before .if1 .taken) (c .put-substitution .ensures)
+    put-variable (start .args .subs .now) (start .args .id) _ (sym (at-copy-expr .copy-expr .ensures)
+    ∙ at-term .term .given .1
+    ∙ ap Copied.Leaf (at-term2 .term2 .given .1)) (c .before .before .if1 .taken) (c .put-substitution .ensures)
 
 returns-3 : tie.Need-returns-3
 unfolding putDefinition
@@ -52,7 +54,8 @@ returns-3 c =
     let at-term = c .before .before .before .before .before in
     let at-copy-expr = at-term .before .before in
     let start = at-copy-expr .before .before .before in
-    put-itself (start .args .subs .now) (start .args .id) _ (sym (at-copy-expr .copy-expr .ensures) ∙ at-term .term .given .1 ∙ ap Copied.Leaf (c .before .before .term2 .given .1)) (c .if1 .left)
+    put-itself (start .args .subs .now) (start .args .id) _
+    (sym (at-copy-expr .copy-expr .ensures) ∙ at-term .term .given .1 ∙ ap Copied.Leaf (c .before .before .term2 .given .1)) (c .if1 .left)
 
 returns-4 : tie.Need-returns-4
 unfolding putDefinition
@@ -61,7 +64,9 @@ returns-4 c =
     let at-term = at-term3 .before .before .before in
     let at-copy-expr = at-term .before .before in
     let start = at-copy-expr .before .before .before in
-    put-constant (start .args .subs .now) (start .args .id) _ (sym (at-copy-expr .copy-expr .ensures) ∙ at-term .term .given .1 ∙ ap Copied.Leaf (at-term3 .term3 .given .1)) (record { sfits = c .before .before .before .known-told3 .given .0 .1 }) (c .before .unsigned .ensures) (c .put-substitution2 .ensures)
+    put-constant (start .args .subs .now) (start .args .id) _
+    (sym (at-copy-expr .copy-expr .ensures) ∙ at-term .term .given .1 ∙ ap Copied.Leaf (at-term3 .term3 .given .1))
+    (record { sfits = c .before .before .before .known-told3 .given .0 .1 }) (c .before .unsigned .ensures) (c .put-substitution2 .ensures)
 
 pub substitute-spec : {M : Type 1} → statement M
 substitute-spec =

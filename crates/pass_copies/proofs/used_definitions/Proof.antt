@@ -25,13 +25,16 @@ wide-requires c κs = search needs
 element-copy-out-one-where-used : tie.Need-element-copy-out-one-where-used Inv-loop μ-loop
 element-copy-out-one-where-used c =
     let start = c .before .before .before .before .before in
-    used-small _ (start .args .usage .now) (start .pre .0) (start .pre .1) (start .pre .2) (c .before .before .loop-test .taken) (c .before .definition-at .ensures) (c .wide .ensures .0)
+    used-small _ (start .args .usage .now) (start .pre .0) (start .pre .1) (start .pre .2) (c .before .before .loop-test .taken)
+    (c .before .definition-at .ensures) (c .wide .ensures .0)
 
 one-where-used-requires : tie.Need-one-where-used-requires Inv-loop μ-loop
 one-where-used-requires c κs = search needs
 
 add-count : tie.Need-add-count Inv-loop μ-loop
-add-count c = let z = one-most _ (c .one-where-used .ensures) in let r = c .before .before .before .before .before .before .before .pre .0 .definitions-few in omega arith
+add-count c =
+    let z = one-most _ (c .one-where-used .ensures) in
+    let r = c .before .before .before .before .before .before .before .pre .0 .definitions-few in omega arith
 
 add-k : tie.Need-add-k Inv-loop μ-loop
 add-k c = search needs
@@ -40,10 +43,22 @@ loop-less : tie.Need-loop-less Inv-loop μ-loop
 loop-less c = search needs
 
 loop-again : tie.Need-loop-again Inv-loop μ-loop
-loop-again c = let z = one-most _ (c .one-where-used .ensures) in ((used-turn _ (c .before .before .before .before .before .before .before .args .usage .now) (c .before .before .before .before .before .before .before .pre .0) (c .before .before .before .before .before .before .before .pre .1) (c .before .before .before .before .before .before .before .pre .2) (c .before .before .before .before .loop-test .taken) (c .before .before .before .definition-at .ensures) (c .before .before .wide .ensures .0) (c .before .before .before .before .before .loop .count) (c .one-where-used .ensures) (c .before .before .before .before .before .loop .inv .0 .0), omega arith), omega arith)
+loop-again c = let z = one-most _ (c .one-where-used .ensures) in (
+  (
+    used-turn _ (c .before .before .before .before .before .before .before .args .usage .now)
+        (c .before .before .before .before .before .before .before .pre .0) (c .before .before .before .before .before .before .before .pre .1)
+        (c .before .before .before .before .before .before .before .pre .2) (c .before .before .before .before .loop-test .taken)
+        (c .before .before .before .definition-at .ensures) (c .before .before .wide .ensures .0) (c .before .before .before .before .before .loop .count)
+        (c .one-where-used .ensures) (c .before .before .before .before .before .loop .inv .0 .0),
+    omega arith,
+  ),
+  omega arith,
+)
 
 returns : tie.Need-returns Inv-loop μ-loop
-returns c = used-end _ _ (c .before .before .before .args .n) (c .before .loop .k) _ (c .before .before .before .pre .2) (c .loop-test .left) (c .before .loop .inv .0 .0)
+returns c =
+    used-end _ _ (c .before .before .before .args .n) (c .before .loop .k) _ (c .before .before .before .pre .2) (c .loop-test .left)
+    (c .before .loop .inv .0 .0)
 
 pub used-definitions-spec : {M : Type 1} → statement M
 used-definitions-spec =

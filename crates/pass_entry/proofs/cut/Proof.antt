@@ -30,7 +30,9 @@ returns : tie.Need-returns
 returns c =
     let at-clear = c .before .before .before .before .before .before in
     let start = at-clear .before .before .before .before .before in
-    let g = gives-as (start .args .out .now) _ _ (record-refused (start .args .s .now) _ (sym (c .before .before .before .check-flat .ensures) ∙ c .before .n .given .1)) (gives-refused (start .args .out .now) _) in (g .0, (g .1, at-clear .clear .ensures))
+    let g = gives-as (start .args .out .now) _ _ (record-refused (start .args .s .now) _
+    (sym (c .before .before .before .check-flat .ensures) ∙ c .before .n .given .1)) (gives-refused (start .args .out .now) _) in
+    (g .0, (g .1, at-clear .clear .ensures))
 
 same-length-2 : tie.Need-same-length-2
 same-length-2 c = search needs
@@ -44,7 +46,10 @@ returns-2 c =
     let at-check-flat = at-enum-told .before .before in
     let at-clear = at-check-flat .before .before .before in
     let start = at-clear .before .before .before .before .before in
-    let g = gives-as (start .args .out .now) _ _ (record-accepted (start .args .s .now) (sym (at-check-flat .check-flat .ensures) ∙ at-enum-told .enum-told .given .1)) (c .before .before .passes .ensures) in (g .0, (g .1, at-clear .clear .ensures))
+    let g =
+    gives-as (start .args .out .now) _ _ (record-accepted (start .args .s .now) (sym (at-check-flat .check-flat .ensures) ∙ at-enum-told .enum-told .given .1))
+    (c .before .before .passes .ensures) in
+    (g .0, (g .1, at-clear .clear .ensures))
 
 pub cut-spec : {M : Type 1} → statement M
 cut-spec =

@@ -69,7 +69,8 @@ returns-2 c =
     let read = size .before in
     let start = read .before .before .before .before in
     let body-long = start .pre .body-long in
-    λ m w e. delivered m _ _ _ w _ _ e (read .equalities-of .ensures) _ _ _ _ _ (size .bytes-of .ensures) (room .if1 .left) body-long (header .put-header .ensures)
+    λ m w e.
+    delivered m _ _ _ w _ _ e (read .equalities-of .ensures) _ _ _ _ _ (size .bytes-of .ensures) (room .if1 .left) body-long (header .put-header .ensures)
     (first .copy-to .ensures) (second .copy-to2 .ensures)
 
 pub deliver-spec : {M : Type 1} → statement M

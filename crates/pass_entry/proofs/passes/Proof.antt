@@ -5,7 +5,8 @@ use Rattle.pass_entry.proofs.passes.Tie as tie
 use mathlib.Core.Path.{sym, _∙_}
 use Rattle.pass_trees.specs.Passes.{passes}
 use Rattle.flat.specs.Record.{moduleOf}
-use Rattle.pass_entry.proofs.Answers.{gives-as, gives-refused, left-refused, made-cut, made-numbers, made-body, made-list, passes-publics, layout-publics, body-size, list-size}
+use Rattle.pass_entry.proofs.Answers.{gives-as, gives-refused, left-refused, made-cut, made-numbers, made-body}
+use Rattle.pass_entry.proofs.Answers.{made-list, passes-publics, layout-publics, body-size, list-size}
 use Rattle.pass_entry.proofs.Fits.{passes-small, fitting-of, made-of}
 
 layout-of-requires : tie.Need-layout-of-requires

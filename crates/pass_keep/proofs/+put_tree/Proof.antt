@@ -59,14 +59,29 @@ put-tree-put-tree-requires : (t : ℕ) → put-tree-lts.Need-put-tree-requires (
 put-tree-put-tree-requires t c κs =
     let at-node-at = c .before .before .before .before in
     let start = at-node-at .before .before .before in
-    let w = left-inside (start .pre .1 .0) (sym (at-node-at .node-at .ensures) ∙ c .before .before .node .given .1) in (omega (arith, w .0, start .pre .0), (w .1, room-left (start .pre .1 .0) (start .args .base) (start .args .steps) (substOf (start .args .subs .now)) (start .args .list .now) (start .pre .1 .1) (sym (at-node-at .node-at .ensures) ∙ c .before .before .node .given .1)))
+    let w = left-inside (start .pre .1 .0) (sym (at-node-at .node-at .ensures) ∙ c .before .before .node .given .1) in (
+      omega (arith, w .0, start .pre .0),
+      (
+        w .1,
+        room-left (start .pre .1 .0) (start .args .base) (start .args .steps) (substOf (start .args .subs .now)) (start .args .list .now) (start .pre .1 .1)
+            (sym (at-node-at .node-at .ensures) ∙ c .before .before .node .given .1),
+      ),
+    )
 
 put-tree-put-tree-requires-2 : (t : ℕ) → put-tree-lts.Need-put-tree-requires-2 (put-tree-claims t) (put-tree-at t) put-tree.Post
 put-tree-put-tree-requires-2 t c κs =
     let at-node = c .before .before .before .before .before .before in
     let at-node-at = at-node .before .before in
     let start = at-node-at .before .before .before in
-    let w = right-inside (start .pre .1 .0) (sym (at-node-at .node-at .ensures) ∙ at-node .node .given .1) in (omega (arith, w .0, start .pre .0), (w .1, room-right (start .pre .1 .0) (start .args .base) (start .args .steps) (substOf (start .args .subs .now)) (start .args .list .now) (start .pre .1 .1) (sym (at-node-at .node-at .ensures) ∙ at-node .node .given .1) (c .before .before .before .put-tree .ensures .0) (c .before .before .before .put-tree .ensures .1)))
+    let w = right-inside (start .pre .1 .0) (sym (at-node-at .node-at .ensures) ∙ at-node .node .given .1) in (
+      omega (arith, w .0, start .pre .0),
+      (
+        w .1,
+        room-right (start .pre .1 .0) (start .args .base) (start .args .steps) (substOf (start .args .subs .now)) (start .args .list .now)
+            (start .pre .1 .1) (sym (at-node-at .node-at .ensures) ∙ at-node .node .given .1) (c .before .before .before .put-tree .ensures .0)
+            (c .before .before .before .put-tree .ensures .1),
+      ),
+    )
 
 put-tree-operator-number-requires : (t : ℕ) → put-tree-lts.Need-operator-number-requires (put-tree-claims t) (put-tree-at t) put-tree.Post
 put-tree-operator-number-requires t c κs = search needs
@@ -78,7 +93,9 @@ put-tree-mul-put-node t c =
     let at-node = at-put-tree .before .before .before in
     let at-node-at = at-node .before .before in
     let start = at-node-at .before .before .before in
-    let w = room-root (start .pre .1 .0) (start .args .base) (start .args .steps) (substOf (start .args .subs .now)) (start .args .list .now) (start .pre .1 .1) (sym (at-node-at .node-at .ensures) ∙ at-node .node .given .1) (at-put-tree .put-tree .ensures .0) (at-put-tree .put-tree .ensures .1) (at-put-tree2 .put-tree2 .ensures .0) (at-put-tree2 .put-tree2 .ensures .1) in omega (arith, w .1)
+    let w = room-root (start .pre .1 .0) (start .args .base) (start .args .steps) (substOf (start .args .subs .now)) (start .args .list .now)
+    (start .pre .1 .1) (sym (at-node-at .node-at .ensures) ∙ at-node .node .given .1) (at-put-tree .put-tree .ensures .0) (at-put-tree .put-tree .ensures .1)
+    (at-put-tree2 .put-tree2 .ensures .0) (at-put-tree2 .put-tree2 .ensures .1) in omega (arith, w .1)
 
 put-tree-sub-put-node : (t : ℕ) → put-tree-lts.Need-sub-put-node (put-tree-claims t) (put-tree-at t) put-tree.Post
 put-tree-sub-put-node t c =
@@ -87,7 +104,9 @@ put-tree-sub-put-node t c =
     let at-node = at-put-tree .before .before .before in
     let at-node-at = at-node .before .before in
     let start = at-node-at .before .before .before in
-    let w = room-root (start .pre .1 .0) (start .args .base) (start .args .steps) (substOf (start .args .subs .now)) (start .args .list .now) (start .pre .1 .1) (sym (at-node-at .node-at .ensures) ∙ at-node .node .given .1) (at-put-tree .put-tree .ensures .0) (at-put-tree .put-tree .ensures .1) (at-put-tree2 .put-tree2 .ensures .0) (at-put-tree2 .put-tree2 .ensures .1) in omega (arith, w .2)
+    let w = room-root (start .pre .1 .0) (start .args .base) (start .args .steps) (substOf (start .args .subs .now)) (start .args .list .now)
+    (start .pre .1 .1) (sym (at-node-at .node-at .ensures) ∙ at-node .node .given .1) (at-put-tree .put-tree .ensures .0) (at-put-tree .put-tree .ensures .1)
+    (at-put-tree2 .put-tree2 .ensures .0) (at-put-tree2 .put-tree2 .ensures .1) in omega (arith, w .2)
 
 put-tree-cast-put-node : (t : ℕ) → put-tree-lts.Need-cast-put-node (put-tree-claims t) (put-tree-at t) put-tree.Post
 put-tree-cast-put-node t c =
@@ -96,7 +115,9 @@ put-tree-cast-put-node t c =
     let at-node = at-put-tree .before .before .before in
     let at-node-at = at-node .before .before in
     let start = at-node-at .before .before .before in
-    let w = room-root (start .pre .1 .0) (start .args .base) (start .args .steps) (substOf (start .args .subs .now)) (start .args .list .now) (start .pre .1 .1) (sym (at-node-at .node-at .ensures) ∙ at-node .node .given .1) (at-put-tree .put-tree .ensures .0) (at-put-tree .put-tree .ensures .1) (at-put-tree2 .put-tree2 .ensures .0) (at-put-tree2 .put-tree2 .ensures .1) in omega (arith, w .4)
+    let w = room-root (start .pre .1 .0) (start .args .base) (start .args .steps) (substOf (start .args .subs .now)) (start .args .list .now)
+    (start .pre .1 .1) (sym (at-node-at .node-at .ensures) ∙ at-node .node .given .1) (at-put-tree .put-tree .ensures .0) (at-put-tree .put-tree .ensures .1)
+    (at-put-tree2 .put-tree2 .ensures .0) (at-put-tree2 .put-tree2 .ensures .1) in omega (arith, w .4)
 
 put-tree-sub-put-node-2 : (t : ℕ) → put-tree-lts.Need-sub-put-node-2 (put-tree-claims t) (put-tree-at t) put-tree.Post
 put-tree-sub-put-node-2 t c =
@@ -105,7 +126,9 @@ put-tree-sub-put-node-2 t c =
     let at-node = at-put-tree .before .before .before in
     let at-node-at = at-node .before .before in
     let start = at-node-at .before .before .before in
-    let w = room-root (start .pre .1 .0) (start .args .base) (start .args .steps) (substOf (start .args .subs .now)) (start .args .list .now) (start .pre .1 .1) (sym (at-node-at .node-at .ensures) ∙ at-node .node .given .1) (at-put-tree .put-tree .ensures .0) (at-put-tree .put-tree .ensures .1) (at-put-tree2 .put-tree2 .ensures .0) (at-put-tree2 .put-tree2 .ensures .1) in omega (arith, w .3)
+    let w = room-root (start .pre .1 .0) (start .args .base) (start .args .steps) (substOf (start .args .subs .now)) (start .args .list .now)
+    (start .pre .1 .1) (sym (at-node-at .node-at .ensures) ∙ at-node .node .given .1) (at-put-tree .put-tree .ensures .0) (at-put-tree .put-tree .ensures .1)
+    (at-put-tree2 .put-tree2 .ensures .0) (at-put-tree2 .put-tree2 .ensures .1) in omega (arith, w .3)
 
 put-tree-cast-put-node-2 : (t : ℕ) → put-tree-lts.Need-cast-put-node-2 (put-tree-claims t) (put-tree-at t) put-tree.Post
 put-tree-cast-put-node-2 t c =
@@ -114,7 +137,9 @@ put-tree-cast-put-node-2 t c =
     let at-node = at-put-tree .before .before .before in
     let at-node-at = at-node .before .before in
     let start = at-node-at .before .before .before in
-    let w = room-root (start .pre .1 .0) (start .args .base) (start .args .steps) (substOf (start .args .subs .now)) (start .args .list .now) (start .pre .1 .1) (sym (at-node-at .node-at .ensures) ∙ at-node .node .given .1) (at-put-tree .put-tree .ensures .0) (at-put-tree .put-tree .ensures .1) (at-put-tree2 .put-tree2 .ensures .0) (at-put-tree2 .put-tree2 .ensures .1) in omega (arith, w .1)
+    let w = room-root (start .pre .1 .0) (start .args .base) (start .args .steps) (substOf (start .args .subs .now)) (start .args .list .now)
+    (start .pre .1 .1) (sym (at-node-at .node-at .ensures) ∙ at-node .node .given .1) (at-put-tree .put-tree .ensures .0) (at-put-tree .put-tree .ensures .1)
+    (at-put-tree2 .put-tree2 .ensures .0) (at-put-tree2 .put-tree2 .ensures .1) in omega (arith, w .1)
 
 put-tree-put-node-requires : (t : ℕ) → put-tree-lts.Need-put-node-requires (put-tree-claims t) (put-tree-at t) put-tree.Post
 put-tree-put-node-requires t c κs =
@@ -123,7 +148,9 @@ put-tree-put-node-requires t c κs =
     let at-node = at-put-tree .before .before .before in
     let at-node-at = at-node .before .before in
     let start = at-node-at .before .before .before in
-    room-root (start .pre .1 .0) (start .args .base) (start .args .steps) (substOf (start .args .subs .now)) (start .args .list .now) (start .pre .1 .1) (sym (at-node-at .node-at .ensures) ∙ at-node .node .given .1) (at-put-tree .put-tree .ensures .0) (at-put-tree .put-tree .ensures .1) (at-put-tree2 .put-tree2 .ensures .0) (at-put-tree2 .put-tree2 .ensures .1) .0
+    room-root (start .pre .1 .0) (start .args .base) (start .args .steps) (substOf (start .args .subs .now)) (start .args .list .now) (start .pre .1 .1)
+    (sym (at-node-at .node-at .ensures) ∙ at-node .node .given .1) (at-put-tree .put-tree .ensures .0) (at-put-tree .put-tree .ensures .1)
+    (at-put-tree2 .put-tree2 .ensures .0) (at-put-tree2 .put-tree2 .ensures .1) .0
 
 put-tree-add-result : (t : ℕ) → put-tree-lts.Need-add-result (put-tree-claims t) (put-tree-at t) put-tree.Post
 put-tree-add-result t c =
@@ -132,7 +159,9 @@ put-tree-add-result t c =
     let at-node = at-put-tree .before .before .before in
     let at-node-at = at-node .before .before in
     let start = at-node-at .before .before .before in
-    let w = room-root (start .pre .1 .0) (start .args .base) (start .args .steps) (substOf (start .args .subs .now)) (start .args .list .now) (start .pre .1 .1) (sym (at-node-at .node-at .ensures) ∙ at-node .node .given .1) (at-put-tree .put-tree .ensures .0) (at-put-tree .put-tree .ensures .1) (at-put-tree2 .put-tree2 .ensures .0) (at-put-tree2 .put-tree2 .ensures .1) in omega (arith, w .1)
+    let w = room-root (start .pre .1 .0) (start .args .base) (start .args .steps) (substOf (start .args .subs .now)) (start .args .list .now)
+    (start .pre .1 .1) (sym (at-node-at .node-at .ensures) ∙ at-node .node .given .1) (at-put-tree .put-tree .ensures .0) (at-put-tree .put-tree .ensures .1)
+    (at-put-tree2 .put-tree2 .ensures .0) (at-put-tree2 .put-tree2 .ensures .1) in omega (arith, w .1)
 
 put-tree-enum-known-node-2 : (t : ℕ) → put-tree-lts.Need-enum-known-node-2 (put-tree-claims t) (put-tree-at t) put-tree.Post
 put-tree-enum-known-node-2 t c = search needs
@@ -141,35 +170,50 @@ put-tree-put-tree-requires-3 : (t : ℕ) → put-tree-lts.Need-put-tree-requires
 put-tree-put-tree-requires-3 t c κs =
     let at-node-at = c .before .before .before .before in
     let start = at-node-at .before .before .before in
-    let w = child-inside (start .pre .1 .0) (sym (at-node-at .node-at .ensures) ∙ c .before .before .node2 .given .1) in (omega (arith, w .0, start .pre .0), (w .1, room-child (start .pre .1 .0) (start .args .base) (start .args .steps) (substOf (start .args .subs .now)) (start .args .list .now) (start .pre .1 .1) (sym (at-node-at .node-at .ensures) ∙ c .before .before .node2 .given .1)))
+    let w = child-inside (start .pre .1 .0) (sym (at-node-at .node-at .ensures) ∙ c .before .before .node2 .given .1) in (
+      omega (arith, w .0, start .pre .0),
+      (
+        w .1,
+        room-child (start .pre .1 .0) (start .args .base) (start .args .steps) (substOf (start .args .subs .now)) (start .args .list .now) (start .pre .1 .1)
+            (sym (at-node-at .node-at .ensures) ∙ c .before .before .node2 .given .1),
+      ),
+    )
 
 put-tree-mul-put-node-2 : (t : ℕ) → put-tree-lts.Need-mul-put-node-2 (put-tree-claims t) (put-tree-at t) put-tree.Post
 put-tree-mul-put-node-2 t c =
     let at-node2 = c .before .before .before .before .before .before in
     let at-node-at = at-node2 .before .before in
     let start = at-node-at .before .before .before in
-    let w = room-above (start .pre .1 .0) (start .args .base) (start .args .steps) (substOf (start .args .subs .now)) (start .args .list .now) (start .pre .1 .1) (sym (at-node-at .node-at .ensures) ∙ at-node2 .node2 .given .1) (c .before .before .before .put-tree3 .ensures .0) (c .before .before .before .put-tree3 .ensures .1) in omega (arith, w .1)
+    let w = room-above (start .pre .1 .0) (start .args .base) (start .args .steps) (substOf (start .args .subs .now)) (start .args .list .now)
+    (start .pre .1 .1) (sym (at-node-at .node-at .ensures) ∙ at-node2 .node2 .given .1) (c .before .before .before .put-tree3 .ensures .0)
+    (c .before .before .before .put-tree3 .ensures .1) in omega (arith, w .1)
 
 put-tree-sub-put-node-3 : (t : ℕ) → put-tree-lts.Need-sub-put-node-3 (put-tree-claims t) (put-tree-at t) put-tree.Post
 put-tree-sub-put-node-3 t c =
     let at-node2 = c .before .before .before .before .before .before in
     let at-node-at = at-node2 .before .before in
     let start = at-node-at .before .before .before in
-    let w = room-above (start .pre .1 .0) (start .args .base) (start .args .steps) (substOf (start .args .subs .now)) (start .args .list .now) (start .pre .1 .1) (sym (at-node-at .node-at .ensures) ∙ at-node2 .node2 .given .1) (c .before .before .before .put-tree3 .ensures .0) (c .before .before .before .put-tree3 .ensures .1) in omega (arith, w .2)
+    let w = room-above (start .pre .1 .0) (start .args .base) (start .args .steps) (substOf (start .args .subs .now)) (start .args .list .now)
+    (start .pre .1 .1) (sym (at-node-at .node-at .ensures) ∙ at-node2 .node2 .given .1) (c .before .before .before .put-tree3 .ensures .0)
+    (c .before .before .before .put-tree3 .ensures .1) in omega (arith, w .2)
 
 put-tree-cast-put-node-3 : (t : ℕ) → put-tree-lts.Need-cast-put-node-3 (put-tree-claims t) (put-tree-at t) put-tree.Post
 put-tree-cast-put-node-3 t c =
     let at-node2 = c .before .before .before .before .before .before in
     let at-node-at = at-node2 .before .before in
     let start = at-node-at .before .before .before in
-    let w = room-above (start .pre .1 .0) (start .args .base) (start .args .steps) (substOf (start .args .subs .now)) (start .args .list .now) (start .pre .1 .1) (sym (at-node-at .node-at .ensures) ∙ at-node2 .node2 .given .1) (c .before .before .before .put-tree3 .ensures .0) (c .before .before .before .put-tree3 .ensures .1) in omega (arith, w .1)
+    let w = room-above (start .pre .1 .0) (start .args .base) (start .args .steps) (substOf (start .args .subs .now)) (start .args .list .now)
+    (start .pre .1 .1) (sym (at-node-at .node-at .ensures) ∙ at-node2 .node2 .given .1) (c .before .before .before .put-tree3 .ensures .0)
+    (c .before .before .before .put-tree3 .ensures .1) in omega (arith, w .1)
 
 put-tree-put-node-requires-2 : (t : ℕ) → put-tree-lts.Need-put-node-requires-2 (put-tree-claims t) (put-tree-at t) put-tree.Post
 put-tree-put-node-requires-2 t c κs =
     let at-node2 = c .before .before .before .before .before .before in
     let at-node-at = at-node2 .before .before in
     let start = at-node-at .before .before .before in
-    room-above (start .pre .1 .0) (start .args .base) (start .args .steps) (substOf (start .args .subs .now)) (start .args .list .now) (start .pre .1 .1) (sym (at-node-at .node-at .ensures) ∙ at-node2 .node2 .given .1) (c .before .before .before .put-tree3 .ensures .0) (c .before .before .before .put-tree3 .ensures .1) .0
+    room-above (start .pre .1 .0) (start .args .base) (start .args .steps) (substOf (start .args .subs .now)) (start .args .list .now)
+    (start .pre .1 .1) (sym (at-node-at .node-at .ensures) ∙ at-node2 .node2 .given .1) (c .before .before .before .put-tree3 .ensures .0)
+    (c .before .before .before .put-tree3 .ensures .1) .0
 
 put-tree-add-result-2 : (t : ℕ) → put-tree-lts.Need-add-result-2 (put-tree-claims t) (put-tree-at t) put-tree.Post
 put-tree-add-result-2 t c =
@@ -177,7 +221,10 @@ put-tree-add-result-2 t c =
     let at-node2 = at-put-tree3 .before .before .before in
     let at-node-at = at-node2 .before .before in
     let start = at-node-at .before .before .before in
-    let w = room-above (start .pre .1 .0) (start .args .base) (start .args .steps) (substOf (start .args .subs .now)) (start .args .list .now) (start .pre .1 .1) (sym (at-node-at .node-at .ensures) ∙ at-node2 .node2 .given .1) (at-put-tree3 .put-tree3 .ensures .0) (at-put-tree3 .put-tree3 .ensures .1) in omega (arith, w .1)
+    let w =
+    room-above (start .pre .1 .0) (start .args .base) (start .args .steps) (substOf (start .args .subs .now)) (start .args .list .now) (start .pre .1 .1)
+    (sym (at-node-at .node-at .ensures) ∙ at-node2 .node2 .given .1) (at-put-tree3 .put-tree3 .ensures .0) (at-put-tree3 .put-tree3 .ensures .1) in
+    omega (arith, w .1)
 
 put-tree-enum-known-node-3 : (t : ℕ) → put-tree-lts.Need-enum-known-node-3 (put-tree-claims t) (put-tree-at t) put-tree.Post
 put-tree-enum-known-node-3 t c = search needs
@@ -190,7 +237,9 @@ put-tree-put-leaf-requires t c κs =
 put-tree-add-result-3 : (t : ℕ) → put-tree-lts.Need-add-result-3 (put-tree-claims t) (put-tree-at t) put-tree.Post
 put-tree-add-result-3 t c =
     let start = c .before .before .before .before .before .before .before .before .before .before in
-    let w = room-leaf (start .pre .1 .0) (start .args .base) (start .args .steps) (substOf (start .args .subs .now)) (start .args .list .now) (start .pre .1 .1) in omega (arith, w .few)
+    let w =
+    room-leaf (start .pre .1 .0) (start .args .base) (start .args .steps) (substOf (start .args .subs .now)) (start .args .list .now) (start .pre .1 .1) in
+    omega (arith, w .few)
 
 put-tree-enum-known-node-4 : (t : ℕ) → put-tree-lts.Need-enum-known-node-4 (put-tree-claims t) (put-tree-at t) put-tree.Post
 put-tree-enum-known-node-4 t c = search needs
@@ -206,7 +255,9 @@ put-tree-put-leaf-requires-2 t c κs =
 put-tree-add-result-4 : (t : ℕ) → put-tree-lts.Need-add-result-4 (put-tree-claims t) (put-tree-at t) put-tree.Post
 put-tree-add-result-4 t c =
     let start = c .before .before .before .before .before .before .before .before .before .before .before in
-    let w = room-leaf (start .pre .1 .0) (start .args .base) (start .args .steps) (substOf (start .args .subs .now)) (start .args .list .now) (start .pre .1 .1) in omega (arith, w .few)
+    let w =
+    room-leaf (start .pre .1 .0) (start .args .base) (start .args .steps) (substOf (start .args .subs .now)) (start .args .list .now) (start .pre .1 .1) in
+    omega (arith, w .few)
 
 put-tree-same-length : (t : ℕ) → put-tree-lts.Need-same-length (put-tree-claims t) (put-tree-at t) put-tree.Post
 put-tree-same-length t c = search needs
@@ -219,7 +270,9 @@ put-tree-returns t c =
     let at-node = at-put-tree .before .before .before in
     let at-node-at = at-node .before .before in
     let start = at-node-at .before .before .before in
-    put-infix (start .args .list .now) (start .args .base) (copy-infix (start .pre .1 .0) _ _ (sym (at-node-at .node-at .ensures) ∙ at-node .node .given .1)) (at-put-tree .put-tree .ensures .0) (at-put-tree .put-tree .ensures .1) (at-put-tree2 .put-tree2 .ensures .0) (at-put-tree2 .put-tree2 .ensures .1) (at-operator-number .operator-number .ensures) (c .before .before .put-node .ensures)
+    put-infix (start .args .list .now) (start .args .base) (copy-infix (start .pre .1 .0) _ _ (sym (at-node-at .node-at .ensures) ∙ at-node .node .given .1))
+    (at-put-tree .put-tree .ensures .0) (at-put-tree .put-tree .ensures .1) (at-put-tree2 .put-tree2 .ensures .0) (at-put-tree2 .put-tree2 .ensures .1)
+    (at-operator-number .operator-number .ensures) (c .before .before .put-node .ensures)
 
 put-tree-same-length-2 : (t : ℕ) → put-tree-lts.Need-same-length-2 (put-tree-claims t) (put-tree-at t) put-tree.Post
 put-tree-same-length-2 t c = search needs
@@ -230,7 +283,9 @@ put-tree-returns-2 t c =
     let at-node2 = at-put-tree3 .before .before .before in
     let at-node-at = at-node2 .before .before in
     let start = at-node-at .before .before .before in
-    put-negate (start .args .list .now) (start .args .base) (copy-negate (start .pre .1 .0) _ _ (sym (at-node-at .node-at .ensures) ∙ at-node2 .node2 .given .1)) (at-put-tree3 .put-tree3 .ensures .0) (at-put-tree3 .put-tree3 .ensures .1) (c .before .before .put-node2 .ensures)
+    put-negate (start .args .list .now) (start .args .base)
+    (copy-negate (start .pre .1 .0) _ _ (sym (at-node-at .node-at .ensures) ∙ at-node2 .node2 .given .1)) (at-put-tree3 .put-tree3 .ensures .0)
+    (at-put-tree3 .put-tree3 .ensures .1) (c .before .before .put-node2 .ensures)
 
 put-tree-same-length-3 : (t : ℕ) → put-tree-lts.Need-same-length-3 (put-tree-claims t) (put-tree-at t) put-tree.Post
 put-tree-same-length-3 t c = search needs
@@ -241,7 +296,9 @@ put-tree-returns-3 t c =
     let at-node3 = at-known-told3 .before in
     let at-node-at = at-node3 .before .before in
     let start = at-node-at .before .before .before in
-    put-term (start .args .list .now) (start .args .base) (copy-constant (start .pre .1 .0) _ _ (sym (at-node-at .node-at .ensures) ∙ at-node3 .node3 .given .1)) (ap Term.Constant (toZ-ofZ w32 _ (record { sfits = at-known-told3 .known-told3 .given .0 .1 }))) (c .before .before .put-leaf .ensures)
+    put-term (start .args .list .now) (start .args .base)
+    (copy-constant (start .pre .1 .0) _ _ (sym (at-node-at .node-at .ensures) ∙ at-node3 .node3 .given .1))
+    (ap Term.Constant (toZ-ofZ w32 _ (record { sfits = at-known-told3 .known-told3 .given .0 .1 }))) (c .before .before .put-leaf .ensures)
 
 put-tree-same-length-4 : (t : ℕ) → put-tree-lts.Need-same-length-4 (put-tree-claims t) (put-tree-at t) put-tree.Post
 put-tree-same-length-4 t c = search needs
@@ -251,7 +308,8 @@ put-tree-returns-4 t c =
     let at-node4 = c .before .before .before .before .before .before in
     let at-node-at = at-node4 .before .before in
     let start = at-node-at .before .before .before in
-    put-term (start .args .list .now) (start .args .base) (copy-variable (start .pre .1 .0) _ _ (sym (at-node-at .node-at .ensures) ∙ at-node4 .node4 .given .1)) (c .before .before .before .resolve .ensures) (c .before .before .put-leaf2 .ensures)
+    put-term (start .args .list .now) (start .args .base) (copy-variable (start .pre .1 .0) _ _
+    (sym (at-node-at .node-at .ensures) ∙ at-node4 .node4 .given .1)) (c .before .before .before .resolve .ensures) (c .before .before .put-leaf2 .ensures)
 
 pub +put-tree-spec : {M : Type 1} → statement M
 +put-tree-spec = close μ-put-tree λ t. put-tree-lts.spec (

@@ -9,7 +9,8 @@ use Rattle.pass_classify.proofs.Lists.{OverDefinitions, definition-small, defin
 use Rattle.pass_keep.proofs.Turns.{Going, going-start, going-turn, going-end, first-room}
 
 abbrev Inv-loop : tie.InvT-loop
-Inv-loop s definitions n nodes usage provers subs₀ steps body₀ at list₀ to₀ base₀ k₀ subs body list to base k = Going s steps n at subs₀ body₀ list₀ to base k subs body list
+Inv-loop s definitions n nodes usage provers subs₀ steps body₀ at list₀ to₀ base₀ k₀ subs body list to base k =
+    Going s steps n at subs₀ body₀ list₀ to base k subs body list
 
 abbrev μ-loop : tie.MeasureT-loop
 μ-loop s definitions n nodes usage provers subs₀ steps body₀ at list₀ to₀ base₀ k₀ subs body list to base k = n - k

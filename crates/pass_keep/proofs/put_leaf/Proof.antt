@@ -42,7 +42,8 @@ returns-2 c =
     let at-known-told2 = c .before .before .before .before .before in
     let at-term2 = at-known-told2 .before in
     let start = at-term2 .before .before .before in
-    leaf-constant (start .args .list .now) (start .args .index) _ _ (at-term2 .term2 .given .1) (record { sfits = at-known-told2 .known-told2 .given .0 .1 }) (c .before .before .before .unsigned .ensures) (c .before .before .put-node2 .ensures)
+    leaf-constant (start .args .list .now) (start .args .index) _ _ (at-term2 .term2 .given .1) (record { sfits = at-known-told2 .known-told2 .given .0 .1 })
+    (c .before .before .before .unsigned .ensures) (c .before .before .put-node2 .ensures)
 
 pub put-leaf-spec : {M : Type 1} → statement M
 put-leaf-spec =

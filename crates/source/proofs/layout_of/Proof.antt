@@ -49,7 +49,8 @@ mul-t13 c = search needs
 returns : tie.Need-returns
 returns c =
     let at-count = c .before .before .before .before in
-    laid-out _ (at-count .count .ensures .0) (c .before .before .before .count2 .ensures .0) (c .before .before .count3 .ensures .0) (c .before .count4 .ensures .0) (c .count5 .ensures .0)
+    laid-out _ (at-count .count .ensures .0) (c .before .before .before .count2 .ensures .0) (c .before .before .count3 .ensures .0)
+    (c .before .count4 .ensures .0) (c .count5 .ensures .0)
 
 pub layout-of-spec : {M : Type 1} → statement M
 layout-of-spec =

@@ -29,7 +29,13 @@ loop-less : tie.Need-loop-less Inv-loop μ-loop
 loop-less c = search needs
 
 loop-again : tie.Need-loop-again Inv-loop μ-loop
-loop-again c = let l : c .before .loop .i < length (c .before .before .args .s .now) = omega (arith, c .loop-test .taken) in ((ap (λ (t : List ℕ). set t (c .before .loop .i) 0) (c .before .loop .inv .0 .0) ∙ fill-more (c .before .loop .i) 0 (c .before .before .args .s .now) l, omega arith), (length-set (c .before .loop .s) (c .before .loop .i) 0 ∙ c .before .loop .inv .1 .0, c .before .loop .inv .1 .1))
+loop-again c = let l : c .before .loop .i < length (c .before .before .args .s .now) = omega (arith, c .loop-test .taken) in (
+  (
+    ap (λ (t : List ℕ). set t (c .before .loop .i) 0) (c .before .loop .inv .0 .0) ∙ fill-more (c .before .loop .i) 0 (c .before .before .args .s .now) l,
+    omega arith,
+  ),
+  (length-set (c .before .loop .s) (c .before .loop .i) 0 ∙ c .before .loop .inv .1 .0, c .before .loop .inv .1 .1),
+)
 
 same-length : tie.Need-same-length Inv-loop μ-loop
 same-length c = c .before .loop .inv .1 .0

@@ -23,8 +23,21 @@ returns : tie.Need-returns
 unfolding equalityText
 returns c =
     let at-put-sign = c .before .before .before .before in
-    let at-put-term = at-put-sign .before .before in
-    (at-front _ _ _ _ (then _ _ _ _ _ _ _ _ (at-put-term .put-term .ensures .0) (then _ _ _ _ _ _ _ _ (at-put-sign .put-sign .ensures .0) (then _ _ _ _ _ _ _ _ (c .before .before .put-side .ensures .0) (c .put-byte .ensures)))), counts _ _ (omega (arith, at-put-term .put-term .ensures .1, at-put-sign .put-sign .ensures .1, c .before .before .put-side .ensures .1, c .put-byte .ensures .0, at-put-term .put-term .kept .0, at-put-sign .put-sign .kept .0, c .before .before .put-side .kept .0, c .put-byte .kept .0)))
+    let at-put-term = at-put-sign .before .before in (
+      at-front _ _ _ _ (then _ _ _ _ _ _ _ _ (at-put-term .put-term .ensures .0)
+          (then _ _ _ _ _ _ _ _ (at-put-sign .put-sign .ensures .0) (then _ _ _ _ _ _ _ _ (c .before .before .put-side .ensures .0) (c .put-byte .ensures)))),
+      counts _ _ (omega (
+        arith,
+        at-put-term .put-term .ensures .1,
+        at-put-sign .put-sign .ensures .1,
+        c .before .before .put-side .ensures .1,
+        c .put-byte .ensures .0,
+        at-put-term .put-term .kept .0,
+        at-put-sign .put-sign .kept .0,
+        c .before .before .put-side .kept .0,
+        c .put-byte .kept .0,
+      )),
+    )
 
 pub equality-line-spec : {M : Type 1} → statement M
 equality-line-spec =

@@ -28,8 +28,16 @@ same-length c = search needs
 returns : tie.Need-returns
 returns c =
     let at-decimal = c .before .before .before .before .before in
-    let at-fits = at-decimal .before .before .before in
-    (renamed _ _ _ _ _ _ (at-decimal .decimal .ensures .1 .1 ∙ decimal-digits _ _ (at-decimal .decimal .ensures .1 .0)) (c .before .before .put-text .ensures), omega (arith, c .before .before .put-text .ensures .0, at-decimal .decimal .ensures .0 .1, few _ _ (at-fits .fits .n .fits) (at-decimal .decimal .ensures .1 .0)))
+    let at-fits = at-decimal .before .before .before in (
+      renamed _ _ _ _ _ _ (at-decimal .decimal .ensures .1 .1 ∙ decimal-digits _ _ (at-decimal .decimal .ensures .1 .0))
+          (c .before .before .put-text .ensures),
+      omega (
+        arith,
+        c .before .before .put-text .ensures .0,
+        at-decimal .decimal .ensures .0 .1,
+        few _ _ (at-fits .fits .n .fits) (at-decimal .decimal .ensures .1 .0),
+      ),
+    )
 
 pub put-decimal-spec : {M : Type 1} → statement M
 put-decimal-spec =

@@ -19,8 +19,19 @@ put-byte-requires c κs = search needs
 returns : tie.Need-returns
 unfolding lineText
 returns c =
-    let at-put-text = c .before .before .before .before in
-    (at-front _ _ _ _ (then _ _ _ _ _ _ _ _ (at-put-text .put-text .ensures) (then _ _ _ _ _ _ _ _ (c .before .before .put-decimal .ensures .0) (c .put-byte .ensures))), counts _ _ (omega (arith, at-put-text .put-text .ensures .0, c .before .before .put-decimal .ensures .1, c .put-byte .ensures .0, at-put-text .put-text .kept .0, c .before .before .put-decimal .kept .0, c .put-byte .kept .0)))
+    let at-put-text = c .before .before .before .before in (
+      at-front _ _ _ _
+          (then _ _ _ _ _ _ _ _ (at-put-text .put-text .ensures) (then _ _ _ _ _ _ _ _ (c .before .before .put-decimal .ensures .0) (c .put-byte .ensures))),
+      counts _ _ (omega (
+        arith,
+        at-put-text .put-text .ensures .0,
+        c .before .before .put-decimal .ensures .1,
+        c .put-byte .ensures .0,
+        at-put-text .put-text .kept .0,
+        c .before .before .put-decimal .kept .0,
+        c .put-byte .kept .0,
+      )),
+    )
 
 pub put-line-spec : {M : Type 1} → statement M
 put-line-spec =

@@ -33,8 +33,12 @@ returns c =
     let at-put-byte = c .before .before .before .before .before .before in
     let at-if1 = at-put-byte .before .before in
     let at-magnitude = at-if1 .before in
-    let start = at-magnitude .before .before in
-    (renamed _ _ _ _ _ _ (number-negative (start .args .z) (mag (start .args .z)) _ (negative (start .args .z) (start .fits .z) (at-if1 .if1 .taken)) (at-magnitude .magnitude .ensures ∙ ap mag (toZ-ofZ (start .fits .z)))) (then _ _ _ _ _ _ _ _ (at-put-byte .put-byte .ensures) (c .before .before .put-decimal .ensures .0)), omega (arith, at-put-byte .put-byte .ensures .0, c .before .before .put-decimal .ensures .1))
+    let start = at-magnitude .before .before in (
+      renamed _ _ _ _ _ _ (number-negative (start .args .z) (mag (start .args .z)) _
+          (negative (start .args .z) (start .fits .z) (at-if1 .if1 .taken)) (at-magnitude .magnitude .ensures ∙ ap mag (toZ-ofZ (start .fits .z))))
+          (then _ _ _ _ _ _ _ _ (at-put-byte .put-byte .ensures) (c .before .before .put-decimal .ensures .0)),
+      omega (arith, at-put-byte .put-byte .ensures .0, c .before .before .put-decimal .ensures .1),
+    )
 
 put-decimal-requires-2 : tie.Need-put-decimal-requires-2
 put-decimal-requires-2 c κs = search needs
@@ -46,8 +50,11 @@ returns-2 : tie.Need-returns-2
 returns-2 c =
     let at-if1 = c .before .before .before .before in
     let at-magnitude = at-if1 .before in
-    let start = at-magnitude .before .before in
-    (renamed _ _ _ _ _ _ (number-positive (start .args .z) (mag (start .args .z)) _ (positive (start .args .z) (start .fits .z) (at-if1 .if1 .left)) (at-magnitude .magnitude .ensures ∙ ap mag (toZ-ofZ (start .fits .z)))) (c .before .before .put-decimal2 .ensures .0), omega (arith, c .before .before .put-decimal2 .ensures .1))
+    let start = at-magnitude .before .before in (
+      renamed _ _ _ _ _ _ (number-positive (start .args .z) (mag (start .args .z)) _ (positive (start .args .z) (start .fits .z) (at-if1 .if1 .left))
+          (at-magnitude .magnitude .ensures ∙ ap mag (toZ-ofZ (start .fits .z)))) (c .before .before .put-decimal2 .ensures .0),
+      omega (arith, c .before .before .put-decimal2 .ensures .1),
+    )
 
 pub put-number-spec : {M : Type 1} → statement M
 put-number-spec =

@@ -44,8 +44,11 @@ returns c =
     let at-put-sign = c .before .before .before .before .before .before in
     let at-sign = at-put-sign .before in
     let at-put-term = at-sign .before .before .before .before in
-    let at-operation = at-put-term .before .before .before in
-    (renamed _ _ _ _ _ _ (side-infix _ _ _ _ _ (at-operation .operation .given .1) (at-sign .sign .ensures)) (then _ _ _ _ _ _ _ _ (at-put-term .put-term .ensures .0) (then _ _ _ _ _ _ _ _ (at-put-sign .put-sign .ensures .0) (c .before .before .put-term2 .ensures .0))), omega (arith, at-put-term .put-term .ensures .1, at-put-sign .put-sign .ensures .1, c .before .before .put-term2 .ensures .1))
+    let at-operation = at-put-term .before .before .before in (
+      renamed _ _ _ _ _ _ (side-infix _ _ _ _ _ (at-operation .operation .given .1) (at-sign .sign .ensures)) (then _ _ _ _ _ _ _ _
+          (at-put-term .put-term .ensures .0) (then _ _ _ _ _ _ _ _ (at-put-sign .put-sign .ensures .0) (c .before .before .put-term2 .ensures .0))),
+      omega (arith, at-put-term .put-term .ensures .1, at-put-sign .put-sign .ensures .1, c .before .before .put-term2 .ensures .1),
+    )
 
 same-length-2 : tie.Need-same-length-2
 same-length-2 c = search needs
@@ -53,16 +56,21 @@ same-length-2 c = search needs
 returns-2 : tie.Need-returns-2
 returns-2 c =
     let at-put-byte = c .before .before .before .before .before .before in
-    let at-enum-told = at-put-byte .before .before in
-    (renamed _ _ _ _ _ _ (side-negate _ _ _ (at-enum-told .enum-told .given .1)) (then _ _ _ _ _ _ _ _ (at-put-byte .put-byte .ensures) (c .before .before .put-term3 .ensures .0)), omega (arith, at-put-byte .put-byte .ensures .0, c .before .before .put-term3 .ensures .1))
+    let at-enum-told = at-put-byte .before .before in (
+      renamed _ _ _ _ _ _ (side-negate _ _ _ (at-enum-told .enum-told .given .1))
+          (then _ _ _ _ _ _ _ _ (at-put-byte .put-byte .ensures) (c .before .before .put-term3 .ensures .0)),
+      omega (arith, at-put-byte .put-byte .ensures .0, c .before .before .put-term3 .ensures .1),
+    )
 
 same-length-3 : tie.Need-same-length-3
 same-length-3 c = search needs
 
 returns-3 : tie.Need-returns-3
 returns-3 c =
-    let at-enum-told2 = c .before .before .before .before in
-    (renamed _ _ _ _ _ _ (side-copy _ _ _ (at-enum-told2 .enum-told2 .given .1)) (c .before .before .put-term4 .ensures .0), omega (arith, c .before .before .put-term4 .ensures .1))
+    let at-enum-told2 = c .before .before .before .before in (
+      renamed _ _ _ _ _ _ (side-copy _ _ _ (at-enum-told2 .enum-told2 .given .1)) (c .before .before .put-term4 .ensures .0),
+      omega (arith, c .before .before .put-term4 .ensures .1),
+    )
 
 pub put-side-spec : {M : Type 1} → statement M
 put-side-spec =

@@ -22,8 +22,10 @@ returns : tie.Need-returns
 unfolding between
 returns c =
     let at-put-byte2 = c .before .before .before .before .before .before in
-    let at-put-byte = at-put-byte2 .before .before .before .before in
-    (then _ _ _ _ _ _ _ _ (then _ _ _ _ _ _ _ _ (at-put-byte .put-byte .ensures) (at-put-byte2 .put-byte2 .ensures)) (c .before .before .put-byte3 .ensures), omega (arith, at-put-byte .put-byte .ensures .0, at-put-byte2 .put-byte2 .ensures .0, c .before .before .put-byte3 .ensures .0))
+    let at-put-byte = at-put-byte2 .before .before .before .before in (
+      then _ _ _ _ _ _ _ _ (then _ _ _ _ _ _ _ _ (at-put-byte .put-byte .ensures) (at-put-byte2 .put-byte2 .ensures)) (c .before .before .put-byte3 .ensures),
+      omega (arith, at-put-byte .put-byte .ensures .0, at-put-byte2 .put-byte2 .ensures .0, c .before .before .put-byte3 .ensures .0),
+    )
 
 pub put-sign-spec : {M : Type 1} → statement M
 put-sign-spec =

@@ -37,8 +37,11 @@ same-length c = search needs
 returns : tie.Need-returns
 returns c =
     let at-put-byte = c .before .before .before .before .before .before in
-    let at-term = at-put-byte .before .before .before in
-    (renamed _ _ _ _ _ _ (term-variable _ _ (at-term .term .given .1)) (then _ _ _ _ _ _ _ _ (at-put-byte .put-byte .ensures) (c .before .before .put-decimal .ensures .0)), omega (arith, at-put-byte .put-byte .ensures .0, c .before .before .put-decimal .ensures .1))
+    let at-term = at-put-byte .before .before .before in (
+      renamed _ _ _ _ _ _ (term-variable _ _ (at-term .term .given .1))
+          (then _ _ _ _ _ _ _ _ (at-put-byte .put-byte .ensures) (c .before .before .put-decimal .ensures .0)),
+      omega (arith, at-put-byte .put-byte .ensures .0, c .before .before .put-decimal .ensures .1),
+    )
 
 same-length-2 : tie.Need-same-length-2
 same-length-2 c = search needs
@@ -46,8 +49,13 @@ same-length-2 c = search needs
 returns-2 : tie.Need-returns-2
 returns-2 c =
     let at-known-told2 = c .before .before .before .before .before in
-    let at-term2 = at-known-told2 .before in
-    (renamed _ _ _ _ _ _ (term-constant _ _ _ (at-term2 .term2 .given .1) (element (at-term2 .term2 .given .0 .0) _ (record { sfits = at-known-told2 .known-told2 .given .0 .1 }) (record { sfits = c .before .before .before .canonical .ok }) (c .before .before .before .canonical .ensures))) (c .before .before .put-number .ensures .0), c .before .before .put-number .ensures .1)
+    let at-term2 = at-known-told2 .before in (
+      renamed _ _ _ _ _ _ (term-constant _ _ _ (at-term2 .term2 .given .1) (element (at-term2 .term2 .given .0 .0) _ (record {
+        sfits = at-known-told2 .known-told2 .given .0 .1;
+      }) (record { sfits = c .before .before .before .canonical .ok }) (c .before .before .before .canonical .ensures)))
+          (c .before .before .put-number .ensures .0),
+      c .before .before .put-number .ensures .1,
+    )
 
 pub put-term-spec : {M : Type 1} → statement M
 put-term-spec =

@@ -35,7 +35,14 @@ loop-less : tie.Need-loop-less Inv-loop μ-loop
 loop-less c = search needs
 
 loop-again : tie.Need-loop-again Inv-loop μ-loop
-loop-again c = ((one-more (c .before .before .before .args .out .now) (c .before .before .loop .out) (c .before .before .before .args .text .now) (c .before .before .before .args .at) (c .before .before .loop .k) (c .before .loop-test .taken) (c .before .before .loop .inv .0 .0), simp length-set (c .before .before .loop .inv .0 .1)), omega (arith, c .before .loop-test .taken))
+loop-again c = (
+  (
+    one-more (c .before .before .before .args .out .now) (c .before .before .loop .out) (c .before .before .before .args .text .now)
+        (c .before .before .before .args .at) (c .before .before .loop .k) (c .before .loop-test .taken) (c .before .before .loop .inv .0 .0),
+    simp length-set (c .before .before .loop .inv .0 .1),
+  ),
+  omega (arith, c .before .loop-test .taken),
+)
 
 add-result : tie.Need-add-result Inv-loop μ-loop
 add-result c = search needs
@@ -44,7 +51,11 @@ same-length : tie.Need-same-length Inv-loop μ-loop
 same-length c = c .before .loop .inv .0 .1
 
 returns : tie.Need-returns Inv-loop μ-loop
-returns c = let e : c .before .loop .k ≡ length (c .before .before .args .text .now) = omega (arith, c .loop-test .left) in (ap (λ (x : ℕ). c .before .before .args .at + x) e, c .before .loop .inv .0 .0 ∙ rw e (ap (setBytes (c .before .before .args .out .now) (c .before .before .args .at)) (take-length {A = ℕ} (c .before .before .args .text .now))))
+returns c = let e : c .before .loop .k ≡ length (c .before .before .args .text .now) = omega (arith, c .loop-test .left) in (
+  ap (λ (x : ℕ). c .before .before .args .at + x) e,
+  c .before .loop .inv .0 .0
+      ∙ rw e (ap (setBytes (c .before .before .args .out .now) (c .before .before .args .at)) (take-length {A = ℕ} (c .before .before .args .text .now))),
+)
 
 pub put-text-spec : {M : Type 1} → statement M
 put-text-spec =

@@ -68,7 +68,8 @@ write-below-returns :
 write-below-returns t c = (high _ _ _ _ _ _ _ (c .if1 .taken), c .before .before .pre .1 .1)
 
 write-below-write-tree-requires : (t : ℕ) → write-below-lts.Need-write-tree-requires (write-below-claims t) (write-below-at t) write-below.Post
-write-below-write-tree-requires t c κs = (omega (arith, c .before .before .before .pre .0, c .before .if1 .left), (c .before .before .before .pre .1 .0, c .before .before .before .pre .1 .1))
+write-below-write-tree-requires t c κs =
+    (omega (arith, c .before .before .before .pre .0, c .before .if1 .left), (c .before .before .before .pre .1 .0, c .before .before .before .pre .1 .1))
 
 write-below-returns-2 : (t : ℕ) → write-below-lts.Need-returns-2 (write-below-claims t) (write-below-at t) write-below.Post
 write-below-returns-2 t c = (low _ _ _ _ _ _ _ (omega (arith, c .before .before .if1 .left)) (c .write-tree .ensures .0), c .write-tree .ensures .1)
@@ -96,8 +97,11 @@ write-tree-returns : (t : ℕ) → write-tree-lts.Need-returns (write-tree-claim
 write-tree-returns t c =
     let at-if1 = c .before .before .before .before .before in
     let at-node-word = at-if1 .before in
-    let at-kind = at-node-word .before in
-    (tree-negate _ _ _ _ _ _ (at-kind .kind .ensures .0) (at-node-word .node-word .ensures) (at-if1 .if1 .taken) (c .before .before .before .write-below .ensures .0) (c .before .below .ensures) (c .add-node .ensures .0), c .add-node .ensures .1)
+    let at-kind = at-node-word .before in (
+      tree-negate _ _ _ _ _ _ (at-kind .kind .ensures .0) (at-node-word .node-word .ensures) (at-if1 .if1 .taken)
+          (c .before .before .before .write-below .ensures .0) (c .before .below .ensures) (c .add-node .ensures .0),
+      c .add-node .ensures .1,
+    )
 
 write-tree-add-node-requires-2 : (t : ℕ) → write-tree-lts.Need-add-node-requires-2 (write-tree-claims t) (write-tree-at t) write-tree.Post
 write-tree-add-node-requires-2 t c κs =
@@ -107,8 +111,11 @@ write-tree-add-node-requires-2 t c κs =
 write-tree-returns-2 : (t : ℕ) → write-tree-lts.Need-returns-2 (write-tree-claims t) (write-tree-at t) write-tree.Post
 write-tree-returns-2 t c =
     let at-node-word = c .before .before .before .before in
-    let at-kind = at-node-word .before in
-    (tree-leaf _ _ _ _ _ _ (at-kind .kind .ensures .0) (at-node-word .node-word .ensures) (c .before .before .before .if1 .left) (c .before .before .if2 .taken) (c .add-node2 .ensures .0), c .add-node2 .ensures .1)
+    let at-kind = at-node-word .before in (
+      tree-leaf _ _ _ _ _ _ (at-kind .kind .ensures .0) (at-node-word .node-word .ensures) (c .before .before .before .if1 .left)
+          (c .before .before .if2 .taken) (c .add-node2 .ensures .0),
+      c .add-node2 .ensures .1,
+    )
 
 write-tree-node-word-requires-2 : (t : ℕ) → write-tree-lts.Need-node-word-requires-2 (write-tree-claims t) (write-tree-at t) write-tree.Post
 write-tree-node-word-requires-2 t c κs = search needs
@@ -146,8 +153,12 @@ write-tree-returns-3 t c =
     let at-if2 = at-node-word2 .before in
     let at-if1 = at-if2 .before in
     let at-node-word = at-if1 .before in
-    let at-kind = at-node-word .before in
-    (tree-infix _ _ _ _ _ _ (at-kind .kind .ensures .0) (at-node-word .node-word .ensures) (at-if1 .if1 .left) (at-if2 .if2 .left) (at-node-word2 .node-word2 .ensures) (at-node-word3 .node-word3 .ensures) (at-write-below2 .write-below2 .ensures .0) (at-write-below3 .write-below3 .ensures .0) (c .before .before .below2 .ensures) (c .before .below3 .ensures) (c .add-node3 .ensures .0), c .add-node3 .ensures .1)
+    let at-kind = at-node-word .before in (
+      tree-infix _ _ _ _ _ _ (at-kind .kind .ensures .0) (at-node-word .node-word .ensures) (at-if1 .if1 .left) (at-if2 .if2 .left)
+          (at-node-word2 .node-word2 .ensures) (at-node-word3 .node-word3 .ensures) (at-write-below2 .write-below2 .ensures .0)
+          (at-write-below3 .write-below3 .ensures .0) (c .before .before .below2 .ensures) (c .before .below3 .ensures) (c .add-node3 .ensures .0),
+      c .add-node3 .ensures .1,
+    )
 
 pub +write-below+write-tree-spec : {M : Type 1} → statement M
 +write-below+write-tree-spec = close μ-write-below μ-write-tree (λ t. write-below-lts.spec (

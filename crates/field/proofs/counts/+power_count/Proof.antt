@@ -41,7 +41,8 @@ power-count-power-count-requires t c κs =
     let e : c .before .before .args .n ≡ t = c .before .before .pre .0 in (omega arith, tt)
 
 -- the count of the half is at most the half
-small : (t : ℕ) (c : power-count-lts.After-power-count (table-count-reads.Asked, table-count-reads.Learnt, power-count-below t, power-count.Post) (power-count-at t) power-count.Post) → c .power-count .result ≤ c .before .before .before .args .n / 2
+small : (t : ℕ) (c : power-count-lts.After-power-count (table-count-reads.Asked, table-count-reads.Learnt, power-count-below t, power-count.Post)
+    (power-count-at t) power-count.Post) → c .power-count .result ≤ c .before .before .before .args .n / 2
 small t c = omega (arith, c .power-count .ensures, power-count-le (c .before .before .before .args .n / 2))
 
 power-count-add-result : (t : ℕ) → power-count-lts.Need-add-result (power-count-claims t) (power-count-at t) power-count.Post

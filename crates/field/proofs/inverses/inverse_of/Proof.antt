@@ -81,9 +81,12 @@ mul-result c = record { fits = lt-trans (product-small (c .before .before .loop 
 
 returns : tie.Need-returns Inv-loop μ-loop
 returns c =
-    inv-unique P P-prime (c .before .before .before .args .b) _ (c .before .before .before .pre .0) (c .before .before .before .pre .1) (mod-lt _ (omega arith))
-    (last P (c .before .before .before .args .b) (c .before .before .loop .factor) (c .before .before .loop .rest) (c .table-inverse .result) (c .before .before .loop .inv .3)
-    (ap (λ (n : ℕ). (c .before .before .loop .rest * n) % P) (c .table-inverse .ensures) ∙ inv-right P P-prime _ (c .before .before .loop .inv .0) (c .before .before .loop .inv .1)))
+    inv-unique P P-prime (c .before .before .before .args .b) _ (c .before .before .before .pre .0) (c .before .before .before .pre .1)
+    (mod-lt _ (omega arith))
+    (last P (c .before .before .before .args .b) (c .before .before .loop .factor) (c .before .before .loop .rest) (c .table-inverse .result)
+    (c .before .before .loop .inv .3)
+    (ap (λ (n : ℕ). (c .before .before .loop .rest * n) % P) (c .table-inverse .ensures)
+    ∙ inv-right P P-prime _ (c .before .before .loop .inv .0) (c .before .before .loop .inv .1)))
 
 pub inverse-of-spec : {M : Type 1} → statement M
 inverse-of-spec =

@@ -31,7 +31,10 @@ loop-less : tie.Need-loop-less Inv-loop μ-loop
 loop-less c = omega arith
 
 -- after a turn's branch
-joined : (c : tie.Joined1 Inv-loop μ-loop) → (c .if1 .product < P) × ((c .if1 .product * (c .before .before .loop .base * c .before .before .loop .base % P) ^ (c .before .before .loop .left / 2)) % P ≡ (c .before .before .loop .product * c .before .before .loop .base ^ c .before .before .loop .left) % P)
+joined : (c : tie.Joined1 Inv-loop μ-loop)
+    → (c .if1 .product < P)
+    × ((c .if1 .product * (c .before .before .loop .base * c .before .before .loop .base % P) ^ (c .before .before .loop .left / 2)) % P
+    ≡ (c .before .before .loop .product * c .before .before .loop .base ^ c .before .before .loop .left) % P)
 joined c =
     let a : ℕ = c .before .before .loop .product in
     let b : ℕ = c .before .before .loop .base in
@@ -54,7 +57,9 @@ returns : tie.Need-returns Inv-loop μ-loop
 returns c =
     let zero : c .before .loop .left ≡ 0 = omega arith in
     sym (mod-eq-of-lt (c .before .loop .inv .0))
-    ∙ ap (λ (k : ℕ). k % P) (sym (ap (λ (k : ℕ). c .before .loop .product * c .before .loop .base ^ k) zero ∙ ap (λ (k : ℕ). c .before .loop .product * k) (pow-zero (c .before .loop .base)) ∙ mul-one (c .before .loop .product)))
+    ∙ ap (λ (k : ℕ). k % P) (sym (ap (λ (k : ℕ). c .before .loop .product * c .before .loop .base ^ k) zero
+    ∙ ap (λ (k : ℕ). c .before .loop .product * k) (pow-zero (c .before .loop .base))
+    ∙ mul-one (c .before .loop .product)))
     ∙ c .before .loop .inv .2
 
 pub power-of-spec : {M : Type 1} → statement M

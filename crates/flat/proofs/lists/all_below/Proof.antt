@@ -32,7 +32,8 @@ returns : tie.Need-returns Inv-loop μ-loop
 unfolding allBelow
 returns c =
     let start = c .before .before .before .before .before in
-    every-fails _ (c .before .before .before .loop .k) _ (c .before .before .loop-test .taken) (le-ltb (wordAt (start .args .s .now) (start .args .at + c .before .before .before .loop .k)) (start .args .limit) (omega arith))
+    every-fails _ (c .before .before .before .loop .k) _ (c .before .before .loop-test .taken)
+    (le-ltb (wordAt (start .args .s .now) (start .args .at + c .before .before .before .loop .k)) (start .args .limit) (omega arith))
 
 add-k : tie.Need-add-k Inv-loop μ-loop
 add-k c = search needs
@@ -42,8 +43,11 @@ loop-less c = search needs
 
 loop-again : tie.Need-loop-again Inv-loop μ-loop
 loop-again c =
-    let start = c .before .before .before .before .before in
-    (every-more _ _ (c .before .before .before .loop .inv .0) (lt-ltb (wordAt (start .args .s .now) (start .args .at + c .before .before .before .loop .k)) (start .args .limit) (omega arith)), omega arith)
+    let start = c .before .before .before .before .before in (
+      every-more _ _ (c .before .before .before .loop .inv .0)
+          (lt-ltb (wordAt (start .args .s .now) (start .args .at + c .before .before .before .loop .k)) (start .args .limit) (omega arith)),
+      omega arith,
+    )
 
 returns-2 : tie.Need-returns-2 Inv-loop μ-loop
 unfolding allBelow

@@ -49,7 +49,8 @@ unfolding rising
 returns-2 c =
     let at-loop = c .before .before .before .before in
     let start = at-loop .before .before .before in
-    every-fails _ (at-loop .loop .k) _ (c .before .before .before .loop-test .taken) (le-ltb (wordAt (start .args .s .now) (start .args .at + at-loop .loop .k)) (wordAt (start .args .s .now) (start .args .at + at-loop .loop .k + 1)) (omega arith))
+    every-fails _ (at-loop .loop .k) _ (c .before .before .before .loop-test .taken) (le-ltb
+    (wordAt (start .args .s .now) (start .args .at + at-loop .loop .k)) (wordAt (start .args .s .now) (start .args .at + at-loop .loop .k + 1)) (omega arith))
 
 add-k : tie.Need-add-k Inv-loop μ-loop
 add-k c = search needs
@@ -60,8 +61,11 @@ loop-less c = search needs
 loop-again : tie.Need-loop-again Inv-loop μ-loop
 loop-again c =
     let at-loop = c .before .before .before .before in
-    let start = at-loop .before .before .before in
-    (every-more _ _ (at-loop .loop .inv .0) (lt-ltb (wordAt (start .args .s .now) (start .args .at + at-loop .loop .k)) (wordAt (start .args .s .now) (start .args .at + at-loop .loop .k + 1)) (omega arith)), omega arith)
+    let start = at-loop .before .before .before in (
+      every-more _ _ (at-loop .loop .inv .0) (lt-ltb (wordAt (start .args .s .now) (start .args .at + at-loop .loop .k))
+          (wordAt (start .args .s .now) (start .args .at + at-loop .loop .k + 1)) (omega arith)),
+      omega arith,
+    )
 
 returns-3 : tie.Need-returns-3 Inv-loop μ-loop
 unfolding rising

@@ -14,7 +14,9 @@ use Rattle.flat.proofs.Parts.{id-is, node-is}
 use Rattle.flat.proofs.Order.{order-start, order-end, order-double, order-used, order-more, definition-fits}
 
 abbrev Inv-loop : tie.InvT-loop
-Inv-loop s at n trees nodes limit later₀ k₀ later k = ((ordered (rows (n - k) k (definitionAt s at trees nodes)) ≡ true) × Later later (rows (n - k) k (definitionAt s at trees nodes))) × ((k ≤ n) × (length later ≡ 65536))
+Inv-loop s at n trees nodes limit later₀ k₀ later k =
+    ((ordered (rows (n - k) k (definitionAt s at trees nodes)) ≡ true) × Later later (rows (n - k) k (definitionAt s at trees nodes)))
+    × ((k ≤ n) × (length later ≡ 65536))
 
 abbrev μ-loop : tie.MeasureT-loop
 μ-loop s at n trees nodes limit later₀ k₀ later k = k
@@ -23,7 +25,9 @@ no-later-requires : tie.Need-no-later-requires Inv-loop μ-loop
 no-later-requires c κs = search needs
 
 loop-holds : tie.Need-loop-holds Inv-loop μ-loop
-loop-holds c = order-start (c .before .before .args .n) (definitionAt (c .before .before .args .s .now) (c .before .before .args .at) (c .before .before .args .trees) (c .before .before .args .nodes)) (c .no-later .ensures)
+loop-holds c =
+    order-start (c .before .before .args .n) (definitionAt (c .before .before .args .s .now) (c .before .before .args .at) (c .before .before .args .trees)
+    (c .before .before .args .nodes)) (c .no-later .ensures)
 
 sub-k : tie.Need-sub-k Inv-loop μ-loop
 sub-k c = search needs
@@ -38,7 +42,9 @@ mul-if1 : tie.Need-mul-if1 Inv-loop μ-loop
 mul-if1 c = search needs
 
 -- the definition that was read fits
-fits : (c : tie.After-definition-at Inv-loop μ-loop) → (c .definition-at .result .id < c .before .before .before .before .before .args .limit) × (c .definition-at .result .node < c .before .before .before .before .before .args .nodes)
+fits : (c : tie.After-definition-at Inv-loop μ-loop)
+    → (c .definition-at .result .id < c .before .before .before .before .before .args .limit)
+    × (c .definition-at .result .node < c .before .before .before .before .before .args .nodes)
 fits c =
     let start = c .before .before .before .before .before in
     let read = c .definition-at .ensures in
@@ -77,7 +83,8 @@ returns-2 c =
     let l = r .before .before .loop in
     let read = r .definition-at .ensures in
     let free = c .before .before .before .if1 .left in
-    order-used _ _ _ _ _ _ (r .before .loop-test .taken) (l .inv .1 .0) (l .later) (l .inv .0 .1) _ _ (id-is read) (node-is read) _ free (marked r) (fits r .1) (c .before .free .ensures) (not-true _ (c .if2 .taken))
+    order-used _ _ _ _ _ _ (r .before .loop-test .taken) (l .inv .1 .0) (l .later) (l .inv .0 .1) _ _ (id-is read) (node-is read) _ free (marked r) (fits r .1)
+    (c .before .free .ensures) (not-true _ (c .if2 .taken))
 
 loop-less : tie.Need-loop-less Inv-loop μ-loop
 loop-less c = search needs
@@ -89,7 +96,8 @@ loop-again c =
     let read = r .definition-at .ensures in
     let free = c .before .before .before .if1 .left in
     let walked = c .before .free .ensures in (
-      order-more _ _ _ _ _ _ (r .before .loop-test .taken) (l .inv .1 .0) (l .later) (l .inv .0 .1) _ _ (id-is read) (node-is read) _ free (marked r) (fits r .1) walked (not-false _ (c .if2 .left)) (l .inv .0 .0),
+      order-more _ _ _ _ _ _ (r .before .loop-test .taken) (l .inv .1 .0) (l .later) (l .inv .0 .1) _ _ (id-is read) (node-is read) _ free (marked r)
+          (fits r .1) walked (not-false _ (c .if2 .left)) (l .inv .0 .0),
       (omega arith, simp length-set (l .inv .1 .1)),
     )
 

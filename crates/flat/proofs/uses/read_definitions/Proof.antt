@@ -57,7 +57,9 @@ loop-again c =
     (defs-more _ _ _ _ _ _ _ (inv .0) (inv .1) (id-is read) (node-is read) (not-false _ (c .before .before .if1 .left)) (c .use-node .ensures), omega arith)
 
 returns-2 : tie.Need-returns-2 Inv-loop μ-loop
-returns-2 c = let e : c .before .loop .k ≡ c .before .before .before .args .n = omega (arith, c .loop-test .left) in (rw e at (sym (c .before .loop .inv .0 .0)), λ _. rw e at (c .before .loop .inv .0 .1))
+returns-2 c =
+    let e : c .before .loop .k ≡ c .before .before .before .args .n = omega (arith, c .loop-test .left) in
+    (rw e at (sym (c .before .loop .inv .0 .0)), λ _. rw e at (c .before .loop .inv .0 .1))
 
 pub read-definitions-spec : {M : Type 1} → statement M
 read-definitions-spec =

@@ -59,11 +59,16 @@ loop-again c =
     let at-equation-at = at-if1 .before .before .before in
     let at-loop = at-equation-at .before .before in
     let read = at-equation-at .equation-at .ensures in
-    let inv = at-loop .loop .inv .0 in
-    (equations-more _ _ _ _ _ _ (inv .0) (inv .1) (left-is read) (right-is read) (not-false _ (at-if1 .if1 .left)) (c .before .before .use-node .ensures) (c .use-node2 .ensures), omega arith)
+    let inv = at-loop .loop .inv .0 in (
+      equations-more _ _ _ _ _ _ (inv .0) (inv .1) (left-is read) (right-is read) (not-false _ (at-if1 .if1 .left))
+          (c .before .before .use-node .ensures) (c .use-node2 .ensures),
+      omega arith,
+    )
 
 returns-2 : tie.Need-returns-2 Inv-loop μ-loop
-returns-2 c = let e : c .before .loop .k ≡ c .before .before .before .args .n = omega (arith, c .loop-test .left) in (rw e at (sym (c .before .loop .inv .0 .0)), λ _. rw e at (c .before .loop .inv .0 .1))
+returns-2 c =
+    let e : c .before .loop .k ≡ c .before .before .before .args .n = omega (arith, c .loop-test .left) in
+    (rw e at (sym (c .before .loop .inv .0 .0)), λ _. rw e at (c .before .loop .inv .0 .1))
 
 pub read-equations-spec : {M : Type 1} → statement M
 read-equations-spec =

@@ -55,8 +55,11 @@ returns : tie.Need-returns Inv-loop μ-loop
 returns c =
     let at-count2 = c .before .before .before .before in
     let at-count = at-count2 .before in
-    let at-loop-test = at-count .before in
-    (nodes-fail _ _ _ _ _ (at-loop-test .loop-test .taken) (at-count .count .ensures .0) (at-count2 .count2 .ensures .0) (c .before .before .before .count3 .ensures .0) (c .before .before .count4 .ensures .0) (c .before .node-fits .ensures) (not-true _ (c .if1 .taken)), λ e. absurd (not-both refl e))
+    let at-loop-test = at-count .before in (
+      nodes-fail _ _ _ _ _ (at-loop-test .loop-test .taken) (at-count .count .ensures .0) (at-count2 .count2 .ensures .0)
+          (c .before .before .before .count3 .ensures .0) (c .before .before .count4 .ensures .0) (c .before .node-fits .ensures) (not-true _ (c .if1 .taken)),
+      λ e. absurd (not-both refl e),
+    )
 
 use-children-requires : tie.Need-use-children-requires Inv-loop μ-loop
 use-children-requires c κs = children-below _ _ _ _ _ _ (c .before .before .node-fits .ensures) (not-false _ (c .before .if1 .left)) (omega arith)
@@ -73,11 +76,17 @@ loop-again c =
     let at-count3 = at-count4 .before in
     let at-count2 = at-count3 .before in
     let at-count = at-count2 .before in
-    let at-loop = at-count .before .before in
-    (nodes-more _ _ _ _ (at-loop .loop .inv .0 .0) (at-loop .loop .inv .0 .1) (at-count .count .ensures .0) (at-count2 .count2 .ensures .0) (at-count3 .count3 .ensures .0) (at-count4 .count4 .ensures .0) (c .before .before .before .node-fits .ensures) (not-false _ (c .before .before .if1 .left)) (c .use-children .ensures), omega arith)
+    let at-loop = at-count .before .before in (
+      nodes-more _ _ _ _ (at-loop .loop .inv .0 .0) (at-loop .loop .inv .0 .1) (at-count .count .ensures .0) (at-count2 .count2 .ensures .0)
+          (at-count3 .count3 .ensures .0) (at-count4 .count4 .ensures .0) (c .before .before .before .node-fits .ensures)
+          (not-false _ (c .before .before .if1 .left)) (c .use-children .ensures),
+      omega arith,
+    )
 
 returns-2 : tie.Need-returns-2 Inv-loop μ-loop
-returns-2 c = let e : c .before .loop .k ≡ c .before .before .before .args .n = omega (arith, c .loop-test .left) in (rw e at (sym (c .before .loop .inv .0 .0)), λ _. rw e at (c .before .loop .inv .0 .1))
+returns-2 c =
+    let e : c .before .loop .k ≡ c .before .before .before .args .n = omega (arith, c .loop-test .left) in
+    (rw e at (sym (c .before .loop .inv .0 .0)), λ _. rw e at (c .before .loop .inv .0 .1))
 
 pub read-nodes-spec : {M : Type 1} → statement M
 read-nodes-spec =

@@ -19,8 +19,10 @@ number-expr-variables-requires c κs =
 number-pattern-variables-requires : tie.Need-number-pattern-variables-requires
 number-pattern-variables-requires c κs =
     let at-number-expr-variables = c .before .before .before .before in
-    let start = at-number-expr-variables .before .before .before .before .before .before .before in
-    (def-second _ _ _ _ _ (start .pre .0) _ (at-number-expr-variables .number-expr-variables .ensures .few), at-number-expr-variables .number-expr-variables .ensures .sizes)
+    let start = at-number-expr-variables .before .before .before .before .before .before .before in (
+      def-second _ _ _ _ _ (start .pre .0) _ (at-number-expr-variables .number-expr-variables .ensures .few),
+      at-number-expr-variables .number-expr-variables .ensures .sizes,
+    )
 
 returns : tie.Need-returns
 returns c =

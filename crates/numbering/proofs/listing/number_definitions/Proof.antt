@@ -14,7 +14,11 @@ use Rattle.numbering.specs.Walks.{Sizes, ReadyDefinitions, DefinitionsWa
 use Rattle.numbering.proofs.Listed.{definitions-all, definitions-start, definitions-first, definitions-rest, definitions-step, definitions-end}
 
 abbrev Inv-loop : tie.InvT-loop
-Inv-loop s at n list count locals₀ globals₀ undo₀ old₀ ids₀ next i₀ one₀ locals globals undo old ids i one = ((i ≤ count) × ReadyDefinitions s at n list (count - i) i one) × ((Sizes locals undo old ids × (length globals ≡ 512)) × ((r : ℕ) (l g u o d : List ℕ) → DefinitionsWalk s at n list (count - i) i one locals globals ids r l g u o d → DefinitionsWalk s at n list count 0 next locals₀ globals₀ ids₀ r l g u o d))
+Inv-loop s at n list count locals₀ globals₀ undo₀ old₀ ids₀ next i₀ one₀ locals globals undo old ids i one =
+    ((i ≤ count) × ReadyDefinitions s at n list (count - i) i one)
+    × ((Sizes locals undo old ids × (length globals ≡ 512))
+    × ((r : ℕ) (l g u o d : List ℕ) → DefinitionsWalk s at n list (count - i) i one locals globals ids r l g u o d
+    → DefinitionsWalk s at n list count 0 next locals₀ globals₀ ids₀ r l g u o d))
 
 abbrev μ-loop : tie.MeasureT-loop
 μ-loop s at n list count locals₀ globals₀ undo₀ old₀ ids₀ next i₀ one₀ locals globals undo old ids i one = count - i
@@ -65,7 +69,8 @@ loop-again c =
     )
 
 returns : tie.Need-returns Inv-loop μ-loop
-returns c = c .before .loop .inv .1 .1 _ _ _ _ _ _ (definitions-end _ _ _ _ _ _ (c .loop-test .left) (c .before .loop .inv .1 .0 .0) (c .before .loop .inv .1 .0 .1))
+returns c =
+    c .before .loop .inv .1 .1 _ _ _ _ _ _ (definitions-end _ _ _ _ _ _ (c .loop-test .left) (c .before .loop .inv .1 .0 .0) (c .before .loop .inv .1 .0 .1))
 
 pub number-definitions-spec : {M : Type 1} → statement M
 number-definitions-spec =

@@ -13,7 +13,11 @@ use Rattle.numbering.specs.Walks.{Sizes, ReadyExpressions, ExpressionsWa
 use Rattle.numbering.proofs.Listed.{expressions-all, expressions-start, expressions-first, expressions-rest, expressions-step, expressions-end}
 
 abbrev Inv-loop : tie.InvT-loop
-Inv-loop s at n list count locals₀ globals₀ undo₀ old₀ ids₀ next i₀ one₀ locals globals undo old ids i one = ((i ≤ count) × ReadyExpressions s at n list (count - i) i one) × ((Sizes locals undo old ids × (length globals ≡ 512)) × ((r : ℕ) (l g u o d : List ℕ) → ExpressionsWalk s at n list (count - i) i one 0 locals globals undo old ids r l g u o d → ExpressionsWalk s at n list count 0 next 0 locals₀ globals₀ undo₀ old₀ ids₀ r l g u o d))
+Inv-loop s at n list count locals₀ globals₀ undo₀ old₀ ids₀ next i₀ one₀ locals globals undo old ids i one =
+    ((i ≤ count) × ReadyExpressions s at n list (count - i) i one)
+    × ((Sizes locals undo old ids × (length globals ≡ 512))
+    × ((r : ℕ) (l g u o d : List ℕ) → ExpressionsWalk s at n list (count - i) i one 0 locals globals undo old ids r l g u o d
+    → ExpressionsWalk s at n list count 0 next 0 locals₀ globals₀ undo₀ old₀ ids₀ r l g u o d))
 
 abbrev μ-loop : tie.MeasureT-loop
 μ-loop s at n list count locals₀ globals₀ undo₀ old₀ ids₀ next i₀ one₀ locals globals undo old ids i one = count - i
@@ -58,7 +62,8 @@ loop-again c =
     )
 
 returns : tie.Need-returns Inv-loop μ-loop
-returns c = c .before .loop .inv .1 .1 _ _ _ _ _ _ (expressions-end _ _ _ _ _ _ (c .loop-test .left) (c .before .loop .inv .1 .0 .0) (c .before .loop .inv .1 .0 .1))
+returns c =
+    c .before .loop .inv .1 .1 _ _ _ _ _ _ (expressions-end _ _ _ _ _ _ (c .loop-test .left) (c .before .loop .inv .1 .0 .0) (c .before .loop .inv .1 .0 .1))
 
 pub number-expressions-spec : {M : Type 1} → statement M
 number-expressions-spec =

@@ -45,10 +45,12 @@ number-parameters-claims t = (
   number-parameters.Post,
 )
 
-number-parameters-node-at-requires : (t : ℕ) → number-parameters-lts.Need-node-at-requires (number-parameters-claims t) (number-parameters-at t) number-parameters.Post
+number-parameters-node-at-requires : (t : ℕ)
+    → number-parameters-lts.Need-node-at-requires (number-parameters-claims t) (number-parameters-at t) number-parameters.Post
 number-parameters-node-at-requires t c κs = omega (arith, c .before .pre .1 .0 .below, c .before .pre .1 .0 .walk .long)
 
-number-parameters-enum-known-item : (t : ℕ) → number-parameters-lts.Need-enum-known-item (number-parameters-claims t) (number-parameters-at t) number-parameters.Post
+number-parameters-enum-known-item : (t : ℕ)
+    → number-parameters-lts.Need-enum-known-item (number-parameters-claims t) (number-parameters-at t) number-parameters.Post
 number-parameters-enum-known-item t c = search needs
 
 number-parameters-number-pattern-variables-requires :
@@ -64,7 +66,8 @@ number-parameters-returns t c =
     let at-item = c .before .before .before .before .before .before .before in
     let at-node-at = at-item .before .before in
     let start = at-node-at .before .before in
-    parameter-last-way _ _ _ _ (start .pre .1 .0) (sym (at-node-at .node-at .ensures) ∙ at-item .item .given .1) (c .if1 .taken) (c .before .number-pattern-variables .ensures)
+    parameter-last-way _ _ _ _ (start .pre .1 .0) (sym (at-node-at .node-at .ensures) ∙ at-item .item .given .1) (c .if1 .taken)
+    (c .before .number-pattern-variables .ensures)
 
 number-parameters-sub-number-parameters :
     (t : ℕ) → number-parameters-lts.Need-sub-number-parameters (number-parameters-claims t) (number-parameters-at t) number-parameters.Post
@@ -73,7 +76,12 @@ number-parameters-sub-number-parameters t c =
     let at-item = at-number-pattern-variables .before .before .before .before .before .before in
     let at-node-at = at-item .before .before in
     let start = at-node-at .before .before in
-    omega (arith, at-number-pattern-variables .number-pattern-variables .ensures .more, parameter-room _ _ _ _ (start .pre .1 .0) (sym (at-node-at .node-at .ensures) ∙ at-item .item .given .1) _ (at-number-pattern-variables .number-pattern-variables .ensures .more) (at-number-pattern-variables .number-pattern-variables .ensures .few))
+    omega (
+      arith,
+      at-number-pattern-variables .number-pattern-variables .ensures .more,
+      parameter-room _ _ _ _ (start .pre .1 .0) (sym (at-node-at .node-at .ensures) ∙ at-item .item .given .1) _
+          (at-number-pattern-variables .number-pattern-variables .ensures .more) (at-number-pattern-variables .number-pattern-variables .ensures .few),
+    )
 
 number-parameters-add-number-parameters :
     (t : ℕ) → number-parameters-lts.Need-add-number-parameters (number-parameters-claims t) (number-parameters-at t) number-parameters.Post
@@ -82,7 +90,12 @@ number-parameters-add-number-parameters t c =
     let at-item = at-number-pattern-variables .before .before .before .before .before .before in
     let at-node-at = at-item .before .before in
     let start = at-node-at .before .before in
-    omega (arith, at-number-pattern-variables .number-pattern-variables .ensures .more, parameter-room _ _ _ _ (start .pre .1 .0) (sym (at-node-at .node-at .ensures) ∙ at-item .item .given .1) _ (at-number-pattern-variables .number-pattern-variables .ensures .more) (at-number-pattern-variables .number-pattern-variables .ensures .few))
+    omega (
+      arith,
+      at-number-pattern-variables .number-pattern-variables .ensures .more,
+      parameter-room _ _ _ _ (start .pre .1 .0) (sym (at-node-at .node-at .ensures) ∙ at-item .item .given .1) _
+          (at-number-pattern-variables .number-pattern-variables .ensures .more) (at-number-pattern-variables .number-pattern-variables .ensures .few),
+    )
 
 number-parameters-number-parameters-requires :
     (t : ℕ) → number-parameters-lts.Need-number-parameters-requires (number-parameters-claims t) (number-parameters-at t) number-parameters.Post
@@ -92,7 +105,9 @@ number-parameters-number-parameters-requires t c κs =
     let at-item = at-number-pattern-variables .before .before .before .before .before .before in
     let at-node-at = at-item .before .before in
     let start = at-node-at .before .before in
-    let w = parameter-rest _ _ _ _ (start .pre .1 .0) (sym (at-node-at .node-at .ensures) ∙ at-item .item .given .1) _ (at-if1 .if1 .left) (at-number-pattern-variables .number-pattern-variables .ensures .more) (at-number-pattern-variables .number-pattern-variables .ensures .few) in (omega (arith, start .pre .0, w .0), (w .1, at-number-pattern-variables .number-pattern-variables .ensures .sizes))
+    let w = parameter-rest _ _ _ _ (start .pre .1 .0) (sym (at-node-at .node-at .ensures) ∙ at-item .item .given .1) _ (at-if1 .if1 .left)
+    (at-number-pattern-variables .number-pattern-variables .ensures .more) (at-number-pattern-variables .number-pattern-variables .ensures .few) in
+    (omega (arith, start .pre .0, w .0), (w .1, at-number-pattern-variables .number-pattern-variables .ensures .sizes))
 
 number-parameters-enum-told : (t : ℕ) → number-parameters-lts.Need-enum-told (number-parameters-claims t) (number-parameters-at t) number-parameters.Post
 number-parameters-enum-told t c = search needs
@@ -110,7 +125,8 @@ number-parameters-returns-2 t c =
     let at-item = at-number-pattern-variables .before .before .before .before .before .before in
     let at-node-at = at-item .before .before in
     let start = at-node-at .before .before in
-    parameter-more-way _ _ _ _ (start .pre .1 .0) (sym (at-node-at .node-at .ensures) ∙ at-item .item .given .1) (at-if1 .if1 .left) (at-number-pattern-variables .number-pattern-variables .ensures) (c .number-parameters .ensures)
+    parameter-more-way _ _ _ _ (start .pre .1 .0) (sym (at-node-at .node-at .ensures) ∙ at-item .item .given .1) (at-if1 .if1 .left)
+    (at-number-pattern-variables .number-pattern-variables .ensures) (c .number-parameters .ensures)
 
 number-parameters-returns-3 : (t : ℕ) → number-parameters-lts.Need-returns-3 (number-parameters-claims t) (number-parameters-at t) number-parameters.Post
 number-parameters-returns-3 t c =

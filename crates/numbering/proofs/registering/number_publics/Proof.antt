@@ -13,7 +13,11 @@ use Rattle.numbering.specs.Walks.{Published}
 use Rattle.numbering.proofs.First.{public-name, publics-start, publics-step, publics-end}
 
 abbrev Inv-loop : tie.InvT-loop
-Inv-loop s names list count locals globals₀ publics₀ next i₀ one₀ globals publics i one = ((i ≤ count) × ((next ≤ one) × (one ≤ next + i))) × (((length globals ≡ 512) × (length publics ≡ 64)) × ((r : ℕ) (g p : List ℕ) → Published s list (count - i) i one locals globals publics r g p → Published s list count 0 next locals globals₀ publics₀ r g p))
+Inv-loop s names list count locals globals₀ publics₀ next i₀ one₀ globals publics i one =
+    ((i ≤ count) × ((next ≤ one) × (one ≤ next + i)))
+    × (((length globals ≡ 512) × (length publics ≡ 64))
+    × ((r : ℕ) (g p : List ℕ) → Published s list (count - i) i one locals globals publics r g p
+    → Published s list count 0 next locals globals₀ publics₀ r g p))
 
 abbrev μ-loop : tie.MeasureT-loop
 μ-loop s names list count locals globals₀ publics₀ next i₀ one₀ globals publics i one = count - i

@@ -16,13 +16,18 @@ use Rattle.numbering.specs.Numbering.{named}
 use Rattle.numbering.proofs.First.{text-at, text-fits, found-start, found-no, found-yes, found-none}
 
 abbrev Inv-loop : tie.InvT-loop
-Inv-loop s text count t id globals₀ k₀ globals k = ((named t id k (rows (count - k) k (nameOf s text)) ≡ named t id 0 (rows count 0 (nameOf s text))) × ((k ≤ count) × (globals ≡ globals₀)))
+Inv-loop s text count t id globals₀ k₀ globals k =
+    ((named t id k (rows (count - k) k (nameOf s text)) ≡ named t id 0 (rows count 0 (nameOf s text))) × ((k ≤ count) × (globals ≡ globals₀)))
 
 abbrev μ-loop : tie.MeasureT-loop
 μ-loop s text count t id globals₀ k₀ globals k = count - k
 
 loop-holds : tie.Need-loop-holds Inv-loop μ-loop
-loop-holds c = (found-start (c .before .before .args .s .now) (c .before .before .args .t .now) (c .before .before .args .text) (c .before .before .args .count) (c .before .before .args .id), (omega arith, refl))
+loop-holds c = (
+  found-start (c .before .before .args .s .now) (c .before .before .args .t .now) (c .before .before .args .text) (c .before .before .args .count)
+      (c .before .before .args .id),
+  (omega arith, refl),
+)
 
 name-at-requires : tie.Need-name-at-requires Inv-loop μ-loop
 name-at-requires c κs = search needs
@@ -96,7 +101,8 @@ loop-again c =
 returns-2 : tie.Need-returns-2 Inv-loop μ-loop
 returns-2 c =
     let start = c .before .before .before .before in
-    rw (c .before .loop .inv .1 .1) (found-none (start .args .s .now) (start .args .t .now) (start .args .text) (start .args .count) (start .args .id) _ (c .loop-test .left) (start .pre .1 .0 .1) (c .before .loop .inv .0))
+    rw (c .before .loop .inv .1 .1) (found-none (start .args .s .now) (start .args .t .now) (start .args .text) (start .args .count) (start .args .id) _
+    (c .loop-test .left) (start .pre .1 .0 .1) (c .before .loop .inv .0))
 
 pub register-spec : {M : Type 1} → statement M
 register-spec =

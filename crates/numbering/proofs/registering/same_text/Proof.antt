@@ -21,7 +21,8 @@ returns : tie.Need-returns Inv-loop μ-loop
 returns c = text-lengths _ _ (λ q. c .if1 .taken (sym (text-long (c .before .args .s .now) (c .before .args .from) (c .before .args .n) (c .before .pre)) ∙ q))
 
 loop-holds : tie.Need-loop-holds Inv-loop μ-loop
-loop-holds c = (text-start (c .before .args .s .now) (c .before .args .t .now) (c .before .args .from) (c .before .args .n) (c .before .pre) (c .if1 .left), omega arith)
+loop-holds c =
+    (text-start (c .before .args .s .now) (c .before .args .t .now) (c .before .args .from) (c .before .args .n) (c .before .pre) (c .if1 .left), omega arith)
 
 shared-slice-read-if2 : tie.Need-shared-slice-read-if2 Inv-loop μ-loop
 shared-slice-read-if2 c = search needs
@@ -37,7 +38,8 @@ returns-2 c =
     let at-loop = c .before .before .before .before in
     let at-if1 = at-loop .before in
     let start = at-if1 .before in
-    text-differs (start .args .s .now) (start .args .t .now) (start .args .from) (start .args .n) (start .pre) (at-if1 .if1 .left) _ (c .before .before .before .loop-test .taken) (c .if2 .taken) (at-loop .loop .inv .0)
+    text-differs (start .args .s .now) (start .args .t .now) (start .args .from) (start .args .n) (start .pre) (at-if1 .if1 .left) _
+    (c .before .before .before .loop-test .taken) (c .if2 .taken) (at-loop .loop .inv .0)
 
 add-i : tie.Need-add-i Inv-loop μ-loop
 add-i c = search needs
@@ -49,11 +51,17 @@ loop-again : tie.Need-loop-again Inv-loop μ-loop
 loop-again c =
     let at-loop = c .before .before .before .before in
     let at-if1 = at-loop .before in
-    let start = at-if1 .before in
-    (text-more (start .args .s .now) (start .args .t .now) (start .args .from) (start .args .n) (start .pre) (at-if1 .if1 .left) _ (c .before .before .before .loop-test .taken) (c .if2 .left) (at-loop .loop .inv .0), omega arith)
+    let start = at-if1 .before in (
+      text-more (start .args .s .now) (start .args .t .now) (start .args .from) (start .args .n) (start .pre) (at-if1 .if1 .left) _
+          (c .before .before .before .loop-test .taken) (c .if2 .left) (at-loop .loop .inv .0),
+      omega arith,
+    )
 
 returns-3 : tie.Need-returns-3 Inv-loop μ-loop
-returns-3 c = text-same (c .before .before .before .args .s .now) (c .before .before .before .args .t .now) (c .before .before .before .args .from) (c .before .before .before .args .n) (c .before .before .before .pre) (c .before .before .if1 .left) _ (c .loop-test .left) (c .before .loop .inv .1) (c .before .loop .inv .0)
+returns-3 c =
+    text-same (c .before .before .before .args .s .now) (c .before .before .before .args .t .now) (c .before .before .before .args .from)
+    (c .before .before .before .args .n) (c .before .before .before .pre) (c .before .before .if1 .left) _ (c .loop-test .left) (c .before .loop .inv .1)
+    (c .before .loop .inv .0)
 
 pub same-text-spec : {M : Type 1} → statement M
 same-text-spec =

@@ -11,7 +11,8 @@ use Rattle.numbering.specs.Walks.{unwound}
 use Rattle.numbering.proofs.Held.{unwound-none, unwound-last}
 
 abbrev Inv-loop : tie.InvT-loop
-Inv-loop locals₀ undo old base n i₀ from locals i = (unwound undo old base (i - base) locals ≡ unwound undo old base (i₀ - base) locals₀) × (((base ≤ i) × (i ≤ base + n)) × (length locals ≡ 512))
+Inv-loop locals₀ undo old base n i₀ from locals i =
+    (unwound undo old base (i - base) locals ≡ unwound undo old base (i₀ - base) locals₀) × (((base ≤ i) × (i ≤ base + n)) × (length locals ≡ 512))
 
 abbrev μ-loop : tie.MeasureT-loop
 μ-loop locals₀ undo old base n i₀ from locals i = i
@@ -57,10 +58,18 @@ loop-less : tie.Need-loop-less Inv-loop μ-loop
 loop-less c = search needs
 
 loop-again : tie.Need-loop-again Inv-loop μ-loop
-loop-again c = (unwound-last _ _ _ _ _ (c .before .before .loop-test .taken) ∙ c .before .before .before .loop .inv .0, (omega arith, simp length-set (c .before .before .before .loop .inv .1 .1)))
+loop-again c = (
+  unwound-last _ _ _ _ _ (c .before .before .loop-test .taken) ∙ c .before .before .before .loop .inv .0,
+  (omega arith, simp length-set (c .before .before .before .loop .inv .1 .1)),
+)
 
 returns : tie.Need-returns Inv-loop μ-loop
-returns c = let e : (c .before .before .args .base + c .before .before .args .n) - c .before .before .args .base ≡ c .before .before .args .n = omega arith in sym (unwound-none _ _ _ _ (omega (arith, c .loop-test .left))) ∙ c .before .loop .inv .0 ∙ ap (λ (m : ℕ). unwound (c .before .before .args .undo .now) (c .before .before .args .old .now) (c .before .before .args .base) m (c .before .before .args .locals .now)) e
+returns c =
+    let e : (c .before .before .args .base + c .before .before .args .n) - c .before .before .args .base ≡ c .before .before .args .n = omega arith in
+    sym (unwound-none _ _ _ _ (omega (arith, c .loop-test .left)))
+    ∙ c .before .loop .inv .0
+    ∙ ap (λ (m : ℕ). unwound (c .before .before .args .undo .now) (c .before .before .args .old .now) (c .before .before .args .base) m
+    (c .before .before .args .locals .now)) e
 
 pub unwind-spec : {M : Type 1} → statement M
 unwind-spec =

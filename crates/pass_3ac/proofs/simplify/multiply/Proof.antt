@@ -25,7 +25,8 @@ returns-2 : tie.Need-returns-2
 unfolding infixOp
 returns-2 c =
     let at-is-one = c .before .before .before .before in
-    when-no _ _ _ _ (at-is-one .is-one .ensures) (c .before .before .before .if1 .left) (when-yes _ _ _ _ (c .before .before .is-one2 .ensures) (c .before .if2 .taken) (c .copy2 .ensures))
+    when-no _ _ _ _ (at-is-one .is-one .ensures) (c .before .before .before .if1 .left)
+    (when-yes _ _ _ _ (c .before .before .is-one2 .ensures) (c .before .if2 .taken) (c .copy2 .ensures))
 
 is-zero-requires : tie.Need-is-zero-requires
 is-zero-requires c κs = search needs
@@ -39,7 +40,8 @@ returns-3 c =
     let at-is-one2 = c .before .before .before .before in
     let at-if1 = at-is-one2 .before in
     let at-is-one = at-if1 .before in
-    when-no _ _ _ _ (at-is-one .is-one .ensures) (at-if1 .if1 .left) (when-no _ _ _ _ (at-is-one2 .is-one2 .ensures) (c .before .before .before .if2 .left) (when-yes _ _ _ _ (c .before .before .is-zero .ensures) (c .before .if3 .taken) (c .copy3 .ensures)))
+    when-no _ _ _ _ (at-is-one .is-one .ensures) (at-if1 .if1 .left) (when-no _ _ _ _ (at-is-one2 .is-one2 .ensures) (c .before .before .before .if2 .left)
+    (when-yes _ _ _ _ (c .before .before .is-zero .ensures) (c .before .if3 .taken) (c .copy3 .ensures)))
 
 is-zero-requires-2 : tie.Need-is-zero-requires-2
 is-zero-requires-2 c κs = search needs
@@ -55,7 +57,9 @@ returns-4 c =
     let at-is-one2 = at-if2 .before in
     let at-if1 = at-is-one2 .before in
     let at-is-one = at-if1 .before in
-    when-no _ _ _ _ (at-is-one .is-one .ensures) (at-if1 .if1 .left) (when-no _ _ _ _ (at-is-one2 .is-one2 .ensures) (at-if2 .if2 .left) (when-no _ _ _ _ (at-is-zero .is-zero .ensures) (c .before .before .before .if3 .left) (when-yes _ _ _ _ (c .before .before .is-zero2 .ensures) (c .before .if4 .taken) (c .copy4 .ensures))))
+    when-no _ _ _ _ (at-is-one .is-one .ensures) (at-if1 .if1 .left)
+    (when-no _ _ _ _ (at-is-one2 .is-one2 .ensures) (at-if2 .if2 .left) (when-no _ _ _ _ (at-is-zero .is-zero .ensures) (c .before .before .before .if3 .left)
+    (when-yes _ _ _ _ (c .before .before .is-zero2 .ensures) (c .before .if4 .taken) (c .copy4 .ensures))))
 
 plain-requires : tie.Need-plain-requires
 plain-requires c κs = search needs
@@ -68,7 +72,9 @@ returns-5 c =
     let at-is-one2 = at-if2 .before in
     let at-if1 = at-is-one2 .before in
     let at-is-one = at-if1 .before in
-    when-no _ _ _ _ (at-is-one .is-one .ensures) (at-if1 .if1 .left) (when-no _ _ _ _ (at-is-one2 .is-one2 .ensures) (at-if2 .if2 .left) (when-no _ _ _ _ (at-is-zero .is-zero .ensures) (c .before .before .before .if3 .left) (when-no _ _ _ _ (c .before .before .is-zero2 .ensures) (c .before .if4 .left) (c .plain .ensures))))
+    when-no _ _ _ _ (at-is-one .is-one .ensures) (at-if1 .if1 .left)
+    (when-no _ _ _ _ (at-is-one2 .is-one2 .ensures) (at-if2 .if2 .left) (when-no _ _ _ _ (at-is-zero .is-zero .ensures) (c .before .before .before .if3 .left)
+    (when-no _ _ _ _ (c .before .before .is-zero2 .ensures) (c .before .if4 .left) (c .plain .ensures))))
 
 pub multiply-spec : {M : Type 1} → statement M
 multiply-spec =

@@ -34,13 +34,29 @@ loop-less : tie.Need-loop-less Inv-loop μ-loop
 loop-less c = search needs
 
 loop-again : tie.Need-loop-again Inv-loop μ-loop
-loop-again c = let l : c .before .before .loop .i < c .before .before .before .args .n = c .before .loop-test .taken in let z : suc (c .before .before .loop .i) ≡ c .before .before .loop .i + 1 = omega arith in ((ap (λ (t : List ℕ). set t (c .before .before .before .args .to + c .before .before .loop .i) (getD (c .before .before .before .args .from .now) (c .before .before .loop .i) 0)) (c .before .before .loop .inv .0 .0) ∙ paste-suc (c .before .before .before .args .out .now) (c .before .before .before .args .to) (c .before .before .before .args .from .now) (c .before .before .loop .i) 0 (omega arith) (omega arith) ∙ ap (λ (m : ℕ). paste (c .before .before .before .args .out .now) (c .before .before .before .args .to) (c .before .before .before .args .from .now) m) z, omega arith), length-set (c .before .before .loop .out) (c .before .before .before .args .to + c .before .before .loop .i) _ ∙ c .before .before .loop .inv .1)
+loop-again c =
+    let l : c .before .before .loop .i < c .before .before .before .args .n = c .before .loop-test .taken in
+    let z : suc (c .before .before .loop .i) ≡ c .before .before .loop .i + 1 = omega arith in (
+      (
+        ap (λ (t : List ℕ). set t (c .before .before .before .args .to + c .before .before .loop .i)
+            (getD (c .before .before .before .args .from .now) (c .before .before .loop .i) 0)) (c .before .before .loop .inv .0 .0)
+            ∙ paste-suc (c .before .before .before .args .out .now) (c .before .before .before .args .to)
+            (c .before .before .before .args .from .now) (c .before .before .loop .i) 0 (omega arith) (omega arith)
+            ∙ ap (λ (m : ℕ).
+            paste (c .before .before .before .args .out .now) (c .before .before .before .args .to) (c .before .before .before .args .from .now) m) z,
+        omega arith,
+      ),
+      length-set (c .before .before .loop .out) (c .before .before .before .args .to + c .before .before .loop .i) _ ∙ c .before .before .loop .inv .1,
+    )
 
 same-length : tie.Need-same-length Inv-loop μ-loop
 same-length c = c .before .loop .inv .1
 
 returns : tie.Need-returns Inv-loop μ-loop
-returns c = let z : c .before .loop .i ≡ c .before .before .args .n = omega (arith, c .loop-test .left) in c .before .loop .inv .0 .0 ∙ ap (λ (m : ℕ). paste (c .before .before .args .out .now) (c .before .before .args .to) (c .before .before .args .from .now) m) z
+returns c =
+    let z : c .before .loop .i ≡ c .before .before .args .n = omega (arith, c .loop-test .left) in
+    c .before .loop .inv .0 .0
+    ∙ ap (λ (m : ℕ). paste (c .before .before .args .out .now) (c .before .before .args .to) (c .before .before .args .from .now) m) z
 
 pub copy-to-spec : {M : Type 1} → statement M
 copy-to-spec =

@@ -28,7 +28,9 @@ returns-2 : tie.Need-returns-2
 returns-2 c =
     let at-if1 = c .before .before .before .before in
     let start = at-if1 .before .before .before in
-    let w = kept-written (start .args .body .now) (start .args .at) (start .args .v) _ (id-kept (start .args .provers .now) (start .args .v) (at-if1 .if1 .left)) in (c .before .before .put-word .ensures ∙ w .0, w .1)
+    let w =
+    kept-written (start .args .body .now) (start .args .at) (start .args .v) _ (id-kept (start .args .provers .now) (start .args .v) (at-if1 .if1 .left)) in
+    (c .before .before .put-word .ensures ∙ w .0, w .1)
 
 pub put-prover-spec : {M : Type 1} → statement M
 put-prover-spec =

@@ -18,8 +18,10 @@ loop-holds c = writing-start _ _ _ _
 
 put-prover-requires : tie.Need-put-prover-requires Inv-loop μ-loop
 put-prover-requires c κs =
-    let start = c .before .before .before .before in
-    (omega (arith, start .pre .0, c .before .loop-test .taken), omega (arith, start .pre .1, c .before .before .loop .inv .place, c .before .before .loop .inv .long, c .before .loop-test .taken))
+    let start = c .before .before .before .before in (
+      omega (arith, start .pre .0, c .before .loop-test .taken),
+      omega (arith, start .pre .1, c .before .before .loop .inv .place, c .before .before .loop .inv .long, c .before .loop-test .taken),
+    )
 
 add-v : tie.Need-add-v Inv-loop μ-loop
 add-v c = search needs
@@ -31,7 +33,8 @@ loop-again : tie.Need-loop-again Inv-loop μ-loop
 loop-again c =
     let at-loop-test = c .before .before .before .before in
     let at-loop = at-loop-test .before in
-    writing-turn _ _ _ _ _ _ _ _ _ (at-loop-test .loop-test .taken) (c .before .before .put-prover .ensures .0) (c .before .before .put-prover .ensures .1) (c .before .before .put-prover .kept .1 .1 .0) (at-loop .loop .inv)
+    writing-turn _ _ _ _ _ _ _ _ _ (at-loop-test .loop-test .taken) (c .before .before .put-prover .ensures .0) (c .before .before .put-prover .ensures .1)
+    (c .before .before .put-prover .kept .1 .1 .0) (at-loop .loop .inv)
 
 same-length : tie.Need-same-length Inv-loop μ-loop
 same-length c = c .before .loop .inv .long

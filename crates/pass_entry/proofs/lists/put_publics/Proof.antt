@@ -14,13 +14,21 @@ use Rattle.flat.specs.Record.{rows}
 use Rattle.pass_entry.proofs.Turns.{row-turn, row-end}
 
 abbrev Inv-loop : tie.InvT-loop
-Inv-loop s n body₀ k₀ body k = ((setWords body k (rows (n - k) k (publicAt s)) ≡ setWords body₀ 0 (rows n 0 (publicAt s))) × (k ≤ n)) × (length body ≡ length body₀)
+Inv-loop s n body₀ k₀ body k =
+    ((setWords body k (rows (n - k) k (publicAt s)) ≡ setWords body₀ 0 (rows n 0 (publicAt s))) × (k ≤ n)) × (length body ≡ length body₀)
 
 abbrev μ-loop : tie.MeasureT-loop
 μ-loop s n body₀ k₀ body k = n - k
 
 loop-holds : tie.Need-loop-holds Inv-loop μ-loop
-loop-holds c = ((let z : c .before .before .args .n - 0 ≡ c .before .before .args .n = omega arith in ap (λ (m : ℕ). setWords (c .before .before .args .body .now) 0 (rows m 0 (publicAt (c .before .before .args .s .now)))) z, omega arith), refl)
+loop-holds c = (
+  (
+    let z : c .before .before .args .n - 0 ≡ c .before .before .args .n = omega arith in
+        ap (λ (m : ℕ). setWords (c .before .before .args .body .now) 0 (rows m 0 (publicAt (c .before .before .args .s .now)))) z,
+    omega arith,
+  ),
+  refl,
+)
 
 public-at-requires : tie.Need-public-at-requires Inv-loop μ-loop
 public-at-requires c κs =

@@ -124,47 +124,74 @@ returns : tie.Need-returns
 unfolding entryFor pick
 returns c =
     let start = c .before .before .before .before in
-    c .blank3 .ensures ∙ ap (unused (start .args .a)) (c .before .blank2 .ensures ∙ ap (unused (start .args .b)) (c .before .before .blank .ensures)) ∙ ap (λ (k : ℕ). entryFor k (start .args .a) (start .args .b) (start .args .c)) (sym (c .before .before .before .match .keys1))
+    c .blank3 .ensures
+    ∙ ap (unused (start .args .a)) (c .before .blank2 .ensures ∙ ap (unused (start .args .b)) (c .before .before .blank .ensures))
+    ∙ ap (λ (k : ℕ). entryFor k (start .args .a) (start .args .b) (start .args .c)) (sym (c .before .before .before .match .keys1))
 
 returns-2 : tie.Need-returns-2
 unfolding entryFor pick
 returns-2 c =
     let start = c .before .before .before .before in
-    c .blank6 .ensures ∙ ap (unused (start .args .a)) (c .before .blank5 .ensures ∙ ap (unused (start .args .b)) (c .before .before .blank4 .ensures)) ∙ ap (λ (k : ℕ). entryFor k (start .args .a) (start .args .b) (start .args .c)) (sym (c .before .before .before .match .keys2))
+    c .blank6 .ensures
+    ∙ ap (unused (start .args .a)) (c .before .blank5 .ensures ∙ ap (unused (start .args .b)) (c .before .before .blank4 .ensures))
+    ∙ ap (λ (k : ℕ). entryFor k (start .args .a) (start .args .b) (start .args .c)) (sym (c .before .before .before .match .keys2))
 
 returns-3 : tie.Need-returns-3
 unfolding entryFor pick
-returns-3 c = c .blank7 .ensures ∙ ap (λ (k : ℕ). entryFor k (c .before .before .args .a) (c .before .before .args .b) (c .before .before .args .c)) (sym (c .before .match .keys3))
+returns-3 c =
+    c .blank7 .ensures
+    ∙ ap (λ (k : ℕ). entryFor k (c .before .before .args .a) (c .before .before .args .b) (c .before .before .args .c)) (sym (c .before .match .keys3))
 
 returns-4 : tie.Need-returns-4
 unfolding entryFor pick
-returns-4 c = c .blank8 .ensures ∙ ap (λ (k : ℕ). entryFor k (c .before .before .args .a) (c .before .before .args .b) (c .before .before .args .c)) (sym (c .before .match .keys4))
+returns-4 c =
+    c .blank8 .ensures
+    ∙ ap (λ (k : ℕ). entryFor k (c .before .before .args .a) (c .before .before .args .b) (c .before .before .args .c)) (sym (c .before .match .keys4))
 
 returns-5 : tie.Need-returns-5
 unfolding entryFor pick
-returns-5 c = c .operation .ensures ∙ ap (λ (k : ℕ). entryFor k (c .before .before .args .a) (c .before .before .args .b) (c .before .before .args .c)) (sym (c .before .match .keys5))
+returns-5 c =
+    c .operation .ensures
+    ∙ ap (λ (k : ℕ). entryFor k (c .before .before .args .a) (c .before .before .args .b) (c .before .before .args .c)) (sym (c .before .match .keys5))
 
 returns-6 : tie.Need-returns-6
 unfolding entryFor pick
-returns-6 c = c .blank10 .ensures ∙ ap (unused (c .before .before .before .args .b)) (c .before .blank9 .ensures) ∙ ap (λ (k : ℕ). entryFor k (c .before .before .before .args .a) (c .before .before .before .args .b) (c .before .before .before .args .c)) (sym (c .before .before .match .keys6))
+returns-6 c =
+    c .blank10 .ensures
+    ∙ ap (unused (c .before .before .before .args .b)) (c .before .blank9 .ensures)
+    ∙ ap (λ (k : ℕ). entryFor k (c .before .before .before .args .a) (c .before .before .before .args .b) (c .before .before .before .args .c))
+    (sym (c .before .before .match .keys6))
 
 returns-7 : tie.Need-returns-7
 unfolding entryFor pick
-returns-7 c = c .blank11 .ensures ∙ ap (λ (k : ℕ). entryFor k (c .before .before .args .a) (c .before .before .args .b) (c .before .before .args .c)) (sym (c .before .match .keys7))
+returns-7 c =
+    c .blank11 .ensures
+    ∙ ap (λ (k : ℕ). entryFor k (c .before .before .args .a) (c .before .before .args .b) (c .before .before .args .c)) (sym (c .before .match .keys7))
 
 returns-8 : tie.Need-returns-8
 unfolding entryFor pick
 returns-8 c =
     let start = c .before .before .before .before in
-    c .blank13 .ensures ∙ ap (unused (start .args .b)) (c .before .blank12 .ensures ∙ ap (unused (start .args .c)) (ap (λ (n : ℤ). Entry.Expression (Form.Constant n)) (toZ-ofZ w64 _ (record { sfits = c .before .before .number .ok }) ∙ c .before .before .number .ensures))) ∙ ap (λ (k : ℕ). entryFor k (start .args .a) (start .args .b) (start .args .c)) (sym (c .before .before .before .match .keys8))
+    c .blank13 .ensures
+    ∙ ap (unused (start .args .b)) (c .before .blank12 .ensures
+    ∙ ap (unused (start .args .c)) (ap (λ (n : ℤ). Entry.Expression (Form.Constant n)) (toZ-ofZ w64 _ (record {
+      sfits = c .before .before .number .ok;
+    }) ∙ c .before .before .number .ensures)))
+    ∙ ap (λ (k : ℕ). entryFor k (start .args .a) (start .args .b) (start .args .c)) (sym (c .before .before .before .match .keys8))
 
 returns-9 : tie.Need-returns-9
 unfolding entryFor pick
-returns-9 c = c .blank15 .ensures ∙ ap (unused (c .before .before .before .args .b)) (c .before .blank14 .ensures) ∙ ap (λ (k : ℕ). entryFor k (c .before .before .before .args .a) (c .before .before .before .args .b) (c .before .before .before .args .c)) (sym (c .before .before .match .keys9))
+returns-9 c =
+    c .blank15 .ensures
+    ∙ ap (unused (c .before .before .before .args .b)) (c .before .blank14 .ensures)
+    ∙ ap (λ (k : ℕ). entryFor k (c .before .before .before .args .a) (c .before .before .before .args .b) (c .before .before .before .args .c))
+    (sym (c .before .before .match .keys9))
 
 returns-10 : tie.Need-returns-10
 unfolding entryFor pick
-returns-10 c = c .blank16 .ensures ∙ ap (λ (k : ℕ). entryFor k (c .before .before .args .a) (c .before .before .args .b) (c .before .before .args .c)) (sym (c .before .match .keys10))
+returns-10 c =
+    c .blank16 .ensures
+    ∙ ap (λ (k : ℕ). entryFor k (c .before .before .args .a) (c .before .before .args .b) (c .before .before .args .c)) (sym (c .before .match .keys10))
 
 returns-11 : tie.Need-returns-11
 unfolding entryFor pick
@@ -172,11 +199,17 @@ returns-11 c = ap (λ (k : ℕ). entryFor k (c .before .args .a) (c .before .arg
 
 returns-12 : tie.Need-returns-12
 unfolding entryFor pick
-returns-12 c = c .blank17 .ensures ∙ ap (λ (k : ℕ). entryFor k (c .before .before .args .a) (c .before .before .args .b) (c .before .before .args .c)) (sym (c .before .match .keys12))
+returns-12 c =
+    c .blank17 .ensures
+    ∙ ap (λ (k : ℕ). entryFor k (c .before .before .args .a) (c .before .before .args .b) (c .before .before .args .c)) (sym (c .before .match .keys12))
 
 returns-13 : tie.Need-returns-13
 unfolding entryFor pick
-returns-13 c = c .blank19 .ensures ∙ ap (unused (c .before .before .before .args .b)) (c .before .blank18 .ensures) ∙ ap (λ (k : ℕ). entryFor k (c .before .before .before .args .a) (c .before .before .before .args .b) (c .before .before .before .args .c)) (sym (c .before .before .match .keys13))
+returns-13 c =
+    c .blank19 .ensures
+    ∙ ap (unused (c .before .before .before .args .b)) (c .before .blank18 .ensures)
+    ∙ ap (λ (k : ℕ). entryFor k (c .before .before .before .args .a) (c .before .before .before .args .b) (c .before .before .before .args .c))
+    (sym (c .before .before .match .keys13))
 
 returns-14 : tie.Need-returns-14
 unfolding entryFor pick
@@ -186,39 +219,69 @@ returns-15 : tie.Need-returns-15
 unfolding entryFor pick
 returns-15 c =
     let start = c .before .before .before .before in
-    c .blank22 .ensures ∙ ap (unused (start .args .a)) (c .before .blank21 .ensures ∙ ap (unused (start .args .b)) (c .before .before .blank20 .ensures)) ∙ ap (λ (k : ℕ). entryFor k (start .args .a) (start .args .b) (start .args .c)) (sym (c .before .before .before .match .keys15))
+    c .blank22 .ensures
+    ∙ ap (unused (start .args .a)) (c .before .blank21 .ensures ∙ ap (unused (start .args .b)) (c .before .before .blank20 .ensures))
+    ∙ ap (λ (k : ℕ). entryFor k (start .args .a) (start .args .b) (start .args .c)) (sym (c .before .before .before .match .keys15))
 
 returns-16 : tie.Need-returns-16
 unfolding entryFor pick
 returns-16 c =
     let start = c .before .before .before .before in
-    c .blank25 .ensures ∙ ap (unused (start .args .a)) (c .before .blank24 .ensures ∙ ap (unused (start .args .b)) (c .before .before .blank23 .ensures)) ∙ ap (λ (k : ℕ). entryFor k (start .args .a) (start .args .b) (start .args .c)) (sym (c .before .before .before .match .keys16))
+    c .blank25 .ensures
+    ∙ ap (unused (start .args .a)) (c .before .blank24 .ensures ∙ ap (unused (start .args .b)) (c .before .before .blank23 .ensures))
+    ∙ ap (λ (k : ℕ). entryFor k (start .args .a) (start .args .b) (start .args .c)) (sym (c .before .before .before .match .keys16))
 
 returns-17 : tie.Need-returns-17
 unfolding entryFor pick
-returns-17 c = c .blank26 .ensures ∙ ap (λ (k : ℕ). entryFor k (c .before .before .args .a) (c .before .before .args .b) (c .before .before .args .c)) (sym (c .before .match .keys17))
+returns-17 c =
+    c .blank26 .ensures
+    ∙ ap (λ (k : ℕ). entryFor k (c .before .before .args .a) (c .before .before .args .b) (c .before .before .args .c)) (sym (c .before .match .keys17))
 
 returns-18 : tie.Need-returns-18
 unfolding entryFor pick
-returns-18 c = c .blank27 .ensures ∙ ap (λ (k : ℕ). entryFor k (c .before .before .args .a) (c .before .before .args .b) (c .before .before .args .c)) (sym (c .before .match .keys18))
+returns-18 c =
+    c .blank27 .ensures
+    ∙ ap (λ (k : ℕ). entryFor k (c .before .before .args .a) (c .before .before .args .b) (c .before .before .args .c)) (sym (c .before .match .keys18))
 
 returns-19 : tie.Need-returns-19
 unfolding entryFor pick
-returns-19 c = c .blank28 .ensures ∙ ap (λ (k : ℕ). entryFor k (c .before .before .args .a) (c .before .before .args .b) (c .before .before .args .c)) (sym (c .before .match .keys19))
+returns-19 c =
+    c .blank28 .ensures
+    ∙ ap (λ (k : ℕ). entryFor k (c .before .before .args .a) (c .before .before .args .b) (c .before .before .args .c)) (sym (c .before .match .keys19))
 
 returns-20 : tie.Need-returns-20
 unfolding entryFor pick
-returns-20 c = c .blank30 .ensures ∙ ap (unused (c .before .before .before .args .b)) (c .before .blank29 .ensures) ∙ ap (λ (k : ℕ). entryFor k (c .before .before .before .args .a) (c .before .before .before .args .b) (c .before .before .before .args .c)) (sym (c .before .before .match .keys20))
+returns-20 c =
+    c .blank30 .ensures
+    ∙ ap (unused (c .before .before .before .args .b)) (c .before .blank29 .ensures)
+    ∙ ap (λ (k : ℕ). entryFor k (c .before .before .before .args .a) (c .before .before .before .args .b) (c .before .before .before .args .c))
+    (sym (c .before .before .match .keys20))
 
 returns-21 : tie.Need-returns-21
 unfolding entryFor pick
 returns-21 c =
     let start = c .before .before .before .before in
-    c .blank32 .ensures ∙ ap (unused (start .args .b)) (c .before .blank31 .ensures ∙ ap (unused (start .args .c)) (ap (λ (n : ℤ). Entry.Pattern (Shape.Constant n)) (toZ-ofZ w64 _ (record { sfits = c .before .before .number2 .ok }) ∙ c .before .before .number2 .ensures))) ∙ ap (λ (k : ℕ). entryFor k (start .args .a) (start .args .b) (start .args .c)) (sym (c .before .before .before .match .keys21))
+    c .blank32 .ensures
+    ∙ ap (unused (start .args .b)) (c .before .blank31 .ensures
+    ∙ ap (unused (start .args .c)) (ap (λ (n : ℤ). Entry.Pattern (Shape.Constant n)) (toZ-ofZ w64 _ (record {
+      sfits = c .before .before .number2 .ok;
+    }) ∙ c .before .before .number2 .ensures)))
+    ∙ ap (λ (k : ℕ). entryFor k (start .args .a) (start .args .b) (start .args .c)) (sym (c .before .before .before .match .keys21))
 
 returns-22 : tie.Need-returns-22
 unfolding entryFor
-returns-22 c = let r = c .match .rest in pick-no _ _ (ne-eqb _ _ (r .0 .0 .0 .0 .0 .0 .0 .0 .0 .0 .0 .0 .0 .0 .0 .0 .0 .0 .0 .0 .1)) (pick-no _ _ (ne-eqb _ _ (r .0 .0 .0 .0 .0 .0 .0 .0 .0 .0 .0 .0 .0 .0 .0 .0 .0 .0 .0 .1)) (pick-no _ _ (ne-eqb _ _ (r .0 .0 .0 .0 .0 .0 .0 .0 .0 .0 .0 .0 .0 .0 .0 .0 .0 .0 .1)) (pick-no _ _ (ne-eqb _ _ (r .0 .0 .0 .0 .0 .0 .0 .0 .0 .0 .0 .0 .0 .0 .0 .0 .0 .1)) (pick-no _ _ (ne-eqb _ _ (r .0 .0 .0 .0 .0 .0 .0 .0 .0 .0 .0 .0 .0 .0 .0 .0 .1)) (pick-no _ _ (ne-eqb _ _ (r .0 .0 .0 .0 .0 .0 .0 .0 .0 .0 .0 .0 .0 .0 .0 .1)) (pick-no _ _ (ne-eqb _ _ (r .0 .0 .0 .0 .0 .0 .0 .0 .0 .0 .0 .0 .0 .0 .1)) (pick-no _ _ (ne-eqb _ _ (r .0 .0 .0 .0 .0 .0 .0 .0 .0 .0 .0 .0 .0 .1)) (pick-no _ _ (ne-eqb _ _ (r .0 .0 .0 .0 .0 .0 .0 .0 .0 .0 .0 .0 .1)) (pick-no _ _ (ne-eqb _ _ (r .0 .0 .0 .0 .0 .0 .0 .0 .0 .0 .0 .1)) (pick-no _ _ (ne-eqb _ _ (r .0 .0 .0 .0 .0 .0 .0 .0 .0 .0 .1)) (pick-no _ _ (ne-eqb _ _ (r .0 .0 .0 .0 .0 .0 .0 .0 .0 .1)) (pick-no _ _ (ne-eqb _ _ (r .0 .0 .0 .0 .0 .0 .0 .0 .1)) (pick-no _ _ (ne-eqb _ _ (r .0 .0 .0 .0 .0 .0 .0 .1)) (pick-no _ _ (ne-eqb _ _ (r .0 .0 .0 .0 .0 .0 .1)) (pick-no _ _ (ne-eqb _ _ (r .0 .0 .0 .0 .0 .1)) (pick-no _ _ (ne-eqb _ _ (r .0 .0 .0 .0 .1)) (pick-no _ _ (ne-eqb _ _ (r .0 .0 .0 .1)) (pick-no _ _ (ne-eqb _ _ (r .0 .0 .1)) (pick-no _ _ (ne-eqb _ _ (r .0 .1)) (pick-no _ _ (ne-eqb _ _ (r .1)) (refl)))))))))))))))))))))
+returns-22 c =
+    let r = c .match .rest in
+    pick-no _ _ (ne-eqb _ _ (r .0 .0 .0 .0 .0 .0 .0 .0 .0 .0 .0 .0 .0 .0 .0 .0 .0 .0 .0 .0 .1))
+    (pick-no _ _ (ne-eqb _ _ (r .0 .0 .0 .0 .0 .0 .0 .0 .0 .0 .0 .0 .0 .0 .0 .0 .0 .0 .0 .1))
+    (pick-no _ _ (ne-eqb _ _ (r .0 .0 .0 .0 .0 .0 .0 .0 .0 .0 .0 .0 .0 .0 .0 .0 .0 .0 .1)) (pick-no _ _
+    (ne-eqb _ _ (r .0 .0 .0 .0 .0 .0 .0 .0 .0 .0 .0 .0 .0 .0 .0 .0 .0 .1)) (pick-no _ _ (ne-eqb _ _ (r .0 .0 .0 .0 .0 .0 .0 .0 .0 .0 .0 .0 .0 .0 .0 .0 .1))
+    (pick-no _ _ (ne-eqb _ _ (r .0 .0 .0 .0 .0 .0 .0 .0 .0 .0 .0 .0 .0 .0 .0 .1)) (pick-no _ _ (ne-eqb _ _ (r .0 .0 .0 .0 .0 .0 .0 .0 .0 .0 .0 .0 .0 .0 .1))
+    (pick-no _ _ (ne-eqb _ _ (r .0 .0 .0 .0 .0 .0 .0 .0 .0 .0 .0 .0 .0 .1)) (pick-no _ _ (ne-eqb _ _ (r .0 .0 .0 .0 .0 .0 .0 .0 .0 .0 .0 .0 .1))
+    (pick-no _ _ (ne-eqb _ _ (r .0 .0 .0 .0 .0 .0 .0 .0 .0 .0 .0 .1)) (pick-no _ _ (ne-eqb _ _ (r .0 .0 .0 .0 .0 .0 .0 .0 .0 .0 .1)) (pick-no _ _ (ne-eqb _ _
+    (r .0 .0 .0 .0 .0 .0 .0 .0 .0 .1)) (pick-no _ _ (ne-eqb _ _ (r .0 .0 .0 .0 .0 .0 .0 .0 .1)) (pick-no _ _ (ne-eqb _ _ (r .0 .0 .0 .0 .0 .0 .0 .1)) (pick-no
+    _ _ (ne-eqb _ _ (r .0 .0 .0 .0 .0 .0 .1)) (pick-no _ _ (ne-eqb _ _ (r .0 .0 .0 .0 .0 .1)) (pick-no _ _ (ne-eqb _ _ (r .0 .0 .0 .0 .1)) (pick-no _ _ (ne-eqb
+    _ _ (r .0 .0 .0 .1)) (pick-no _ _ (ne-eqb _ _ (r .0 .0 .1)) (pick-no _ _ (ne-eqb _ _ (r .0 .1)) (pick-no _ _ (ne-eqb _ _ (r .1)) (refl)))))))))))))))))))))
 
 pub entry-spec : {M : Type 1} → statement M
 entry-spec =

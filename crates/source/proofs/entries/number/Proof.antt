@@ -16,7 +16,10 @@ cast-result : tie.Need-cast-result
 cast-result c = rw (toZ-ofZ w32 (c .signed .result) (record { sfits = c .signed .ok })) (wider (c .signed .result) (c .signed .ok))
 
 returns : tie.Need-returns
-returns c = ap (λ (z : ℤ). toZ w64 (ofZ w64 z)) (toZ-ofZ w32 (c .signed .result) (record { sfits = c .signed .ok })) ∙ toZ-ofZ w64 _ (wider (c .signed .result) (c .signed .ok)) ∙ c .signed .ensures
+returns c =
+    ap (λ (z : ℤ). toZ w64 (ofZ w64 z)) (toZ-ofZ w32 (c .signed .result) (record { sfits = c .signed .ok }))
+    ∙ toZ-ofZ w64 _ (wider (c .signed .result) (c .signed .ok))
+    ∙ c .signed .ensures
 
 pub number-spec : {M : Type 1} → statement M
 number-spec = tie.close (tie.spec signed-requires cast-result returns)

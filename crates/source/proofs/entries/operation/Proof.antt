@@ -15,7 +15,9 @@ operator-requires c κs = search needs
 
 returns : tie.Need-returns
 unfolding infixFor
-returns c = pick-yes _ _ (le-leb _ _ (c .before .if1 .taken)) (ap (λ (o : InfixOp). Entry.Expression (Form.Infix o (c .before .before .args .x) (c .before .before .args .y))) (c .operator .ensures))
+returns c =
+    pick-yes _ _ (le-leb _ _ (c .before .if1 .taken))
+    (ap (λ (o : InfixOp). Entry.Expression (Form.Infix o (c .before .before .args .x) (c .before .before .args .y))) (c .operator .ensures))
 
 returns-2 : tie.Need-returns-2
 unfolding infixFor

@@ -41,7 +41,9 @@ loop-again c =
     (print-more (start .args .s .now) _ _ (c .before .before .loop .inv .0) (c .byte .ensures .0), omega arith)
 
 returns : tie.Need-returns Inv-loop μ-loop
-returns c = c .before .loop .inv .0 ∙ ap (λ (m : ℕ). fingerprintOf (c .before .before .before .args .s .now) (c .before .before .before .args .from) m) (omega (arith, c .loop-test .left))
+returns c =
+    c .before .loop .inv .0
+    ∙ ap (λ (m : ℕ). fingerprintOf (c .before .before .before .args .s .now) (c .before .before .before .args .from) m) (omega (arith, c .loop-test .left))
 
 pub fingerprint-spec : {M : Type 1} → statement M
 fingerprint-spec =

@@ -21,12 +21,16 @@ loop-holds : tie.Need-loop-holds Inv-loop μ-loop
 loop-holds c = (every-none _, omega arith)
 
 same-found-requires : tie.Need-same-found-requires Inv-loop μ-loop
-same-found-requires c κs = (c .before .before .before .pre .0, ((omega (arith, c .before .before .before .pre .1 .0), c .before .before .before .pre .1 .0), c .before .before .before .pre .1 .1))
+same-found-requires c κs = (
+  c .before .before .before .pre .0,
+  ((omega (arith, c .before .before .before .pre .1 .0), c .before .before .before .pre .1 .0), c .before .before .before .pre .1 .1),
+)
 
 returns : tie.Need-returns Inv-loop μ-loop
 returns c =
     let start = c .before .before .before .before .before in
-    new-fails (start .args .s .now) _ _ (c .before .before .before .loop .j) (c .before .before .loop-test .taken) (c .before .same-found .ensures) (c .if1 .taken)
+    new-fails (start .args .s .now) _ _ (c .before .before .before .loop .j) (c .before .before .loop-test .taken)
+    (c .before .same-found .ensures) (c .if1 .taken)
 
 add-j : tie.Need-add-j Inv-loop μ-loop
 add-j c = search needs

@@ -33,7 +33,8 @@ returns : tie.Need-returns Inv-loop μ-loop
 returns c =
     let at-loop = c .before .before .before .before in
     let start = at-loop .before .before .before in
-    differ-fails (start .args .s .now) _ _ (at-loop .loop .k) (c .before .before .before .loop-test .taken) (c .before .name-new .ensures) (not-true _ (c .if1 .taken))
+    differ-fails (start .args .s .now) _ _ (at-loop .loop .k) (c .before .before .before .loop-test .taken) (c .before .name-new .ensures)
+    (not-true _ (c .if1 .taken))
 
 add-k : tie.Need-add-k Inv-loop μ-loop
 add-k c = search needs

@@ -28,7 +28,8 @@ name-fits-requires c κs = (omega (arith, c .before .before .before .pre .0), (c
 returns : tie.Need-returns Inv-loop μ-loop
 returns c =
     let start = c .before .before .before .before .before in
-    names-fail (start .args .s .now) _ _ (c .before .before .before .loop .k) (c .before .before .loop-test .taken) (c .before .name-fits .ensures) (not-true _ (c .if1 .taken))
+    names-fail (start .args .s .now) _ _ (c .before .before .before .loop .k) (c .before .before .loop-test .taken) (c .before .name-fits .ensures)
+    (not-true _ (c .if1 .taken))
 
 name-at-requires : tie.Need-name-at-requires Inv-loop μ-loop
 name-at-requires c κs = search needs
@@ -63,7 +64,8 @@ add-result : tie.Need-add-result Inv-loop μ-loop
 add-result c = search needs
 
 returns-2 : tie.Need-returns-2 Inv-loop μ-loop
-returns-2 c = names-end (c .before .before .before .args .s .now) _ _ _ (c .before .loop .inv .0 .0) (c .before .loop .inv .0 .1) (omega (arith, c .loop-test .left))
+returns-2 c =
+    names-end (c .before .before .before .args .s .now) _ _ _ (c .before .loop .inv .0 .0) (c .before .loop .inv .0 .1) (omega (arith, c .loop-test .left))
 
 pub names-fit-spec : {M : Type 1} → statement M
 names-fit-spec =

@@ -42,7 +42,9 @@ loop-again c =
     (printed-more (start .args .s .now) _ _ (c .before .before .before .loop .inv .0) (not-false _ (c .if1 .left)), omega arith)
 
 returns-2 : tie.Need-returns-2 Inv-loop μ-loop
-returns-2 c = sym (c .before .loop .inv .0) ∙ ap (λ (m : ℕ). printed (c .before .before .args .s .now) (c .before .before .args .from) m) (omega (arith, c .loop-test .left))
+returns-2 c =
+    sym (c .before .loop .inv .0)
+    ∙ ap (λ (m : ℕ). printed (c .before .before .args .s .now) (c .before .before .args .from) m) (omega (arith, c .loop-test .left))
 
 pub prints-spec : {M : Type 1} → statement M
 prints-spec =

@@ -49,7 +49,10 @@ loop-again c =
     (same-more (start .args .s .now) _ _ _ (at-loop .loop .inv .0) (c .if1 .left), omega arith)
 
 returns-2 : tie.Need-returns-2 Inv-loop μ-loop
-returns-2 c = sym (c .before .loop .inv .0) ∙ ap (λ (m : ℕ). sameBytes (c .before .before .args .s .now) (c .before .before .args .from) (c .before .before .args .to) m) (omega (arith, c .loop-test .left))
+returns-2 c =
+    sym (c .before .loop .inv .0)
+    ∙ ap (λ (m : ℕ). sameBytes (c .before .before .args .s .now) (c .before .before .args .from) (c .before .before .args .to) m)
+    (omega (arith, c .loop-test .left))
 
 pub same-bytes-spec : {M : Type 1} → statement M
 same-bytes-spec =

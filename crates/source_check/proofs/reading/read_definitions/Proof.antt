@@ -113,7 +113,12 @@ loop-again c =
     )
 
 returns-3 : tie.Need-returns-3 Inv-loop μ-loop
-returns-3 c = let e : c .before .loop .k ≡ c .before .before .before .args .n = omega (arith, c .loop-test .left) in (accepts 5 _ (ap (definitionsFit (c .before .before .before .args .s .now) (c .before .before .before .args .at) (c .before .before .before .args .nodes) (c .before .before .before .args .list)) (sym e) ∙ c .before .loop .inv .0 .0), λ _. rw e at (c .before .loop .inv .0 .1))
+returns-3 c = let e : c .before .loop .k ≡ c .before .before .before .args .n = omega (arith, c .loop-test .left) in (
+  accepts 5 _ (ap (definitionsFit (c .before .before .before .args .s .now) (c .before .before .before .args .at)
+      (c .before .before .before .args .nodes) (c .before .before .before .args .list)) (sym e)
+      ∙ c .before .loop .inv .0 .0),
+  λ _. rw e at (c .before .loop .inv .0 .1),
+)
 
 pub read-definitions-spec : {M : Type 1} → statement M
 read-definitions-spec =

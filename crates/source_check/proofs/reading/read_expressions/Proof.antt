@@ -71,7 +71,12 @@ loop-again c =
     )
 
 returns-2 : tie.Need-returns-2 Inv-loop μ-loop
-returns-2 c = let e : c .before .loop .k ≡ c .before .before .before .args .n = omega (arith, c .loop-test .left) in (accepts 5 _ (ap (expressionsFit (c .before .before .before .args .s .now) (c .before .before .before .args .at) (c .before .before .before .args .nodes) (c .before .before .before .args .list)) (sym e) ∙ c .before .loop .inv .0 .0), λ _. rw e at (c .before .loop .inv .0 .1))
+returns-2 c = let e : c .before .loop .k ≡ c .before .before .before .args .n = omega (arith, c .loop-test .left) in (
+  accepts 5 _ (ap (expressionsFit (c .before .before .before .args .s .now) (c .before .before .before .args .at)
+      (c .before .before .before .args .nodes) (c .before .before .before .args .list)) (sym e)
+      ∙ c .before .loop .inv .0 .0),
+  λ _. rw e at (c .before .loop .inv .0 .1),
+)
 
 pub read-expressions-spec : {M : Type 1} → statement M
 read-expressions-spec =

@@ -42,8 +42,11 @@ returns c =
     let at-node-at = at-children-of .before in
     let at-loop-test = at-node-at .before in
     let at-loop = at-loop-test .before in
-    let start = at-loop .before .before in
-    (refuses 5 _ (nodes-fail (start .args .s .now) (start .args .at) (start .args .names) (at-loop .loop .k) (at-node-at .node-at .ensures) (at-children-of .children-of .ensures) (c .before .before .use-children .ensures .0) _ (at-loop-test .loop-test .taken) (c .enum-told2 .given .1)), λ e. not-accepted e)
+    let start = at-loop .before .before in (
+      refuses 5 _ (nodes-fail (start .args .s .now) (start .args .at) (start .args .names) (at-loop .loop .k) (at-node-at .node-at .ensures)
+          (at-children-of .children-of .ensures) (c .before .before .use-children .ensures .0) _ (at-loop-test .loop-test .taken) (c .enum-told2 .given .1)),
+      λ e. not-accepted e,
+    )
 
 add-k : tie.Need-add-k Inv-loop μ-loop
 add-k c = search needs
@@ -56,11 +59,19 @@ loop-again c =
     let at-children-of = c .before .before .before .before in
     let at-node-at = at-children-of .before in
     let at-loop = at-node-at .before .before in
-    let start = at-loop .before .before in
-    (nodes-more (start .args .s .now) (start .args .at) (start .args .names) (at-loop .loop .k) (at-node-at .node-at .ensures) (at-children-of .children-of .ensures) (c .before .before .use-children .ensures .0) (at-loop .loop .inv .0 .0) (at-loop .loop .inv .0 .1) (c .enum-told .given .1) (c .before .before .use-children .ensures .1 (c .enum-told .given .1)), omega arith)
+    let start = at-loop .before .before in (
+      nodes-more (start .args .s .now) (start .args .at) (start .args .names) (at-loop .loop .k) (at-node-at .node-at .ensures)
+          (at-children-of .children-of .ensures) (c .before .before .use-children .ensures .0) (at-loop .loop .inv .0 .0) (at-loop .loop .inv .0 .1)
+          (c .enum-told .given .1) (c .before .before .use-children .ensures .1 (c .enum-told .given .1)),
+      omega arith,
+    )
 
 returns-2 : tie.Need-returns-2 Inv-loop μ-loop
-returns-2 c = let e : c .before .loop .k ≡ c .before .before .before .args .n = omega (arith, c .loop-test .left) in (accepts 5 _ (ap (nodesFit (c .before .before .before .args .s .now) (c .before .before .before .args .at) (c .before .before .before .args .names)) (sym e) ∙ c .before .loop .inv .0 .0), λ _. rw e at (c .before .loop .inv .0 .1))
+returns-2 c = let e : c .before .loop .k ≡ c .before .before .before .args .n = omega (arith, c .loop-test .left) in (
+  accepts 5 _ (ap (nodesFit (c .before .before .before .args .s .now) (c .before .before .before .args .at) (c .before .before .before .args .names)) (sym e)
+      ∙ c .before .loop .inv .0 .0),
+  λ _. rw e at (c .before .loop .inv .0 .1),
+)
 
 pub read-nodes-spec : {M : Type 1} → statement M
 read-nodes-spec =

@@ -45,7 +45,11 @@ loop-again c =
     (publics-more b _ _ _ (c .before .before .before .loop .inv .0) (c .before .public-at .ensures) (c .if1 .left), omega arith)
 
 returns-2 : tie.Need-returns-2 Inv-loop μ-loop
-returns-2 c = let e : c .before .loop .k ≡ c .before .before .before .args .n = omega (arith, c .loop-test .left) in accepts 5 _ (ap (publicsFit (c .before .before .before .args .s .now) (c .before .before .before .args .names) (c .before .before .before .args .list)) (sym e) ∙ c .before .loop .inv .0)
+returns-2 c =
+    let e : c .before .loop .k ≡ c .before .before .before .args .n = omega (arith, c .loop-test .left) in
+    accepts 5 _
+    (ap (publicsFit (c .before .before .before .args .s .now) (c .before .before .before .args .names) (c .before .before .before .args .list)) (sym e)
+    ∙ c .before .loop .inv .0)
 
 pub read-publics-spec : {M : Type 1} → statement M
 read-publics-spec =

@@ -11,7 +11,9 @@ use Rattle.source_check.proofs.Marks.{accepts, refuses, not-accepted}
 use Rattle.source_check.proofs.Links.{way-late, way-other, way-item, way-result, way-end, way-on, Onward, onward-start}
 
 abbrev Inv-loop : tie.InvT-loop
-Inv-loop s at chain k first marks₀ above₀ link₀ marks above link = ((chainFits s at chain k first ≡ chainFits s at chain above link) × Onward marks₀ marks (chainUses s at chain k first) (chainUses s at chain above link)) × (above ≤ k)
+Inv-loop s at chain k first marks₀ above₀ link₀ marks above link =
+    ((chainFits s at chain k first ≡ chainFits s at chain above link) × Onward marks₀ marks (chainUses s at chain k first) (chainUses s at chain above link))
+    × (above ≤ k)
 
 abbrev μ-loop : tie.MeasureT-loop
 μ-loop s at chain k first marks₀ above₀ link₀ marks above link = above
@@ -27,8 +29,12 @@ enum-known-item c = search needs
 
 returns : tie.Need-returns Inv-loop μ-loop
 returns c =
-    let start = c .before .before .before .before .before in
-    (refuses 5 _ (way-other (start .args .s .now) (start .args .at) (start .args .chain) (start .args .k) (start .args .first) (c .before .before .before .loop .above) (c .before .before .before .loop .link) (c .before .before .before .loop .inv .0 .0) (c .before .before .loop-test .taken) (c .before .node-at .ensures) (c .match .keys2)), λ e. not-accepted e)
+    let start = c .before .before .before .before .before in (
+      refuses 5 _ (way-other (start .args .s .now) (start .args .at) (start .args .chain) (start .args .k) (start .args .first)
+          (c .before .before .before .loop .above) (c .before .before .before .loop .link) (c .before .before .before .loop .inv .0 .0)
+          (c .before .before .loop-test .taken) (c .before .node-at .ensures) (c .match .keys2)),
+      λ e. not-accepted e,
+    )
 
 use-node-requires : tie.Need-use-node-requires Inv-loop μ-loop
 use-node-requires c κs = search needs
@@ -48,8 +54,12 @@ returns-2 c =
     let at-node-at = at-item .before .before in
     let at-loop-test = at-node-at .before in
     let at-loop = at-loop-test .before in
-    let start = at-loop .before .before in
-    (refuses 5 _ (way-item (start .args .s .now) (start .args .at) (start .args .chain) (start .args .k) (start .args .first) (at-loop .loop .above) (at-loop .loop .link) (at-loop .loop .inv .0 .0) (at-loop-test .loop-test .taken) (at-node-at .node-at .ensures) (at-item .item .given .1) (c .before .before .use-item .ensures .0) (c .enum-told2 .given .1)), λ e. not-accepted e)
+    let start = at-loop .before .before in (
+      refuses 5 _ (way-item (start .args .s .now) (start .args .at) (start .args .chain) (start .args .k) (start .args .first) (at-loop .loop .above)
+          (at-loop .loop .link) (at-loop .loop .inv .0 .0) (at-loop-test .loop-test .taken) (at-node-at .node-at .ensures) (at-item .item .given .1)
+          (c .before .before .use-item .ensures .0) (c .enum-told2 .given .1)),
+      λ e. not-accepted e,
+    )
 
 use-result-requires : tie.Need-use-result-requires Inv-loop μ-loop
 use-result-requires c κs = search needs
@@ -68,8 +78,12 @@ returns-3 c =
     let at-node-at = at-item .before .before in
     let at-loop-test = at-node-at .before in
     let at-loop = at-loop-test .before in
-    let start = at-loop .before .before in
-    (refuses 5 _ (way-result (start .args .s .now) (start .args .at) (start .args .chain) (start .args .k) (start .args .first) (at-loop .loop .above) (at-loop .loop .link) (at-loop .loop .inv .0 .0) (at-loop-test .loop-test .taken) (at-node-at .node-at .ensures) (at-item .item .given .1) (at-use-item .use-item .ensures .0) (at-enum-told .enum-told .given .1) (c .before .before .use-result .ensures .0) (c .enum-told4 .given .1)), λ e. not-accepted e)
+    let start = at-loop .before .before in (
+      refuses 5 _ (way-result (start .args .s .now) (start .args .at) (start .args .chain) (start .args .k) (start .args .first) (at-loop .loop .above)
+          (at-loop .loop .link) (at-loop .loop .inv .0 .0) (at-loop-test .loop-test .taken) (at-node-at .node-at .ensures) (at-item .item .given .1)
+          (at-use-item .use-item .ensures .0) (at-enum-told .enum-told .given .1) (c .before .before .use-result .ensures .0) (c .enum-told4 .given .1)),
+      λ e. not-accepted e,
+    )
 
 returns-4 : tie.Need-returns-4 Inv-loop μ-loop
 returns-4 c =
@@ -81,7 +95,13 @@ returns-4 c =
     let at-loop-test = at-node-at .before in
     let at-loop = at-loop-test .before in
     let start = at-loop .before .before in
-    let w = way-end (start .args .s .now) (start .args .at) (start .args .chain) (start .args .k) (start .args .first) (at-loop .loop .above) (at-loop .loop .link) (at-loop .loop .inv .0 .0) (at-loop-test .loop-test .taken) (at-node-at .node-at .ensures) (at-item .item .given .1) (at-use-item .use-item .ensures .0) (at-enum-told .enum-told .given .1) (c .before .before .before .use-result .ensures .0) (c .before .enum-told3 .given .1) (at-loop .loop .inv .0 .1) (at-use-node .use-node .ensures) (at-use-item .use-item .ensures .1 (at-enum-told .enum-told .given .1)) (c .before .before .before .use-result .ensures .1 (c .before .enum-told3 .given .1)) (c .if1 .taken) in (accepts 5 _ (w .0), λ _. w .1)
+    let w =
+    way-end (start .args .s .now) (start .args .at) (start .args .chain) (start .args .k) (start .args .first) (at-loop .loop .above) (at-loop .loop .link)
+    (at-loop .loop .inv .0 .0) (at-loop-test .loop-test .taken) (at-node-at .node-at .ensures) (at-item .item .given .1) (at-use-item .use-item .ensures .0)
+    (at-enum-told .enum-told .given .1) (c .before .before .before .use-result .ensures .0) (c .before .enum-told3 .given .1)
+    (at-loop .loop .inv .0 .1) (at-use-node .use-node .ensures) (at-use-item .use-item .ensures .1 (at-enum-told .enum-told .given .1))
+    (c .before .before .before .use-result .ensures .1 (c .before .enum-told3 .given .1)) (c .if1 .taken) in
+    (accepts 5 _ (w .0), λ _. w .1)
 
 loop-less : tie.Need-loop-less Inv-loop μ-loop
 loop-less c = search needs
@@ -95,11 +115,22 @@ loop-again c =
     let at-node-at = at-item .before .before in
     let at-loop-test = at-node-at .before in
     let at-loop = at-loop-test .before in
-    let start = at-loop .before .before in
-    (way-on (start .args .s .now) (start .args .at) (start .args .chain) (start .args .k) (start .args .first) (at-loop .loop .above) (at-loop .loop .link) (at-loop .loop .inv .0 .0) (at-loop-test .loop-test .taken) (at-node-at .node-at .ensures) (at-item .item .given .1) (at-use-item .use-item .ensures .0) (at-enum-told .enum-told .given .1) (c .before .before .before .use-result .ensures .0) (c .before .enum-told3 .given .1) (at-loop .loop .inv .0 .1) (at-use-node .use-node .ensures) (at-use-item .use-item .ensures .1 (at-enum-told .enum-told .given .1)) (c .before .before .before .use-result .ensures .1 (c .before .enum-told3 .given .1)) (c .if1 .left), omega arith)
+    let start = at-loop .before .before in (
+      way-on (start .args .s .now) (start .args .at) (start .args .chain) (start .args .k) (start .args .first) (at-loop .loop .above)
+          (at-loop .loop .link) (at-loop .loop .inv .0 .0) (at-loop-test .loop-test .taken) (at-node-at .node-at .ensures) (at-item .item .given .1)
+          (at-use-item .use-item .ensures .0) (at-enum-told .enum-told .given .1) (c .before .before .before .use-result .ensures .0)
+          (c .before .enum-told3 .given .1) (at-loop .loop .inv .0 .1) (at-use-node .use-node .ensures) (at-use-item .use-item .ensures .1
+          (at-enum-told .enum-told .given .1)) (c .before .before .before .use-result .ensures .1 (c .before .enum-told3 .given .1)) (c .if1 .left),
+      omega arith,
+    )
 
 returns-5 : tie.Need-returns-5 Inv-loop μ-loop
-returns-5 c = (refuses 5 _ (way-late (c .before .before .before .args .s .now) (c .before .before .before .args .at) (c .before .before .before .args .chain) (c .before .before .before .args .k) (c .before .before .before .args .first) (c .before .loop .above) (c .before .loop .link) (c .before .loop .inv .0 .0) (c .loop-test .left)), λ e. not-accepted e)
+returns-5 c = (
+  refuses 5 _ (way-late (c .before .before .before .args .s .now) (c .before .before .before .args .at) (c .before .before .before .args .chain)
+      (c .before .before .before .args .k) (c .before .before .before .args .first) (c .before .loop .above) (c .before .loop .link)
+      (c .before .loop .inv .0 .0) (c .loop-test .left)),
+  λ e. not-accepted e,
+)
 
 pub use-chain-spec : {M : Type 1} → statement M
 use-chain-spec =

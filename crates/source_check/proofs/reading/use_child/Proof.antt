@@ -38,19 +38,29 @@ enum-told-2 c = search needs
 
 returns : tie.Need-returns
 unfolding childFits childUses
-returns c = (accepts 5 _ (ap (childFits (c .before .before .before .args .s .now) (c .before .before .before .args .at) (c .before .before .before .args .names) (c .before .before .before .args .k)) (c .enum-told .given .1)), λ _. no-use (c .before .before .before .args .s .now) _ _ _ (c .enum-told .given .1))
+returns c = (
+  accepts 5 _ (ap (childFits (c .before .before .before .args .s .now) (c .before .before .before .args .at) (c .before .before .before .args .names)
+      (c .before .before .before .args .k)) (c .enum-told .given .1)),
+  λ _. no-use (c .before .before .before .args .s .now) _ _ _ (c .enum-told .given .1),
+)
 
 returns-2 : tie.Need-returns-2
 unfolding childFits childUses
 returns-2 c =
-    let start = c .before .before .before .before .before in
-    (accepts 5 _ (ap (childFits (start .args .s .now) (start .args .at) (start .args .names) (start .args .k)) (c .before .before .child .given .1) ∙ lt-ltb _ _ (c .if1 .taken)), λ _. name-use (start .args .s .now) _ _ _ (c .before .before .child .given .1))
+    let start = c .before .before .before .before .before in (
+      accepts 5 _ (ap (childFits (start .args .s .now) (start .args .at) (start .args .names) (start .args .k)) (c .before .before .child .given .1)
+          ∙ lt-ltb _ _ (c .if1 .taken)),
+      λ _. name-use (start .args .s .now) _ _ _ (c .before .before .child .given .1),
+    )
 
 returns-3 : tie.Need-returns-3
 unfolding childFits childUses
 returns-3 c =
-    let start = c .before .before .before .before .before in
-    (refuses 5 _ (ap (childFits (start .args .s .now) (start .args .at) (start .args .names) (start .args .k)) (c .before .before .child .given .1) ∙ le-ltb _ _ (c .if1 .left)), λ e. not-accepted e)
+    let start = c .before .before .before .before .before in (
+      refuses 5 _ (ap (childFits (start .args .s .now) (start .args .at) (start .args .names) (start .args .k)) (c .before .before .child .given .1)
+          ∙ le-ltb _ _ (c .if1 .left)),
+      λ e. not-accepted e,
+    )
 
 returns-4 : tie.Need-returns-4
 unfolding childFits childUses
@@ -66,7 +76,11 @@ returns-6 c = rw (c .before .before .before .child4 .given .1) (c .use-chain .en
 
 returns-7 : tie.Need-returns-7
 unfolding childFits childUses
-returns-7 c = (refuses 5 _ (ap (childFits (c .before .before .before .args .s .now) (c .before .before .before .args .at) (c .before .before .before .args .names) (c .before .before .before .args .k)) (c .enum-told2 .given .1)), λ e. not-accepted e)
+returns-7 c = (
+  refuses 5 _ (ap (childFits (c .before .before .before .args .s .now) (c .before .before .before .args .at) (c .before .before .before .args .names)
+      (c .before .before .before .args .k)) (c .enum-told2 .given .1)),
+  λ e. not-accepted e,
+)
 
 pub use-child-spec : {M : Type 1} → statement M
 use-child-spec =

@@ -20,10 +20,14 @@ unfolding resultFits resultUses
 returns c = rw (c .before .before .enum-told .given .1) (c .use-expression .ensures)
 
 returns-2 : tie.Need-returns-2
-returns-2 c = (accepts 5 _ (result-blank (c .before .before .before .args .s .now) _ _ _ _ (c .before .match .keys2) ∙ eq-eqb _ _ (c .if1 .taken)), λ _. result-unused _ _ _ (c .before .match .keys2))
+returns-2 c = (
+  accepts 5 _ (result-blank (c .before .before .before .args .s .now) _ _ _ _ (c .before .match .keys2) ∙ eq-eqb _ _ (c .if1 .taken)),
+  λ _. result-unused _ _ _ (c .before .match .keys2),
+)
 
 returns-3 : tie.Need-returns-3
-returns-3 c = (refuses 5 _ (result-blank (c .before .before .before .args .s .now) _ _ _ _ (c .before .match .keys2) ∙ ne-eqb _ _ (c .if1 .left)), λ e. not-accepted e)
+returns-3 c =
+    (refuses 5 _ (result-blank (c .before .before .before .args .s .now) _ _ _ _ (c .before .match .keys2) ∙ ne-eqb _ _ (c .if1 .left)), λ e. not-accepted e)
 
 pub use-result-spec : {M : Type 1} → statement M
 use-result-spec =
