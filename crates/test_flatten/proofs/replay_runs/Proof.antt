@@ -76,9 +76,8 @@ returns c = search needs
 
 add-i : tie.Need-add-i Inv-loop μ-loop
 add-i c =
-    let before-12 = c .before .before .before .before .before .before .before .before .before .before .before .before in
     let turn =
-    (before-12)
+    (c .before .before .before .before .before .before .before .before .before .before .before .before)
     .before .before .before .before .before .before in
     omega (arith, turn .loop-test .taken, turn .before .loop .inv)
 

@@ -50,16 +50,16 @@ cast-from c = search needs
 
 add-from : tie.Need-add-from
 add-from c =
-    let before-4 = c .before .before .before .before in
-    omega (arith, one-inside (before-4))
+    let earlier = c .before .before .before .before in
+    omega (arith, one-inside (earlier))
 
 cast-to : tie.Need-cast-to
 cast-to c = search needs
 
 add-to : tie.Need-add-to
 add-to c =
-    let before-5 = c .before .before .before .before .before in
-    omega (arith, other-inside (before-5) (c .before .before .if1 .left))
+    let earlier = c .before .before .before .before .before in
+    omega (arith, other-inside (earlier) (c .before .before .if1 .left))
 
 cast-same-bytes : tie.Need-cast-same-bytes
 cast-same-bytes c = search needs
