@@ -48,12 +48,10 @@ power-above-zero : (c : tie.After-power-of) → 0 < c .power-of .result
 power-above-zero c =
     let earlier = c .before .before .before .before in
     subst⁻¹ (λ (k : ℕ). 0 < k) (c .power-of .ensures)
-    (power-pos P P-prime _ _ (pos-of-ne-zero (c .before .if2 .left)) (below-P _ (base (earlier))))
+    (power-pos P P-prime _ _ (pos-of-ne-zero (c .before .if2 .left)) (below-P _ (base earlier)))
 
 returns : tie.Need-returns
 returns c =
-    let earlier = c .before .before .before .before in
-    let s : tie.Start = earlier in
     sym (pick-zero _ _ _ (sym (base (c .before .before .before)) ∙ c .if2 .taken))
     ∙ sym (power-below P _ _ _ (below (c .before)))
 

@@ -51,7 +51,7 @@ cast-from c = search needs
 add-from : tie.Need-add-from
 add-from c =
     let earlier = c .before .before .before .before in
-    omega (arith, one-inside (earlier))
+    omega (arith, one-inside earlier)
 
 cast-to : tie.Need-cast-to
 cast-to c = search needs
@@ -59,7 +59,7 @@ cast-to c = search needs
 add-to : tie.Need-add-to
 add-to c =
     let earlier = c .before .before .before .before .before in
-    omega (arith, other-inside (earlier) (c .before .before .if1 .left))
+    omega (arith, other-inside earlier (c .before .before .if1 .left))
 
 cast-same-bytes : tie.Need-cast-same-bytes
 cast-same-bytes c = search needs
