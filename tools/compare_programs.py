@@ -1,5 +1,5 @@
 #!/usr/bin/env python3
-"""Compares the programs flatten, flatten_equalities and equalities with the Rust: standard output and standard error byte by byte, and the exit status.
+"""Compares the programs flatten, flatten_equalities, equalities and cut_flat with the Rust: standard output and standard error byte by byte, and the exit status.
 
     python3 tools/compare_programs.py ORACLE TWIN BIN SEED N [KIND..] [--jobs J] [--timeout S]
 
@@ -7,9 +7,9 @@ ORACLE and TWIN are built by oracle/build.sh, BIN is the folder of the proved pr
 SEED on, for each KIND: source records of the oracle's generator (mixed, plain, rich, big, deep) and flat records (flat); all six by default.
 
 A source record goes through flatten_equalities, and through flatten without arguments, with a store that is just full, with one that is a node short (30), with an
-output that is just long enough, and with one that is a byte short (33). A flat record goes through equalities as it is and with a word changed, and the oracle's
-command of that name has to print the same. The text of a constraint record is made here, as document 01 says. Besides, each time: arguments of flatten, right
-and wrong; records that are none, by every rule of the reader; lists and ids at their limits and one over; inputs that are as long as any legal one, longer, or
+output that is just long enough, and with one that is a byte short (33). A flat record goes, as it is and with a word changed, through equalities, and the
+oracle's command of that name has to print the same, and through cut_flat without an argument, with an output that is just long enough, and with one that is a
+byte short (33). The text of a constraint record is made here, as document 01 says. Besides, each time: arguments of flatten, right and wrong; records that are none, by every rule of the reader; lists and ids at their limits and one over; inputs that are as long as any legal one, longer, or
 empty; flat records and outputs as long as equalities lends, and longer.
 
 Printed are the counts of records by cause, as in tools/compare_flatten.py, and of runs by answer. The exit status says whether anything differs.
@@ -33,6 +33,7 @@ from plain_agreement import COPY, NEGATE, element, equalities_of
 from source_records import LAST_COUNT, LAST_SOURCE, ORACLE_KINDS, Answer, answers, generated, model, module_record
 from trees import C, D, EQ, I, V
 
+sys.set_int_max_str_digits(5000)  # arguments of 4,096 digits
 STORE, OUTPUT = 16 * LAST_COUNT, 1016088  # what flatten lends at most
 LENT = 65536  # what equalities lends
 SIGNS = "/|*+-=^\\%"
@@ -73,11 +74,21 @@ def source_runs(answer):
 
 def argument_runs(answer):
     """Arguments of flatten, right and wrong."""
-    for right in ((0,), (0, 0), (STORE, 0), (STORE, OUTPUT), (STORE + 1, OUTPUT + 1), (2**64 + 16, 2**64 + 16), (10**39, 10**39), (STORE, OUTPUT, 7)):
+    for right in ((0,), (0, 0), (STORE, 0), (STORE, OUTPUT), (STORE + 1, OUTPUT + 1), (2**64 + 16, 2**64 + 16), (10**40, 10**40), (10**4095, OUTPUT)):
         yield flatten(answer, right)
-    for wrong in ("", "x", "-1", "+1", " 1", "1 ", "16:", "16/", "0x10", "1e6", 10**40):
-        for arguments in ((wrong,), (wrong, OUTPUT), (STORE, wrong)):
+    for wrong in ("", "x", "-1", "+1", " 1", "1 ", "16:", "16/", "0x10", "1e6", "1" + "0" * 4096):
+        for arguments in ((wrong,), (wrong, OUTPUT), (STORE, wrong), (STORE, OUTPUT, 7)):
             yield "flatten", arguments, "usage", b"", b"usage: flatten [STORE [OUTPUT]] < RECORD\n"
+
+
+def flat_runs(answer):
+    """The runs of a flat record through cut_flat: the oracle's constraint record, or its refusal."""
+    if isinstance(answer, int):
+        yield "cut_flat", (), named(answer), b"", b"refused %d\n" % answer
+        return
+    for arguments in ((), (len(answer),)):
+        yield "cut_flat", arguments, named(0), answer, b""
+    yield "cut_flat", (len(answer) - 1,), named(33), b"", b"refused 33\n"
 
 
 SHORT = module_record((["z"], [D("y", V("x"))], [I(EQ, ("neg", V("y")), V("z"))]))
@@ -141,7 +152,8 @@ class Comparison:
             number = 20 if len(record) > LENT else answer if isinstance(answer, int) else 33 if len(answer) > LENT else 0
             run = printed("equalities", number, answer)
             self.causes["flat records: " + named(number)] += 1
-            self.run(record, *run)
+            for each in (run, *flat_runs(answer)):
+                self.run(record, *each)
             if subprocess.run([self.a.oracle, "equalities"], input=record, capture_output=True, check=True).stdout != run[3]:
                 self.differs("the oracle's equalities, expected: " + named(number), (), record)
 
