@@ -148,6 +148,13 @@ module _ (m : ConstraintModule) where
   pub length-size : length b ≡ 4 * size b
   length-size = omega (arith, length-bytes m, publics-count, provers-count, equalities-count, kept-count, nodes-count)
 
+  -- so what `equality_at` and `kept_at` ask holds of each of its entries
+  pub equality-asked : (k : ℕ) → k < equalities b → 4 * (equalitiesAt b + EQUALITY-WORDS * k + EQUALITY-WORDS) ≤ length b
+  equality-asked k l = omega (arith, length-size, l)
+
+  pub kept-asked : (k : ℕ) → k < kept b → 4 * (keptAt b + KEPT-WORDS * k + KEPT-WORDS) ≤ length b
+  kept-asked k l = omega (arith, length-size, l)
+
   -- the lists stand at their places
   publics-stand : Stands b HEADER (P ++ (Q ++ (E ++ (K ++ N))))
   unfolding headerWords H

@@ -8,6 +8,7 @@ use mir.Syntax.{w32}
 use Rattle.words.specs.Words.{wordAt}
 use Rattle.flat.specs.Trees.{Definition}
 use Rattle.flat.specs.Rules.{All}
+pub use Rattle.flat.specs.Layout.{next, publics, provers, nodes, proversAt}
 use Rattle.flat.specs.Layout.{publicAt, proverAt}
 use Rattle.flat.specs.Record.{rows, pick, operatorOf, definitionAt}
 pub use Rattle.flat.specs.Writer.{SignedTree}
@@ -21,32 +22,18 @@ use Rattle.constraint.specs.Record.{constraintBytes, COPY, EQUALITY-WORD
 
 -- ---- the layout
 
--- "words: next id, counts of publics, prover ids, equalities, kept definitions, nodes; then the lists"
+-- "words: next id, counts of publics, prover ids, equalities, kept definitions, nodes; then the lists": the header is a flat record's, with equalities and
+-- kept definitions for its two lists
 module _ (b : List ℕ) where
-  abbrev pub next : ℕ
-  next = wordAt b 0
-
-  abbrev pub publics : ℕ
-  publics = wordAt b 1
-
-  abbrev pub provers : ℕ
-  provers = wordAt b 2
-
   abbrev pub equalities : ℕ
   equalities = wordAt b 3
 
   abbrev pub kept : ℕ
   kept = wordAt b 4
 
-  abbrev pub nodes : ℕ
-  nodes = wordAt b 5
-
-  -- where each list starts, in words, and where the record ends; the public ids start behind the header
-  abbrev pub proversAt : ℕ
-  proversAt = HEADER + publics
-
+  -- where these lists start, in words, and where the record ends; public and prover ids start as in a flat record
   abbrev pub equalitiesAt : ℕ
-  equalitiesAt = proversAt + provers
+  equalitiesAt = proversAt b + provers b
 
   abbrev pub keptAt : ℕ
   keptAt = equalitiesAt + EQUALITY-WORDS * equalities
@@ -55,7 +42,7 @@ module _ (b : List ℕ) where
   nodesAt = keptAt + KEPT-WORDS * kept
 
   abbrev pub size : ℕ
-  size = nodesAt + NODE-WORDS * nodes
+  size = nodesAt + NODE-WORDS * nodes b
 
 -- the header's numbers and the places of the lists, as the code has them
 unfoldable pub layoutOf : List ℕ → Layout
