@@ -8,7 +8,7 @@ use native.Mathlib.Omega.{arith}
 use lib.IntN.{pow, one, pow-succ', ℤ, pos, negℤ, _+ℤ_, _*ℤ_, +ℤ-comm, *ℤ-comm, +ℤ-idr}
 use Rattle.field.specs.Prime.{Prime}
 use Rattle.field.specs.Element.{res, centre, elem}
-use Rattle.field.specs.Operations.{sum, product, opposite, inverse, quotient, power}
+use Rattle.field.specs.Operations.{sum, difference, product, opposite, inverse, quotient, power}
 use Rattle.field.proofs.Modular.{inv-right, mod-mul-mod, mul-mod-mod, quotient-unique, quotient-right, product-pos, inv-unique}
 use Rattle.field.proofs.Elements.{res-lt, res-elem, res-add, res-mul, res-opp, res-centre}
 use Rattle.field.proofs.Elements.{elem-elem, elem-of-res, elem-zero, zero-elem, add-elem, mul-elem}
@@ -54,6 +54,21 @@ module _ (p : ℕ) (prime : Prime p) where
       ∙ (let e : res p a + (p - res p a) ≡ p = omega (arith, res-lt p above a) in ap (λ (k : ℕ). k % p) e)
       ∙ mod-self p)
 
+  -- and no other element is the opposite
+  pub opposite-only : (a b : ℤ) → sum p a b ≡ pos 0 → elem p b ≡ elem p (opposite p a)
+  opposite-only a b e =
+      sym (sum-zero b)
+      ∙ ap (sum p b) (sym (sum-opposite a))
+      ∙ sym (sum-regroups b a (opposite p a))
+      ∙ ap (λ (z : ℤ). sum p z (opposite p a)) (sum-commutes b a ∙ e)
+      ∙ sum-commutes (pos 0) (opposite p a)
+      ∙ sum-zero (opposite p a)
+
+  -- a difference is the sum with the opposite
+  pub difference-sum : (a b : ℤ) → difference p a b ≡ sum p a (opposite p b)
+  unfolding sum difference opposite
+  difference-sum a b = sym (add-elem p above a (negℤ b))
+
   -- products
   pub product-commutes : (a b : ℤ) → product p a b ≡ product p b a
   unfolding sum product opposite
@@ -98,6 +113,10 @@ module _ (p : ℕ) (prime : Prime p) where
       ∙ ap₂ (λ (k l : ℕ). (k + l) % p) (res-elem p above (a *ℤ b) ∙ res-mul p above a b) (res-elem p above (a *ℤ c) ∙ res-mul p above a c)
       ∙ mod-add-mod (res p a * res p b) p _
       ∙ add-mod-mod _ (res p a * res p c) p))
+
+  pub product-distributes-right : (a b c : ℤ) → product p (sum p a b) c ≡ sum p (product p a c) (product p b c)
+  product-distributes-right a b c =
+      product-commutes (sum p a b) c ∙ product-distributes c a b ∙ ap₂ (sum p) (product-commutes c a) (product-commutes c b)
 
   -- quotients by a number that p does not divide: the quotient times the divisor is the dividend, no other element has this, and a product over its factor is
   -- the other

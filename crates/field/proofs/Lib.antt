@@ -12,3 +12,4 @@ pub mod Counting
 pub mod Signed
 pub mod Calls
 pub mod Table
+pub mod Desk

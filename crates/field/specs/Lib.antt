@@ -3,3 +3,4 @@ pub mod Element
 pub mod Operations
 pub mod Counts
 pub mod Cases
+pub mod Desk

@@ -1,10 +1,16 @@
-// Runs the field on vectors that another program made, and writes how many there were and how many answers differ. A write that
-// fails is said on standard error.
+// Runs the field on vectors that another program made, and the desk's laws on numbers at the edges and on such vectors, and writes how
+// many there were and how many answers differ. A write that fails is said on standard error.
+mod law_vectors;
+mod laws;
 mod vectors;
 
 ghost use Prim.Native.Nat.{_≤_};
 use field::Answer;
 use field::InfixOp;
+use law_vectors::LAW_ROWS;
+use law_vectors::LAW_VECTORS;
+use laws::differing_laws;
+use laws::laws_at_edges;
 use streams::Opened;
 use streams::open_standard;
 use test_report::Part;
@@ -109,5 +115,15 @@ fn main() {
     };
     let powers = POWERS;
     let of_powers = [COUNTS as u64, differing_counts(&powers)];
-    tell_last(b"# power counts, # differ\n", &of_powers);
+    let Part::Whole = tell(b"# power counts, # differ\n", &of_powers) else {
+        return;
+    };
+    let edges = laws_at_edges();
+    let of_edges = [edges.cases, edges.differ];
+    let Part::Whole = tell(b"# law cases at the edges, # differ\n", &of_edges) else {
+        return;
+    };
+    let law_vectors = LAW_VECTORS;
+    let of_laws = [LAW_ROWS as u64, differing_laws(&law_vectors)];
+    tell_last(b"# law vectors, # differ\n", &of_laws);
 }
