@@ -165,7 +165,7 @@ def accepted():
 
 
 def powers():
-    """Exponents around the table of 64 counts, and far above it."""
+    """Small exponents, those around powers of two, and the largest."""
     for n in [*range(0, 10), 15, 16, 17, 31, 32, 33, 62, 63, 64, 65, 66, 127, 128, 129, 1023, (1 << 30) - 1, -1, -2, -3, -64, -65, 2147483645, 2147483646, 2147483647, -2147483648]:
         yield define(I(EXP, X, C(n)), I(EXP, ("neg", X), C(n)))
 

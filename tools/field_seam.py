@@ -24,6 +24,7 @@ COMPUTED = {
     "eval_trees/proofs/Cases.antt",
     "eval_trees/proofs/Compute.antt",
     "eval_trees/proofs/Limits.antt",
+    "eval_trees/proofs/PowersExample.antt",
     "flatten_entry/proofs/Cases.antt",
     "plain/proofs/Example.antt",
 }

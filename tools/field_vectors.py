@@ -3,7 +3,8 @@
 
     python3 tools/field_vectors.py > crates/test_field/src/vectors.rt && rt fmt
 
-Inverses by pow(b, -1, p), quotients by //, powers by pow(a, n, p). Counts of a power by the rule of document 01.
+Inverses by pow(b, -1, p), quotients by //, powers by pow(a, n, p). Counts of a power by the rule of document 02, on Python's integers; each is
+compared with a run that raises a base by squares and counts the products.
 """
 import itertools
 import random
@@ -46,13 +47,29 @@ def infix(op, a, b):
 
 
 def count(n):
-    return 0 if n <= 1 else count(n // 2) + 1 + n % 2
+    """The position of the highest one bit, counted from 0, plus the number of one bits, less 1; 0 leaves none."""
+    return n.bit_length() - 1 + bin(n).count("1") - 1 if n else 0
+
+
+def products(n):
+    """How many products raise a base to n: for each bit behind the highest a square, and a factor where it is 1. Exponents stand for the powers."""
+    reached, made = 1, 0
+    for bit in bin(n)[3:]:
+        reached, made = 2 * reached, made + 1
+        if bit == "1":
+            reached, made = reached + 1, made + 1
+    assert reached == n
+    return made
 
 
 EDGES = [0, 1, -1, 2, -2, 3, -3, 7, -7, 511, 512, 513, -512, -513, HALF, -HALF, HALF + 1, -HALF - 1, P, -P, P - 1, P + 1,
          1 - P, 2**31, -(2**31), LOW, LOW + 1, HIGH, HIGH - 1]
 EXPONENTS = [0, 1, -1, 2, -2, 3, -3, 5, 64, 65, -64, -65, HALF, -HALF, HALF + 1, P - 1, P, 2**31, LOW, HIGH]
-COUNTS = list(range(0, 131)) + [2**k + d for k in range(8, 64) for d in (-1, 0, 1)] + [2**64 - 1, 2**64 - 2]
+FIRST = range(1, 1001)
+DRAW = random.Random(63)
+DRAWN = [DRAW.randint(1, 2**DRAW.randint(11, 63)) for _ in range(200)]
+COUNTS = [0] + [2**k + d for k in range(10, 64) for d in (-1, 0, 1)] + [2**64 - 2, 2**64 - 1] + DRAWN
+assert all(count(n) == products(n) for n in [*FIRST, *COUNTS[1:]])
 
 
 def vectors():
@@ -92,7 +109,13 @@ print(f"pub const VECTORS: [i64; {5 * len(rows)}] = [")
 for op, a, b, v in rows:
     print(f"    {op}, {a}, {b}, {0 if v is None else 1}, {0 if v is None else v},")
 print("];\n")
-print("// An exponent and its count of definitions.")
+print("// The counts of definitions of the exponents from 1 on.")
+print(f"pub const FIRST: usize = {len(FIRST)};\n")
+print(f"pub const FIRST_COUNTS: [u64; {len(FIRST)}] = [")
+for n in FIRST:
+    print(f"    {count(n)},")
+print("];\n")
+print("// An exponent and its count.")
 print(f"pub const COUNTS: usize = {len(COUNTS)};\n")
 print(f"pub const POWERS: [u64; {2 * len(COUNTS)}] = [")
 for n in COUNTS:

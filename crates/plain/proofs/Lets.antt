@@ -43,19 +43,19 @@ module _ {B : ℕ → Bool} {n : ℕ} where
   unfolding captureEnv return
   capture-term env s (ofConstant c) = refl
   capture-term env s (ofVariable f l) = refl
-  capture-term env s (ofNegate a) = refl
+  capture-term env s (ofNegate nc a) = refl
 
   pub expand-term : {w : Expr} (x : ℕ) (s : State) → Term B n w → expandPatternVariables (variableP x) w [] s ≡ gives (variableP x, ((x, none) ∷ [])) s
   unfolding expandPatternVariables expandVariable unexpanded refuseIf hasKey _>>_ after return
   expand-term x s (ofConstant c) = refl
   expand-term x s (ofVariable f l) = refl
-  expand-term x s (ofNegate a) = refl
+  expand-term x s (ofNegate nc a) = refl
 
   pub define-term : {w : Expr} (x : ℕ) (s : State) → Term B n w → flattenBinding (variableP x) w s ≡ pushDefinition x w s
   unfolding flattenBinding defines isNumber kind
   define-term x s (ofConstant c) = refl
   define-term x s (ofVariable f l) = refl
-  define-term x s (ofNegate a) = refl
+  define-term x s (ofNegate nc a) = refl
 
   resolve-term : {w : Expr} (k : ℕ) (s : State) → ((x : ℕ) → B x ≡ false → lookUp x (s .bindings) ≡ none) → Term B n w → resolve k w s ≡ gives (w, k) s
   unfolding resolve onVariable bound _>>=_ after get return follow
@@ -63,8 +63,8 @@ module _ {B : ℕ → Bool} {n : ℕ} where
   resolve-term (suc k) s h (ofConstant c) = refl
   resolve-term zero s h (ofVariable {x = x} f l) = ap (λ (o : Option Expr). follow (λ v. refuse 19) (variable x) 0 o s) (h x f)
   resolve-term (suc k) s h (ofVariable {x = x} f l) = ap (λ (o : Option Expr). follow (resolve k) (variable x) (suc k) o s) (h x f)
-  resolve-term zero s h (ofNegate a) = refl
-  resolve-term (suc k) s h (ofNegate a) = refl
+  resolve-term zero s h (ofNegate nc a) = refl
+  resolve-term (suc k) s h (ofNegate nc a) = refl
 
   pub match-term : {w : Expr} (x : ℕ) (ext : Env) (s : State) → ((x : ℕ) → B x ≡ false → lookUp x (s .bindings) ≡ none) → Term B n w
       → matchPatternExpr (variableP x) w 256 ext s ≡ gives (True, insert x w ext) s

@@ -113,7 +113,7 @@ module _ (B : ℕ → Bool) (N : ℕ) (beyond : (x : ℕ) → N ≤ x → B x �
   unfolding flatOf
   term-free {n} f (ofConstant c) h = subst (Every (Free n)) (some-path _ f h) tt
   term-free {n} f (ofVariable b l) h = subst (Every (Free n)) (some-path _ f h) (b, l)
-  term-free {n} f (ofNegate {a = a} m) h = opposed-free n (flatOf a) f (λ g. term-free g m) h
+  term-free {n} f (ofNegate {a = a} nc m) h = opposed-free n (flatOf a) f (λ g. term-free g m) h
 
   abbrev Keeping : State → State → Type 0
   Keeping s u = (x : ℕ) → B x ≡ false → x < s .next → run t (u .definitions) x ≡ run t (s .definitions) x
@@ -168,7 +168,7 @@ module _ (B : ℕ → Bool) (N : ℕ) (beyond : (x : ℕ) → N ≤ x → B x �
   unfolding flattenEquals
   equates-term b s (ofConstant c) = refl
   equates-term b s (ofVariable f l) = refl
-  equates-term b s (ofNegate a) = refl
+  equates-term b s (ofNegate nc a) = refl
 
   equated-by : {a b : Expr} {s s1 u : State} → Equated a b s s1 → u .next ≡ s1 .next → u .bindings ≡ s1 .bindings → u .provers ≡ s1 .provers
       → u .definitions ≡ s1 .definitions → u .equations ≡ s1 .equations → Equated a b s u

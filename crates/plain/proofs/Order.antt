@@ -46,7 +46,7 @@ use Rattle.eval_trees.proofs.Helpers.{infix-case}
 use Rattle.plain.specs.Plain.{isArithmetic}
 use Rattle.plain.proofs.Values.{false-true, some-path, none-some}
 use Rattle.plain.proofs.Terms.{Term, ofConstant, ofVariable, ofNegate, Scoped, sConstant, sBound}
-use Rattle.plain.proofs.Terms.{sFree, sNegate, sBinary, sLet, term-up, term-scoped, infix-scoped}
+use Rattle.plain.proofs.Terms.{sFree, sNegate, sBinary, sLet, variable-not, negate-not, term-up, term-scoped, infix-scoped}
 use Rattle.plain.proofs.Lets.{capture-term, expand-term, define-term, match-term}
 
 -- the binders of an expression: rising from lo on, below hi
@@ -152,7 +152,7 @@ infix-spans {n} {a} {b} o p q = infix-case (λ e. Spans n e n) o a b p q (spansC
 term-spans : {B : ℕ → Bool} {n : ℕ} {e : Expr} (m : ℕ) → Term B n e → Spans m e m
 term-spans m (ofConstant c) = spansConstant (le-refl m)
 term-spans m (ofVariable f l) = spansVariable (le-refl m)
-term-spans m (ofNegate a) = spansNegate (term-spans m a)
+term-spans m (ofNegate nc a) = spansNegate (term-spans m a)
 
 module _ (B : ℕ → Bool) (N : ℕ) (beyond : (x : ℕ) → N ≤ x → B x ≡ false) where
   abbrev pub Input : ℕ → Type 0
@@ -238,7 +238,7 @@ module _ (B : ℕ → Bool) (N : ℕ) (beyond : (x : ℕ) → N ≤ x → B x �
       go : Dec (x < N) → From Input (s .definitions) x
       go (yes h) n = (f, h)
       go (no h) n = absurd (false-true (sym n ∙ w .drawn x (omega arith) l))
-  term-uses w (ofNegate a) = uses-negate (term-uses w a)
+  term-uses w (ofNegate nc a) = uses-negate (term-uses w a)
 
   -- a definition is pushed: of a binder from lo on, or of the id just drawn
   pushed-tidy : (lo hi : ℕ) (s u : State) (i : ℕ) (f : Flat) → Tidy lo s → lo ≤ hi → u .provers ≡ s .provers → s .next ≤ u .next
@@ -318,10 +318,10 @@ module _ (B : ℕ → Bool) (N : ℕ) (beyond : (x : ℕ) → N ≤ x → B x �
       answered-shape ev lo (infixOf P o m n) s u v (infix-element P P-prime o m n) e k
   operation-shape ev lo o s u v (ofConstant ca) (ofVariable fb lb) e k =
       defined-shape ev lo _ s u v e k (infix-uses o (term-uses k (ofConstant ca)) (term-uses k (ofVariable fb lb)))
-  operation-shape ev lo o s u v (ofConstant ca) (ofNegate tb) e k =
-      defined-shape ev lo _ s u v e k (infix-uses o (term-uses k (ofConstant ca)) (term-uses k (ofNegate tb)))
+  operation-shape ev lo o s u v (ofConstant ca) (ofNegate nc tb) e k =
+      defined-shape ev lo _ s u v e k (infix-uses o (term-uses k (ofConstant ca)) (term-uses k (ofNegate nc tb)))
   operation-shape ev lo o s u v (ofVariable fa la) tb e k = defined-shape ev lo _ s u v e k (infix-uses o (term-uses k (ofVariable fa la)) (term-uses k tb))
-  operation-shape ev lo o s u v (ofNegate ta) tb e k = defined-shape ev lo _ s u v e k (infix-uses o (term-uses k (ofNegate ta)) (term-uses k tb))
+  operation-shape ev lo o s u v (ofNegate nc ta) tb e k = defined-shape ev lo _ s u v e k (infix-uses o (term-uses k (ofNegate nc ta)) (term-uses k tb))
 
   -- what evaluates at one level less keeps the order
   abbrev pub KeepsOrder : (Expr → Run Expr) → Type 0
@@ -388,9 +388,9 @@ module _ (B : ℕ → Bool) (N : ℕ) (beyond : (x : ℕ) → N ≤ x → B x �
   power-infix ev ih lo ll s u v (ofConstant {m = m} ca) (ofConstant {m = n} cb) e k f =
       answered-shape ev lo (infixOf P Exponentiate m n) s u v (infix-element P P-prime Exponentiate m n) e k
   power-infix ev ih lo ll s u v (ofVariable fa la) (ofConstant {m = n} cb) e k f = power-shape ev ih lo ll n s u v (ofVariable fa la) e k f
-  power-infix ev ih lo ll s u v (ofNegate ta) (ofConstant {m = n} cb) e k f = power-shape ev ih lo ll n s u v (ofNegate ta) e k f
+  power-infix ev ih lo ll s u v (ofNegate nc ta) (ofConstant {m = n} cb) e k f = power-shape ev ih lo ll n s u v (ofNegate nc ta) e k f
   power-infix ev ih lo ll s u v ta (ofVariable fb lb) e k f = absurd (refused-gives 11 v u e)
-  power-infix ev ih lo ll s u v ta (ofNegate tb) e k f = absurd (refused-gives 11 v u e)
+  power-infix ev ih lo ll s u v ta (ofNegate nc tb) e k f = absurd (refused-gives 11 v u e)
 
   infix-shape : (ev : Expr → Run Expr) → KeepsOrder ev → (lo : ℕ) → lo ≤ N → (o : InfixOp) {a b : Expr} (s u : State) (v : Expr) → isArithmetic o ≡ true
       → Term B (s .next) a → Term B (s .next) b → evaluateInfix ev o a b s ≡ gives v u → Tidy lo s → Free s → Shape lo s u v
@@ -408,8 +408,8 @@ module _ (B : ℕ → Bool) (N : ℕ) (beyond : (x : ℕ) → N ≤ x → B x �
   negated-term : {n : ℕ} {a : Expr} → Term B n a → Term B n (onConstant a (λ m. constant (opposite P m)) (negate a))
   unfolding onConstant
   negated-term (ofConstant {m = m} c) = ofConstant (opposite-element P P-prime m)
-  negated-term (ofVariable f l) = ofNegate (ofVariable f l)
-  negated-term (ofNegate a) = ofNegate (ofNegate a)
+  negated-term (ofVariable f l) = ofNegate variable-not (ofVariable f l)
+  negated-term (ofNegate nc a) = ofNegate negate-not (ofNegate nc a)
 
   negate-shape : (ev : Expr → Run Expr) (lo : ℕ) {a : Expr} (s u : State) (v : Expr) → Term B (s .next) a → Evaluation.negated ev a s ≡ gives v u
       → Tidy lo s → Shape lo s u v

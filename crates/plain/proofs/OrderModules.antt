@@ -110,7 +110,7 @@ module _ (B : ℕ → Bool) (N : ℕ) (beyond : (x : ℕ) → N ≤ x → B x �
   term-drawn : {n : ℕ} {e : Expr} → Term B n e → Uses (Drawn n) e
   term-drawn (ofConstant c) = uses-constant
   term-drawn (ofVariable f l) = uses-variable (f, l)
-  term-drawn (ofNegate a) = uses-negate (term-drawn a)
+  term-drawn (ofNegate nc a) = uses-negate (term-drawn a)
 
   sides-up : (n m : ℕ) → n ≤ m → (es : List Equation) → All (Sides n) es → All (Sides m) es
   sides-up n m l es h = all-map (Sides n) (Sides m) (λ e w. (

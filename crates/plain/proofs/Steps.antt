@@ -38,6 +38,7 @@ use Rattle.plain.specs.Meaning.{Table, valueOf}
 use Rattle.plain.proofs.Values.{false-true, negated-value, update-same, update-other, value-element}
 use Rattle.plain.proofs.Values.{table, flat-value, cond-case, binary-value, infix-value}
 use Rattle.plain.proofs.Terms.{run, RunValued, now, now-canonical, Term, ofConstant, ofVariable, ofNegate, Scoped, sConstant, sBinary}
+use Rattle.plain.proofs.Terms.{variable-not, negate-not}
 use Rattle.plain.proofs.Terms.{term-up, term-scoped, infix-scoped, Core, Grew, Unbound, SameBindings, Result, Stands, Agree, grew-trans}
 use Rattle.plain.proofs.Terms.{bindings-trans, same-grew, same-core, same-bindings, unbound-same, kept-value, counted, following, own-table}
 
@@ -135,9 +136,9 @@ module _ (B : ℕ → Bool) (N : ℕ) (beyond : (x : ℕ) → N ≤ x → B x �
       answered-result ev (infixOf P o m n) s u v z e (ap₂ (infixOf P o) (sym (constant-is _ m x ca p)) (sym (constant-is _ n y cb q)) ∙ h)
       (infix-element P P-prime o x y z h) k
   operation-result ev o s u v x y z (ofConstant ca) (ofVariable fb lb) p q h e k = defined-result ev _ s u v z e k (by-infix s x y z _ _ p q o h)
-  operation-result ev o s u v x y z (ofConstant ca) (ofNegate tb) p q h e k = defined-result ev _ s u v z e k (by-infix s x y z _ _ p q o h)
+  operation-result ev o s u v x y z (ofConstant ca) (ofNegate nc tb) p q h e k = defined-result ev _ s u v z e k (by-infix s x y z _ _ p q o h)
   operation-result ev o s u v x y z (ofVariable fa la) tb p q h e k = defined-result ev _ s u v z e k (by-infix s x y z _ _ p q o h)
-  operation-result ev o s u v x y z (ofNegate ta) tb p q h e k = defined-result ev _ s u v z e k (by-infix s x y z _ _ p q o h)
+  operation-result ev o s u v x y z (ofNegate nc ta) tb p q h e k = defined-result ev _ s u v z e k (by-infix s x y z _ _ p q o h)
 
   -- an expression made of terms, evaluated at once
   made-result : (ev : Expr → Run Expr) → Keeps B N t ev → (e : Expr) (s u : State) (v : Expr) (z : ℤ) → Scoped B (s .next) [] e → ev e s ≡ gives v u
@@ -253,10 +254,10 @@ module _ (B : ℕ → Bool) (N : ℕ) (beyond : (x : ℕ) → N ≤ x → B x �
       (ap₂ (infixOf P Exponentiate) (sym (constant-is _ m x ca p)) (sym (constant-is _ n y cb q)) ∙ h) (infix-element P P-prime Exponentiate x y z h) k
   power-infix ev ih s u v x y z (ofVariable fa la) (ofConstant {m = n} cb) p q h e k f =
       power-result ev ih n s u v x z (ofVariable fa la) p cb (ap (infixOf P Exponentiate x) (sym (constant-is _ n y cb q)) ∙ h) e k f
-  power-infix ev ih s u v x y z (ofNegate ta) (ofConstant {m = n} cb) p q h e k f =
-      power-result ev ih n s u v x z (ofNegate ta) p cb (ap (infixOf P Exponentiate x) (sym (constant-is _ n y cb q)) ∙ h) e k f
+  power-infix ev ih s u v x y z (ofNegate nc ta) (ofConstant {m = n} cb) p q h e k f =
+      power-result ev ih n s u v x z (ofNegate nc ta) p cb (ap (infixOf P Exponentiate x) (sym (constant-is _ n y cb q)) ∙ h) e k f
   power-infix ev ih s u v x y z ta (ofVariable fb lb) p q h e k f = absurd (refused-gives 11 v u e)
-  power-infix ev ih s u v x y z ta (ofNegate tb) p q h e k f = absurd (refused-gives 11 v u e)
+  power-infix ev ih s u v x y z ta (ofNegate nc tb) p q h e k f = absurd (refused-gives 11 v u e)
 
   pub infix-result : (ev : Expr → Run Expr) → Keeps B N t ev → (o : InfixOp) {a b : Expr} (s u : State) (v : Expr) (x y z : ℤ) → isArithmetic o ≡ true
       → Term B (s .next) a → Term B (s .next) b → valueOf (now t s) a ≡ Value x → valueOf (now t s) b ≡ Value y → infixOf P o x y ≡ Value z
@@ -276,15 +277,15 @@ module _ (B : ℕ → Bool) (N : ℕ) (beyond : (x : ℕ) → N ≤ x → B x �
   negated-term : {n : ℕ} {a : Expr} → Term B n a → Term B n (onConstant a (λ m. constant (opposite P m)) (negate a))
   unfolding onConstant
   negated-term (ofConstant {m = m} c) = ofConstant (opposite-element P P-prime m)
-  negated-term (ofVariable f l) = ofNegate (ofVariable f l)
-  negated-term (ofNegate a) = ofNegate (ofNegate a)
+  negated-term (ofVariable f l) = ofNegate variable-not (ofVariable f l)
+  negated-term (ofNegate nc a) = ofNegate negate-not (ofNegate nc a)
 
   negation-value : (τ : Table) {n : ℕ} {a : Expr} (x : ℤ) → Term B n a → valueOf τ a ≡ Value x
       → valueOf τ (onConstant a (λ m. constant (opposite P m)) (negate a)) ≡ Value (opposite P x)
   unfolding onConstant valueOf
   negation-value τ x (ofConstant {m = m} c) p = ap Value (opposite-element P P-prime m ∙ ap (opposite P) (sym (constant-is τ m x c p)))
   negation-value τ x (ofVariable f l) p = negated-value _ x p
-  negation-value τ x (ofNegate a) p = negated-value _ x p
+  negation-value τ x (ofNegate nc a) p = negated-value _ x p
 
   pub negate-result : (ev : Expr → Run Expr) {a : Expr} (s u : State) (v : Expr) (x z : ℤ) → Term B (s .next) a → valueOf (now t s) a ≡ Value x
       → opposite P x ≡ z → Evaluation.negated ev a s ≡ gives v u → Core B N t s → Result B N t s u v z

@@ -74,12 +74,21 @@ run-elements t c (d ∷ ds) = update-elements (run t ds) (run-elements t c ds) (
 pub now-canonical : (t : Assignment) → Elements t → (s : State) → Canonical (now t s)
 now-canonical t c s x z e = element-path _ z (value-path _ z e) (run-elements t c (s .definitions) x)
 
+abbrev pub NotConstant : Expr → Type 0
+NotConstant a = (m : ℤ) → a ≡ constant m → ⊥
+
+pub variable-not : {x : ℕ} → NotConstant (variable x)
+variable-not m e = let o : _≡_ {A = ℕ} 0 1 = cc in omega arith
+
+pub negate-not : {a : Expr} → NotConstant (negate a)
+negate-not m e = let o : _≡_ {A = ℕ} 0 1 = cc in omega arith
+
 -- B says of an id that a pattern binds it (or that it is an intrinsic's). What a plain expression evaluates to: a constant, a variable that is
 -- an input or was drawn in evaluation, or the negation of such. n is above its ids
 pub data Term (B : ℕ → Bool) (n : ℕ) : Expr → Type 0 where
   ofConstant : {m : ℤ} → elem P m ≡ m → Term B n (constant m)
   ofVariable : {x : ℕ} → B x ≡ false → x < n → Term B n (variable x)
-  ofNegate : {a : Expr} → Term B n a → Term B n (negate a)
+  ofNegate : {a : Expr} → NotConstant a → Term B n a → Term B n (negate a)
 
 -- a plain numbered expression: the ids in Γ are bound, other variables are free ids below k
 pub data Scoped (B : ℕ → Bool) (k : ℕ) : List ℕ → Expr → Type 0 where
@@ -94,18 +103,18 @@ module _ {B : ℕ → Bool} where
   pub term-up : {n m : ℕ} {e : Expr} → n ≤ m → Term B n e → Term B m e
   term-up h (ofConstant c) = ofConstant c
   term-up h (ofVariable f l) = ofVariable f (omega arith)
-  term-up h (ofNegate a) = ofNegate (term-up h a)
+  term-up h (ofNegate nc a) = ofNegate nc (term-up h a)
 
   pub term-scoped : {n : ℕ} {e : Expr} → Term B n e → Scoped B n [] e
   term-scoped (ofConstant c) = sConstant
   term-scoped (ofVariable f l) = sFree f l
-  term-scoped (ofNegate a) = sNegate (term-scoped a)
+  term-scoped (ofNegate nc a) = sNegate (term-scoped a)
 
   pub term-value : {n : ℕ} {e : Expr} (σ υ : Assignment) → ((x : ℕ) → B x ≡ false → x < n → υ x ≡ σ x) → Term B n e → valueOf (table υ) e ≡ valueOf (table σ) e
   unfolding valueOf
   term-value σ υ h (ofConstant c) = refl
   term-value σ υ h (ofVariable {x = x} f l) = ap Value (h x f l)
-  term-value σ υ h (ofNegate a) = ap negated (term-value σ υ h a)
+  term-value σ υ h (ofNegate nc a) = ap negated (term-value σ υ h a)
 
   pub infix-scoped : {n : ℕ} {Γ : List ℕ} {a b : Expr} (o : InfixOp) → isArithmetic o ≡ true → Scoped B n Γ a → Scoped B n Γ b
       → Scoped B n Γ (infixOp o a b .0)

@@ -17,6 +17,8 @@ use test_report::Part;
 use test_report::tell;
 use test_report::tell_last;
 use vectors::COUNTS;
+use vectors::FIRST;
+use vectors::FIRST_COUNTS;
 use vectors::POWERS;
 use vectors::ROWS;
 use vectors::VECTORS;
@@ -93,6 +95,18 @@ fn differing_vectors(rows: &[i64]) -> u64 {
     wrong
 }
 
+// The counts of the exponents from 1 on.
+fn differing_first(counts: &[u64]) -> u64 {
+    let mut wrong: u64 = 0;
+    let mut at: usize = 0;
+    while at < counts.len() {
+        let exponent = at + 1;
+        wrong += unequal(field::counts::power_count(exponent as u64), counts[at]);
+        at += 1;
+    }
+    wrong
+}
+
 // Rows of an exponent and its count.
 fn differing_counts(rows: &[u64]) -> u64 {
     let mut wrong: u64 = 0;
@@ -113,9 +127,14 @@ fn main() {
     let Part::Whole = tell(b"# vectors, # differ\n", &of_vectors) else {
         return;
     };
+    let first = FIRST_COUNTS;
+    let of_first = [FIRST as u64, differing_first(&first)];
+    let Part::Whole = tell(b"# power counts from 1 on, # differ\n", &of_first) else {
+        return;
+    };
     let powers = POWERS;
     let of_powers = [COUNTS as u64, differing_counts(&powers)];
-    let Part::Whole = tell(b"# power counts, # differ\n", &of_powers) else {
+    let Part::Whole = tell(b"# more power counts, # differ\n", &of_powers) else {
         return;
     };
     let edges = laws_at_edges();
