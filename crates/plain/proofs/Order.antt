@@ -29,7 +29,7 @@ use Rattle.flat.specs.Rules.{Every}
 use Rattle.numbering.specs.Inputs.{member}
 use Rattle.eval_trees.specs.Environments.{lookUp, insert, remove, Options, toOptions, kept, present, oldest}
 use Rattle.eval_trees.specs.Forms.{onConstant, flatOf, joined, opposed}
-use Rattle.eval_trees.specs.State.{State, gives, Run, after, isProver, bound, _>>=_, return, refuse, get, generateId, make, pushDefinition}
+use Rattle.eval_trees.specs.State.{State, gives, Run, after, isProver, bound, _>>=_, return, refuse, get, make}
 use Rattle.eval_trees.specs.Expand.{expandPatternVariables}
 use Rattle.eval_trees.specs.Flatten.{flattenBinding}
 use Rattle.eval_trees.specs.Match.{matchPatternExpr}
@@ -39,7 +39,8 @@ use Rattle.eval_trees.specs.Evaluation
 use Rattle.eval_trees.specs.Evaluation.{evaluate, step, defined, answered, boundTo, numbers, evaluateOperation, evaluatePower}
 use Rattle.eval_trees.specs.Evaluation.{evaluateInfix, evaluateVariable, evaluateBinding, enterLet, finishLets, letChain}
 use Rattle.eval_trees.proofs.Runs.{refused-gives, gives-value, gives-state, bind-case, then-case, bind-known, return-back}
-use Rattle.eval_trees.proofs.Runs.{past, got, Same, same-refl, same-trans, same-by, make-same, generate-back, push-back}
+use Rattle.eval_trees.proofs.Runs.{past, got, Same, same-refl, same-trans, same-by, make-same, push-back}
+use Rattle.eval_trees.proofs.Defining.{defined-back}
 use Rattle.eval_trees.proofs.Environments.{insert-same, insert-other}
 use Rattle.eval_trees.proofs.Exchange.{restored, restored-step, Exchanged, exchange-back, one-bound}
 use Rattle.eval_trees.proofs.Helpers.{infix-case}
@@ -279,28 +280,9 @@ module _ (B : ℕ → Bool) (N : ℕ) (beyond : (x : ℕ) → N ≤ x → B x �
 
   defined-shape : (ev : Expr → Run Expr) (lo : ℕ) (r : Expr × ℕ) (s u : State) (v : Expr) → defined ev r s ≡ gives v u → Tidy lo s
       → Uses (From Input (s .definitions)) (r .0) → Shape lo s u v
-  unfolding defined
   defined-shape ev lo r s u v e c h =
-      then-case (make (r .1)) _ s v u e λ y1 s1 first e1.
-      bind-case generateId _ s1 v u e1 λ i s2 second e2.
-      then-case (make 1) _ s2 v u e2 λ y3 s3 third e3.
-      then-case (pushDefinition i (r .0)) _ s3 v u e3 λ y4 s4 fourth e4.
-      then-case (make 1) _ s4 v u e4 λ y5 s5 fifth e5.
-      let m1 = make-same (r .1) s y1 s1 first in
-      let m2 = generate-back s1 i s2 second in
-      let m3 = make-same 1 s2 y3 s3 third in
-      let m4 = push-back i (r .0) s3 y4 s4 fourth in
-      let m5 = make-same 1 s4 y5 s5 fifth in
-      let b = return-back (variable i) v s5 u e5 in
-      new-definition lo (r .0) (m4 .tree) s u v i (sym (b .value)) (m2 .id ∙ m1 .next)
-      (ap (λ (w : State). w .next) (sym (b .state)) ∙ m5 .next ∙ m4 .next ∙ m3 .next ∙ m2 .next ∙ ap suc (m1 .next))
-      (ap (λ (w : State). w .bindings) (sym (b .state)) ∙ m5 .bindings ∙ m4 .bindings ∙ m3 .bindings ∙ m2 .bindings ∙ m1 .bindings)
-      (ap (λ (w : State). w .provers) (sym (b .state)) ∙ m5 .provers ∙ m4 .provers ∙ m3 .provers ∙ m2 .provers ∙ m1 .provers)
-      (ap (λ (w : State). w .definitions) (sym (b .state))
-      ∙ m5 .definitions
-      ∙ m4 .definitions
-      ∙ ap (λ (ds : List Definition). same i (m4 .tree) ∷ ds) (m3 .definitions ∙ m2 .definitions ∙ m1 .definitions))
-      (ap (λ (w : State). w .equations) (sym (b .state)) ∙ m5 .equations ∙ m4 .equations ∙ m3 .equations ∙ m2 .equations ∙ m1 .equations) c (m4 .is) h
+      let d = defined-back ev r s u v e in
+      new-definition lo (r .0) (d .tree) s u v (d .id) (d .value) (d .drawn) (d .next) (d .bindings) (d .provers) (d .definitions) (d .equations) c (d .is) h
 
   answered-shape : (ev : Expr → Run Expr) (lo : ℕ) (w : Answer) (s u : State) (v : Expr) → ((z : ℤ) → w ≡ Value z → elem P z ≡ z) → answered ev w s ≡ gives v u
       → Tidy lo s → Shape lo s u v

@@ -27,12 +27,13 @@ use Rattle.flat.specs.Meaning.{Assignment, Elements, value, orZero}
 use Rattle.numbering.specs.Inputs.{member}
 use Rattle.eval_trees.specs.Environments.{lookUp}
 use Rattle.eval_trees.specs.Forms.{onConstant}
-use Rattle.eval_trees.specs.State.{State, gives, Run, after, _>>=_, _>>_, return, refuse, get, refuseIf, generateId, make, pushDefinition, isProver, bound}
+use Rattle.eval_trees.specs.State.{State, gives, Run, after, _>>=_, _>>_, return, refuse, get, refuseIf, make, isProver, bound}
 use Rattle.eval_trees.specs.Simplify.{infixOp, isConstant}
 use Rattle.eval_trees.specs.Evaluation
 use Rattle.eval_trees.specs.Evaluation.{defined, answered, boundTo, numbers, evaluateOperation, evaluatePower, evaluateInfix, evaluateVariable}
 use Rattle.eval_trees.proofs.Runs.{refused-gives, gives-value, gives-state, bind-case, then-case, bind-known, return-back}
-use Rattle.eval_trees.proofs.Runs.{passed, past, got, Same, same-refl, same-trans, same-by, make-same, generate-back, push-back}
+use Rattle.eval_trees.proofs.Runs.{passed, past, got, Same, same-refl, same-trans, same-by, make-same}
+use Rattle.eval_trees.proofs.Defining.{defined-back}
 use Rattle.plain.specs.Plain.{isArithmetic}
 use Rattle.plain.specs.Meaning.{Table, valueOf}
 use Rattle.plain.proofs.Values.{false-true, negated-value, update-same, update-other, value-element}
@@ -79,29 +80,10 @@ module _ (B : ℕ → Bool) (N : ℕ) (beyond : (x : ℕ) → N ≤ x → B x �
 
   pub defined-result : (ev : Expr → Run Expr) (r : Expr × ℕ) (s u : State) (v : Expr) (z : ℤ) → defined ev r s ≡ gives v u → Core B N t s
       → valueOf (now t s) (r .0) ≡ Value z → Result B N t s u v z
-  unfolding defined
   defined-result ev r s u v z e c h =
-      then-case (make (r .1)) _ s v u e λ y1 s1 first e1.
-      bind-case generateId _ s1 v u e1 λ i s2 second e2.
-      then-case (make 1) _ s2 v u e2 λ y3 s3 third e3.
-      then-case (pushDefinition i (r .0)) _ s3 v u e3 λ y4 s4 fourth e4.
-      then-case (make 1) _ s4 v u e4 λ y5 s5 fifth e5.
-      let m1 = make-same (r .1) s y1 s1 first in
-      let m2 = generate-back s1 i s2 second in
-      let m3 = make-same 1 s2 y3 s3 third in
-      let m4 = push-back i (r .0) s3 y4 s4 fourth in
-      let m5 = make-same 1 s4 y5 s5 fifth in
-      let b = return-back (variable i) v s5 u e5 in
-      new-definition (m4 .tree) s u v z i (sym (b .value)) (m2 .id ∙ m1 .next)
-      (ap (λ (w : State). w .next) (sym (b .state)) ∙ m5 .next ∙ m4 .next ∙ m3 .next ∙ m2 .next ∙ ap suc (m1 .next))
-      (ap (λ (w : State). w .bindings) (sym (b .state)) ∙ m5 .bindings ∙ m4 .bindings ∙ m3 .bindings ∙ m2 .bindings ∙ m1 .bindings)
-      (ap (λ (w : State). w .provers) (sym (b .state)) ∙ m5 .provers ∙ m4 .provers ∙ m3 .provers ∙ m2 .provers ∙ m1 .provers)
-      (ap (λ (w : State). w .definitions) (sym (b .state))
-      ∙ m5 .definitions
-      ∙ m4 .definitions
-      ∙ ap (λ (ds : List Definition). record { id = i; right = m4 .tree } ∷ ds) (m3 .definitions ∙ m2 .definitions ∙ m1 .definitions))
-      (ap (λ (w : State). w .equations) (sym (b .state)) ∙ m5 .equations ∙ m4 .equations ∙ m3 .equations ∙ m2 .equations ∙ m1 .equations) c
-      (flat-value (run t (s .definitions)) (r .0) (m4 .tree) (m4 .is) ∙ h)
+      let d = defined-back ev r s u v e in
+      new-definition (d .tree) s u v z (d .id) (d .value) (d .drawn) (d .next) (d .bindings) (d .provers) (d .definitions) (d .equations) c
+      (flat-value (run t (s .definitions)) (r .0) (d .tree) (d .is) ∙ h)
 
   renamed : {s u : State} {v w : Expr} {z : ℤ} → v ≡ w → Result B N t s u v z → Result B N t s u w z
   renamed {s} {u} {v} {w} {z} e r = subst (λ (v : Expr). Result B N t s u v z) e r
