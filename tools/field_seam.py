@@ -20,7 +20,6 @@ COMPUTED = {
     "agreement/proofs/Cases.antt",
     "agreement/proofs/Example.antt",
     "agreement/proofs/Operators.antt",
-    "constraint_text/specs/Cases.antt",
     "eval_trees/proofs/Cases.antt",
     "eval_trees/proofs/Compute.antt",
     "eval_trees/proofs/Limits.antt",
