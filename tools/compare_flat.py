@@ -1,14 +1,15 @@
 #!/usr/bin/env python3
 """Compares the compiled program test_flat with the oracle on generated flat records, and prints the counts by answer.
 
-    python3 tools/compare_flat.py ORACLE SEED N [KIND]
+    python3 tools/compare_flat.py ORACLE SEED N [KIND] [--ops LIST]
 
 ORACLE is the oracle, built from the unchanged Rust by oracle/build.sh (tools/flat_records.py says what it has to answer). Run it at the top of
 the repository, after `rt check test_flat`. The records are those of the seeds from SEED on: random flat records, or with
-KIND (mixed, plain, rich, big, deep) those that evaluation makes of N random modules of that kind. Each goes in once as it is
-and once with a word changed, and these are counted apart; every third output is just long enough, and every third a byte short. A record that differs
-is printed.
+KIND (mixed, plain, rich, big, deep) those that evaluation makes of N random modules of that kind; with --ops, as 7,8, rich in these operators. Each goes
+in once as it is and once with a word changed, and these are counted apart; every third output is just long enough, and every third a byte short. A record
+that differs is printed.
 """
+import argparse
 import collections
 import random
 import subprocess
@@ -55,14 +56,20 @@ def compare(oracle, records, counts):
 
 
 def main():
-    oracle, seed, n = sys.argv[1], int(sys.argv[2]), int(sys.argv[3])
+    p = argparse.ArgumentParser()
+    p.add_argument("oracle")
+    p.add_argument("seed", type=int)
+    p.add_argument("n", type=int)
+    p.add_argument("kind", nargs="?")
+    p.add_argument("--ops", type=lambda text: ["--ops", text], default=[])
+    a = p.parse_args()
     as_it_is, damaged, different = collections.Counter(), collections.Counter(), []
-    for start in range(seed, seed + n, BATCH):
-        count = min(BATCH, seed + n - start)
-        records = generated_modules(oracle, start, count, sys.argv[4]) if len(sys.argv) > 4 else generated(oracle, start, count)
+    for start in range(a.seed, a.seed + a.n, BATCH):
+        count = min(BATCH, a.seed + a.n - start)
+        records = generated_modules(a.oracle, start, count, a.kind, a.ops) if a.kind else generated(a.oracle, start, count, a.ops)
         rng = random.Random(start)
-        different += compare(oracle, records, as_it_is)
-        different += compare(oracle, [changed(r, rng) for r in records], damaged)
+        different += compare(a.oracle, records, as_it_is)
+        different += compare(a.oracle, [changed(r, rng) for r in records], damaged)
     for record in different:
         print("differs:", record.hex())
     for title, counts in (("as they are", as_it_is), ("with a word changed", damaged)):

@@ -1,7 +1,7 @@
 #!/usr/bin/env python3
 """Compares program test_flatten with the Rust on generated source records, from the record to its constraint record, and prints the counts by cause.
 
-    python3 tools/compare_flatten.py TWIN PROGRAM SEED N [KIND..] [--model] [--jobs J] [--timeout S]
+    python3 tools/compare_flatten.py TWIN PROGRAM SEED N [KIND..] [--ops LIST] [--model] [--jobs J] [--timeout S]
 
 The arguments, the kinds and what answers where the Rust has no answer are those of tools/compare_source.py; with --model the model's constraint record is
 compared too. Each record is run with a store and an output that are just full, a store that is a node short (30), an output that is a byte short (33),

@@ -1,12 +1,12 @@
 #!/usr/bin/env python3
 """Compares a program of the port with the Rust on generated source records, and prints the counts by cause.
 
-    python3 tools/compare_source.py TWIN PROGRAM SEED N [KIND..] [--model] [--jobs J] [--timeout S]
+    python3 tools/compare_source.py TWIN PROGRAM SEED N [KIND..] [--ops LIST] [--model] [--jobs J] [--timeout S]
 
 TWIN is built by oracle/build.sh. PROGRAM reads groups as tools/source_records.py says (test_eval). The records are those of N seeds from SEED on, for
 each KIND: those of the oracle's generator (mixed, plain, rich, big, deep: all five by default) or of the model's (typed, untyped, closures, lambda,
 mix, lost, combi, obs, rec, and the last five with +); the kind `directed` is every directed module, whatever the seeds. Each record is run with a store that
-is just full, one that is a node short, and one of random length.
+is just full, one that is a node short, and one of random length. With --ops, as 7,8, the oracle's kinds are rich in these operators.
 
 Where the Rust runs out of time (S seconds, by default 5) or memory the model answers. With --model its answer is compared everywhere, and a difference
 between it and the Rust is counted too. The first records that differ are printed. The exit status says whether any does.
@@ -31,6 +31,7 @@ def arguments():
     p.add_argument("seed", type=int)
     p.add_argument("n", type=int)
     p.add_argument("kinds", nargs="*", default=ORACLE_KINDS)
+    p.add_argument("--ops", type=lambda text: ["--ops", text], default=[])
     p.add_argument("--model", action="store_true")
     p.add_argument("--jobs", type=int, default=2)
     p.add_argument("--timeout", type=int, default=5)
@@ -44,7 +45,7 @@ def batches(a):
             yield kind, 0, [r for r in (module_record(m) for _, m in directed.CASES) if r is not None]
             continue
         for start in range(a.seed, a.seed + a.n, BATCH):
-            yield kind, start, generated(a.twin, start, min(BATCH, a.seed + a.n - start), kind)
+            yield kind, start, generated(a.twin, start, min(BATCH, a.seed + a.n - start), kind, a.ops)
 
 
 def lengths(answer, k, rng):

@@ -3,11 +3,13 @@
 
     python3 tools/field_vectors.py > crates/test_field/src/vectors.rt && rt fmt
 
-Inverses by pow(b, -1, p), quotients by //, powers by pow(a, n, p). Counts of a power by the rule of document 02, on Python's integers; each is
+Inverses by pow(b, -1, p), rounded quotients by exact fractions, powers by pow(a, n, p). Counts of a power by the rule of document 02, on Python's integers; each is
 compared with a run that raises a base by squares and counts the products.
 """
 import itertools
+import math
 import random
+from fractions import Fraction
 
 P = 2147483647
 HALF = (P - 1) // 2
@@ -21,6 +23,12 @@ def element(x):
 
 def inverse(x):
     return None if x % P == 0 else element(pow(x, -1, P))
+
+
+def nearest(a, b):
+    """Of the whole numbers around a / b the nearer one; of two as near, the one further from zero (document 02 (v))."""
+    exact = Fraction(a, b)
+    return min((math.floor(exact), math.ceil(exact)), key=lambda q: (abs(exact - q), -abs(q)))
 
 
 def infix(op, a, b):
@@ -42,8 +50,8 @@ def infix(op, a, b):
             return element(pow(a, b, P))
         return None if a == 0 else element(pow(pow(a, -1, P), -b, P))
     if op == 7:
-        return None if b == 0 else element(a // b)
-    return None if b == 0 else element(a - b * (a // b))
+        return None if b == 0 else nearest(a, b)
+    return None if b == 0 else a - b * nearest(a, b)
 
 
 def count(n):
@@ -65,6 +73,10 @@ def products(n):
 EDGES = [0, 1, -1, 2, -2, 3, -3, 7, -7, 511, 512, 513, -512, -513, HALF, -HALF, HALF + 1, -HALF - 1, P, -P, P - 1, P + 1,
          1 - P, 2**31, -(2**31), LOW, LOW + 1, HIGH, HIGH - 1]
 EXPONENTS = [0, 1, -1, 2, -2, 3, -3, 5, 64, 65, -64, -65, HALF, -HALF, HALF + 1, P - 1, P, 2**31, LOW, HIGH]
+# dividends and divisors above 0: halves, just below and above a half, multiples, dividends below half of the divisor, the largest elements
+ROUNDED = [(7, 2), (5, 3), (4, 3), (6, 4), (5, 2), (1, 2), (1, 3), (2, 3), (9, 6), (10, 6), (8, 6), (12, 8), (12, 4), (HALF, 2), (HALF - 1, 2), (HALF, 1),
+           (HALF, HALF), (HALF - 1, HALF), (1, HALF), ((HALF + 1) // 2, HALF), (HALF // 2, HALF), (HALF // 2, HALF - 1), (HALF, HALF - 1),
+           (HALF, 6), (HALF, 512)]
 FIRST = range(1, 1001)
 DRAW = random.Random(63)
 DRAWN = [DRAW.randint(1, 2**DRAW.randint(11, 63)) for _ in range(200)]
@@ -91,6 +103,9 @@ def vectors():
             yield op, a, b, infix(op, a, b)
             a, b = rng.randint(LOW, HIGH), rng.randint(LOW, HIGH)
             yield op, a, b, infix(op, a, b)
+    for a, b in ROUNDED:
+        for op, s, t in itertools.product((7, 8), (1, -1), (1, -1)):
+            yield op, s * a, t * b, infix(op, s * a, t * b)
     for a in (0, 1, -1, 2, -7, HALF, P, HIGH):
         for n in EXPONENTS:
             yield 6, a, n, infix(6, a, n)

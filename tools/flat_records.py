@@ -2,8 +2,8 @@
 
 Used by flat_cases.py, compare_flat.py and compare_programs.py. The oracle is the unchanged Rust with a reader and a writer of document 01's
 records around it: `oracle batch flat` answers a hexadecimal flat record a line by `ok cons=HEX`, the constraint record, or by
-`refused N`; `oracle gen-flat SEED COUNT` and `gen-src SEED COUNT KIND` print random records, `batch src` answers source records
-with their flat records, and `asm FILE` turns a module's text form into a source record.
+`refused N`; `oracle gen-flat SEED COUNT` and `gen-src SEED COUNT KIND` print random records (with `--ops LIST` rich in these operators), `batch src`
+answers source records with their flat records, and `asm FILE` turns a module's text form into a source record.
 
 An expression is a tuple: ("v", id), ("c", number), ("-", e), or (operator 0 to 8, e, e).
 """
@@ -144,9 +144,9 @@ def case(record, room, store, answer):
     return pack([len(record), room, store, REFUSED + number]) + record
 
 
-def generated(oracle, seed, count):
+def generated(oracle, seed, count, ops=()):
     """Random lent flat records."""
-    text = subprocess.run([oracle, "gen-flat", str(seed), str(count)], capture_output=True, text=True, check=True).stdout
+    text = subprocess.run([oracle, "gen-flat", str(seed), str(count), *ops], capture_output=True, text=True, check=True).stdout
     return [bytes.fromhex(line) for line in text.split()]
 
 
@@ -157,9 +157,9 @@ def evaluated(oracle, sources):
     return [bytes.fromhex(w[5:]) for w in words if w.startswith("flat=") and w != "flat=nonflat"]
 
 
-def generated_modules(oracle, seed, count, kind="mixed"):
+def generated_modules(oracle, seed, count, kind="mixed", ops=()):
     """The flat records of random modules, without those that are longer than any legal one: the Rust has no limit."""
-    text = subprocess.run([oracle, "gen-src", str(seed), str(count), kind], capture_output=True, text=True, check=True).stdout
+    text = subprocess.run([oracle, "gen-src", str(seed), str(count), kind, *ops], capture_output=True, text=True, check=True).stdout
     return [r for r in evaluated(oracle, text) if len(r) <= LONGEST]
 
 

@@ -1,13 +1,14 @@
 #!/usr/bin/env python3
 """Checks on random plain modules that the equalities of the constraint record hold exactly when the module's equations do.
 
-    python3 tools/plain_agreement.py TWIN PROGRAM SEED N [--jobs J]
+    python3 tools/plain_agreement.py TWIN PROGRAM SEED N [--ops LIST] [--jobs J]
 
 TWIN is built by oracle/build.sh, PROGRAM is test_flatten. Each seed from SEED on gives a plain module (document 01, "Plain modules") and elements for its
 inputs under which no divisor is zero; half of the equations are made to hold. The module is worked out from the top as document 01 says, by the evaluator below. Its
 constraint record is the Rust's, and test_flatten shows that the port's is the same, byte by byte; its equalities are solved from the inputs upward. They have
 to determine every variable in them, and to hold exactly when the equations do. Printed are the counts of modules whose equations
-hold, of those whose do not, and of refused ones (an exponent that is no constant); and what fails. The exit status says whether any does.
+hold, of those whose do not, and of refused ones (an exponent that is no constant); and what fails. The exit status says whether any does. With --ops, as
+7,8, the modules are rich in these operators.
 """
 import argparse
 import collections
@@ -49,9 +50,10 @@ def quotient(a, b):
 
 
 def divided(a, b):
+    """The nearer of the whole numbers around a / b; of two as near, the one further from zero."""
     if b == 0:
         raise NoValue
-    return a // b
+    return min((a // b, a // b + 1), key=lambda q: (abs(a - b * q), -abs(q)))
 
 
 OPERATIONS = {
@@ -76,8 +78,9 @@ def value(e, table):
 class Module:
     """A random plain module with elements for its inputs: publics, definitions, expressions."""
 
-    def __init__(self, seed):
+    def __init__(self, seed, ops=()):
         self.rng = rng = random.Random("plain %d" % seed)
+        self.ops = ops
         self.inputs = {n: element(rng.choice((0, 1, -1, rng.randrange(-9, 10), rng.randrange(P)))) for n in sorted({*INPUTS, *NAMES})}
         self.publics = [rng.choice(INPUTS + NAMES) for _ in range(rng.choice((0, 0, 1, 2, 5)))]
         self.table, self.definitions = dict(self.inputs), []
@@ -107,7 +110,13 @@ class Module:
             return L(self.rng.choice(INPUTS + NAMES), self.any(depth - 1, names), self.any(depth - 1, names))
         if r < 0.5:
             return I(EXP, self.any(depth - 1, names), self.exponent())
+        if self.ops and self.rng.random() < 0.6:
+            return I(self.rng.choice(self.ops), self.operand(depth - 1, names), self.operand(depth - 1, names))
         return I(self.rng.choice((DIV, DIVZ, MUL, ADD, SUB, IDIV, MOD)), self.any(depth - 1, names), self.any(depth - 1, names))
+
+    def operand(self, depth, names):
+        """An operand of an operator that was asked for: a constant half of the time, so that evaluation works some of them out."""
+        return self.any(depth, names) if self.rng.random() < 0.5 else C(self.rng.choice(CONSTANTS + (self.rng.randrange(-99, 100),)))
 
     def exponent(self):
         n = self.rng.choice(EXPONENTS)
@@ -211,8 +220,8 @@ def lengths(answer):
     return [(16 * answer.made, len(answer.record or b""))]
 
 
-def modules(start, count):
-    return [Module(s) for s in range(start, start + count)]
+def modules(start, count, ops=()):
+    return [Module(s, ops) for s in range(start, start + count)]
 
 
 def record_of(m):
@@ -225,11 +234,12 @@ def main():
     p.add_argument("program")
     p.add_argument("seed", type=int)
     p.add_argument("n", type=int)
+    p.add_argument("--ops", type=lambda text: [int(n) for n in text.split(",")], default=[])
     p.add_argument("--jobs", type=int, default=2)
     a = p.parse_args()
     counts, failures, equalities = collections.Counter(), 0, 0
     for start in range(a.seed, a.seed + a.n, BATCH):
-        made = modules(start, min(BATCH, a.seed + a.n - start))
+        made = modules(start, min(BATCH, a.seed + a.n - start), a.ops)
         records = [record_of(m) for m in made]
         known = answers(a.twin, records, 5, a.jobs, "cons")
         for k, (m, answer) in enumerate(zip(made, known)):

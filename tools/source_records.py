@@ -70,10 +70,10 @@ def run(command, text):
     return subprocess.run(command, input=text, capture_output=True, text=True, check=True).stdout
 
 
-def generated(oracle, seed, count, kind):
-    """The records of the seeds from `seed` on: by the oracle's generator, or by the model's (too long ones left out)."""
+def generated(oracle, seed, count, kind, ops=()):
+    """The records of the seeds from `seed` on: by the oracle's generator, rich in the operators `ops`, or by the model's (too long ones left out)."""
     if kind in ORACLE_KINDS:
-        return [bytes.fromhex(line) for line in run([oracle, "gen-src", str(seed), str(count), kind], "").split()]
+        return [bytes.fromhex(line) for line in run([oracle, "gen-src", str(seed), str(count), kind, *ops], "").split()]
     records = (module_record(closure_modules.module(kind, random.Random(s))) for s in range(seed, seed + count))
     return [r for r in records if r is not None]
 

@@ -42,8 +42,8 @@ const USAGE: &str = "usage: oracle COMMAND
                       --stop: the twin ends a record at its first refusal
   numbers [FILE]      hex source records -> the ids of the numbered module at their nodes
   evaluate [FILE]     hex source records that the Rust accepts -> their flat records, without the passes: for times
-  gen-src SEED COUNT [mixed|plain|rich|big|deep]   hex source records
-  gen-flat SEED COUNT                         hex flat records
+  gen-src SEED COUNT [mixed|plain|rich|big|deep] [--ops LIST]   hex source records
+  gen-flat SEED COUNT [--ops LIST]            hex flat records; with --ops, as 7,8, rich in these operators
   asm [FILE]          text form -> hex source record (see src/text.rs)
   dis                 hex source records -> text form
   explain [FILE]      text form -> numbered module, flat record, constraint record
@@ -176,6 +176,11 @@ fn evaluate(b: &[u8]) -> String {
     record::to_hex(&driver::evaluate_source(&s, false).flat().unwrap().to_bytes())
 }
 
+/* The operators of `--ops`, by their numbers. */
+fn asked(args: &mut Vec<String>) -> Vec<u32> {
+    take_opt(args, "--ops").map_or(vec![], |s| s.split(',').map(|n| n.parse().unwrap()).collect())
+}
+
 /* The records of COUNT seeds from SEED on; `make` checks that they are legal. */
 fn generate(args: &[String], out: &mut dyn Write, make: impl Fn(u64) -> Vec<u8>) {
     let seed: u64 = args[0].parse().unwrap();
@@ -185,14 +190,14 @@ fn generate(args: &[String], out: &mut dyn Write, make: impl Fn(u64) -> Vec<u8>)
     }
 }
 
-fn made_source(seed: u64, kind: &str) -> Vec<u8> {
-    let b = gen::source(seed, kind).to_bytes();
+fn made_source(seed: u64, kind: &str, asked: &[u32]) -> Vec<u8> {
+    let b = gen::source(seed, kind, asked).to_bytes();
     Source::parse(&b, false).unwrap_or_else(|e| panic!("generated record {seed} is refused {e}"));
     b
 }
 
-fn made_flat(seed: u64) -> Vec<u8> {
-    let f = gen::flat(seed);
+fn made_flat(seed: u64, asked: &[u32]) -> Vec<u8> {
+    let f = gen::flat(seed, asked);
     f.check_lent().unwrap_or_else(|e| panic!("generated record {seed} is refused {e}"));
     f.to_bytes()
 }
@@ -244,7 +249,7 @@ fn source_text(args: &[String]) -> Source {
     text::assemble(&String::from_utf8(bytes(args)).unwrap())
 }
 
-fn command(cmd: &str, args: Vec<String>, out: &mut dyn Write) {
+fn command(cmd: &str, mut args: Vec<String>, out: &mut dyn Write) {
     let source = |b: &[u8]| Source::parse(b, false).unwrap();
     match cmd {
         "src" | "flat" => writeln!(out, "{}", run::line(cmd, &bytes(&args))).unwrap(),
@@ -255,10 +260,14 @@ fn command(cmd: &str, args: Vec<String>, out: &mut dyn Write) {
         "evaluate" => each_record(&args, out, evaluate),
         "repeat" => writeln!(out, "{}", repeat(&args)).unwrap(),
         "gen-src" => {
+            let ops = asked(&mut args);
             let kind = args.get(2).map_or("mixed", |s| s.as_str());
-            generate(&args, out, |seed| made_source(seed, kind))
+            generate(&args, out, |seed| made_source(seed, kind, &ops))
         }
-        "gen-flat" => generate(&args, out, made_flat),
+        "gen-flat" => {
+            let ops = asked(&mut args);
+            generate(&args, out, |seed| made_flat(seed, &ops))
+        }
         "asm" => writeln!(out, "{}", record::to_hex(&source_text(&args).to_bytes())).unwrap(),
         "dis" => each_record(&args, out, |b| text::disassemble(&source(b))),
         "explain" => write!(out, "{}", explain(&source_text(&args))).unwrap(),

@@ -51,8 +51,8 @@ operators = record {
       ∷ binary Equal (binary Subtract a b) (number 5)
       ∷ binary Equal (binary Exponentiate a (number 2)) (number 49)
       ∷ binary Equal (binary Multiply (binary Exponentiate a (constant (negsuc 0))) a) (number 1)
-      ∷ binary Equal (binary IntDivide a b) (number 3)
-      ∷ binary Equal (binary Modulo a b) (number 1)
+      ∷ binary Equal (binary IntDivide a b) (number 4)
+      ∷ binary Equal (binary Modulo a b) (constant (negsuc 0))
       ∷ binary Equal (variable 4) (number 4)
       ∷ binary Equal (variable 2) (number 25)
       ∷ binary Equal (negate a) (constant (negsuc 6))
@@ -90,7 +90,7 @@ abbrev twice : ℤ → Answer × Answer
 twice x = (Value x, Value x)
 
 sides-at-seven : worked (pos 7) ≡ twice (pos 7) ∷ twice (pos 0) ∷ twice (pos 14) ∷ twice (pos 9) ∷ twice (pos 5) ∷ twice (pos 49) ∷ twice (pos 1)
-    ∷ twice (pos 3) ∷ twice (pos 1) ∷ twice (pos 4) ∷ twice (pos 25) ∷ twice (negsuc 6) ∷ []
+    ∷ twice (pos 4) ∷ twice (negsuc 0) ∷ twice (pos 4) ∷ twice (pos 25) ∷ twice (negsuc 6) ∷ []
 unfolding answerOf inputs update onValues negated write through valueOf Meaning.defined sidesOf sides
 sides-at-seven = refl
 
@@ -108,7 +108,10 @@ fulfilled = (
           (pos 5, refl, refl),
           (
             (pos 49, refl, refl),
-            ((pos 1, refl, refl), ((pos 3, refl, refl), ((pos 1, refl, refl), ((pos 4, refl, refl), ((pos 25, refl, refl), ((negsuc 6, refl, refl), tt)))))),
+            (
+              (pos 1, refl, refl),
+              ((pos 4, refl, refl), ((negsuc 0, refl, refl), ((pos 4, refl, refl), ((pos 25, refl, refl), ((negsuc 6, refl, refl), tt))))),
+            ),
           ),
         ),
       ),

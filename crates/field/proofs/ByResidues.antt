@@ -6,12 +6,12 @@ use native.Mathlib.Nat.{mod-lt}
 use native.Mathlib.Omega.{arith}
 use lib.Dec.{eqb}
 use borrow.Author.Tests.{eq-eqb, ne-eqb}
-use lib.IntN.{ℤ, pos, negsuc, negℤ}
+use lib.IntN.{ℤ, pos, negsuc}
 use Rattle.field.specs.declared.Answer.{Answer}
 use Rattle.field.specs.declared.Answer.the-variants.{Value, Nothing}
 use Rattle.field.specs.Prime.{Prime}
 use Rattle.field.specs.Element.{res, centre, inv}
-use Rattle.field.specs.Operations.{pick, sum, difference, product, opposite, inverse, quotient, power, overBy, wholeQuotient, raised}
+use Rattle.field.specs.Operations.{pick, sum, difference, product, opposite, inverse, quotient, power, raised}
 use Rattle.field.proofs.Modular.{inv-lt}
 use Rattle.field.proofs.Elements.{res-lt, res-centre, elem-add, elem-sub, elem-mul, elem-opp}
 
@@ -39,14 +39,6 @@ pick-zero r x y e = ap (λ (t : Bool). pick t x y) (eq-eqb r 0 e)
 
 pub pick-else : (r : ℕ) (x y : Answer) → (r ≡ 0 → ⊥) → pick (eqb r 0) x y ≡ y
 pick-else r x y h = ap (λ (t : Bool). pick t x y) (ne-eqb r 0 h)
-
-pub whole-above : (x y : ℤ) (m : ℕ) → y ≡ pos m → wholeQuotient x y ≡ overBy x m
-unfolding wholeQuotient
-whole-above x y m e = ap (wholeQuotient x) e
-
-pub whole-below : (x y : ℤ) (m : ℕ) → y ≡ negsuc m → wholeQuotient x y ≡ overBy (negℤ x) (suc m)
-unfolding wholeQuotient
-whole-below x y m e = ap (wholeQuotient x) e
 
 -- a power by the sign of its exponent
 pub power-above : (p : ℕ) (a n : ℤ) (m : ℕ) → n ≡ pos m → raised p a n ≡ Value (power p a m)

@@ -12,7 +12,8 @@ use Rattle.field.specs.declared.Answer.the-variants.{Value}
 use Rattle.field.specs.declared.InfixOp.the-variants.{Divide, DivideZ, Multiply, Add, Subtract, IntDivide, Modulo}
 use Rattle.field.specs.Prime.{Prime, P}
 use Rattle.field.specs.Element.{res, centre, elem}
-use Rattle.field.specs.Operations.{pick, difference, product, quotient, overBy, wholeQuotient, divideOf, divideZOf, intDivideOf, moduloOf, infixOf}
+use Rattle.field.specs.Operations.{pick, difference, product, quotient, nearest, signedBy, wholeQuotient}
+use Rattle.field.specs.Operations.{divideOf, divideZOf, intDivideOf, moduloOf, infixOf}
 use Rattle.field.proofs.Elements.{res-zero, elem-zero, elem-one, elem-elem}
 use Rattle.field.proofs.ByResidues.{pick-zero, pick-else}
 use Rattle.field.proofs.Laws.{sum-commutes, sum-zero, product-commutes, product-one, quotient-only}
@@ -26,14 +27,14 @@ pub zero-element : elem P (pos 0) ≡ pos 0
 unfolding elem centre res
 zero-element = refl
 
-over-one : (x : ℤ) → overBy x 1 ≡ x
-unfolding overBy
-over-one (pos m) = ap pos (omega arith)
-over-one (negsuc m) = ap negsuc (omega arith)
+nearest-one : (m : ℕ) → nearest m 1 ≡ m
+unfolding nearest
+nearest-one m = omega arith
 
 whole-one : (x : ℤ) → wholeQuotient x (pos 1) ≡ x
-unfolding wholeQuotient
-whole-one x = over-one x
+unfolding wholeQuotient signedBy
+whole-one (pos m) = ap pos (nearest-one m)
+whole-one (negsuc m) = ap (λ (n : ℕ). negℤ (pos n)) (nearest-one (suc m))
 
 -- of any prime
 module _ (p : ℕ) (prime : Prime p) where

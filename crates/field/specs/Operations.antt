@@ -1,9 +1,9 @@
 -- The operations, for any p: what the contracts cite. An operand is any integer and stands for its element.
--- The laws are in proofs/Laws.antt (for any prime), what pins the rounded quotient in proofs/Rounding.antt.
+-- The laws are in proofs/Laws.antt (for any prime). What pins the rounded quotient is stated in specs/Rounded.antt and proved in proofs/Rounding.antt.
 use mathlib.Core.Bool.{Bool, true, false}
-use Prim.Native.Nat.{ℕ, suc, _^_, _/_, _%_}
+use Prim.Native.Nat.{ℕ, suc, _+_, _*_, _^_, _/_, _%_}
 use lib.Dec.{eqb}
-use lib.IntN.{ℤ, pos, negsuc, negℤ, _+ℤ_, _-ℤ_, _*ℤ_}
+use lib.IntN.{ℤ, pos, negsuc, negℤ, natAbs, _+ℤ_, _-ℤ_, _*ℤ_}
 use Rattle.field.specs.declared.Answer.{Answer}
 use Rattle.field.specs.declared.Answer.the-variants.{Value, Nothing}
 use Rattle.field.specs.declared.InfixOp.{InfixOp}
@@ -38,15 +38,18 @@ quotient p a b = product p a (inverse p b)
 unfoldable pub power : ℕ → ℤ → ℕ → ℤ
 power p a n = centre p (res p a ^ n % p)
 
--- the quotient of a number and a natural number, rounded down
-unfoldable pub overBy : ℤ → ℕ → ℤ
-overBy (pos m) d = pos (m / d)
-overBy (negsuc m) d = negsuc (m / d)
+-- "rounded to the nearest whole number, halves away from zero" (document 02, request v), of two magnitudes: m over d and a half more, rounded down
+unfoldable pub nearest : ℕ → ℕ → ℕ
+nearest m d = (2 * m + d) / (2 * d)
 
--- "quotient of the two numbers rounded down": that of -a and -b where b is negative
+-- z, or its opposite where x is negative
+unfoldable pub signedBy : ℤ → ℤ → ℤ
+signedBy (pos n) z = z
+signedBy (negsuc n) z = negℤ z
+
+-- the quotient of two numbers so rounded: its magnitude goes by their magnitudes, its sign by both signs
 unfoldable pub wholeQuotient : ℤ → ℤ → ℤ
-wholeQuotient a (pos n) = overBy a n
-wholeQuotient a (negsuc n) = overBy (negℤ a) (suc n)
+wholeQuotient x y = signedBy x (signedBy y (pos (nearest (natAbs x) (natAbs y))))
 
 -- the inverse has no value at 0
 unfoldable pub inverseOf : ℕ → ℤ → Answer

@@ -1,28 +1,39 @@
-// The quotient of two numbers, rounded down.
+// The quotient of two numbers, rounded to the nearest whole number, halves away from zero.
 ghost use mathlib.Core.Path.{_≡_};
 ghost use Prim.Native.Nat.{_≤_, _<_};
 ghost use lib.IntN.{pos, natAbs};
-ghost use Rattle.field.specs.Operations.{overBy, wholeQuotient};
+ghost use Rattle.field.specs.Operations.{nearest, signedBy, wholeQuotient};
 use super::residues::magnitude;
 
-// x over d, rounded down.
-fn quotient_by(x: i64, d: u64) -> i64
-    requires { ⌜ 0 < d ⌝ }
-    ensures { λ z. ⌜ z ≡ overBy x d ⌝ }
+// The distance of x from 0.
+fn absolute(x: i64) -> u64
+    ensures { λ r. ⌜ r ≡ natAbs x ⌝ }
 {
-    let q = magnitude(x) / d;
-    if x < 0 { -(q as i64) - 1 } else { q as i64 }
+    let m = magnitude(x);
+    if x < 0 { m + 1 } else { m }
 }
 
-// x over y, rounded down.
+// m over d, rounded to the nearest whole number, halves up.
+fn nearest_of(m: u64, d: u64) -> u64
+    requires { ⌜ (m ≤ 1073741823) × (d ≤ 1073741823) × (0 < d) ⌝ }
+    ensures { λ r. ⌜ r ≡ nearest m d ⌝ }
+{
+    (2 * m + d) / (2 * d)
+}
+
+// z, or its opposite where x is negative.
+fn signed_by(x: i64, z: i64) -> i64
+    requires { ⌜ natAbs z ≤ 1073741823 ⌝ }
+    ensures { λ r. ⌜ r ≡ signedBy x z ⌝ }
+{
+    if x < 0 { -z } else { z }
+}
+
+// x over y, rounded to the nearest whole number, halves away from zero.
 pub fn whole_quotient(x: i64, y: i64) -> i64
     requires { ⌜ (natAbs x ≤ 1073741823) × (natAbs y ≤ 1073741823) × (y ≡ pos 0 → ⊥) ⌝ }
     ensures { λ z. ⌜ z ≡ wholeQuotient x y ⌝ }
 {
-    let m = magnitude(y);
-    if y < 0 {
-        quotient_by(-x, m + 1)
-    } else {
-        quotient_by(x, m)
-    }
+    let q = nearest_of(absolute(x), absolute(y));
+    signed_by(x, signed_by(y, q as i64))
 }

@@ -1,4 +1,4 @@
--- The proved cases of document 01: one table, and one fact about it. Assumes nothing.
+-- The proved cases of document 01, as document 02 changes them: one table, and one fact about it. Assumes nothing.
 use mathlib.Core.Path.{_≡_, refl}
 use mathlib.Core.List.{List, [], _∷_, _++_}
 use Prim.Native.Nat.{ℕ}
@@ -98,14 +98,15 @@ product-list = record {
 abbrev pub product-cut : Outcome
 product-cut = cut product-list
 
--- document 01's, in its order; `negsuc n` is -(n + 1). Behind them the example of the programs, from its bytes
+-- document 01's, in its order, with 7 \ 2 as request (v) of document 02 has it; `negsuc n` is -(n + 1). Behind them the example of the programs, from its
+-- bytes, and the other cases of request (v)
 abbrev pub cases : List Case
 cases =
     list (cutOf caseF) gives list (cut caseF-cut)
     ∷ element (Value (elem P (pos 1073741824))) gives element (Value (negsuc 1073741822))
     ∷ element (Value (elem P (negsuc 1073741823))) gives element (Value (pos 1073741823))
     ∷ element (infixOf P Divide (pos 1) (pos 2)) gives element (Value (negsuc 1073741822))
-    ∷ element (infixOf P IntDivide (pos 7) (pos 2)) gives element (Value (pos 3))
+    ∷ element (infixOf P IntDivide (pos 7) (pos 2)) gives element (Value (pos 4))
     ∷ element (infixOf P IntDivide (negsuc 6) (pos 2)) gives element (Value (negsuc 3))
     ∷ element (infixOf P Modulo (negsuc 6) (pos 2)) gives element (Value (pos 1))
     ∷ element (infixOf P IntDivide (pos 7) (negsuc 1)) gives element (Value (negsuc 3))
@@ -113,6 +114,10 @@ cases =
     ∷ element (infixOf P Exponentiate (pos 0) (pos 0)) gives element (Value (pos 1))
     ∷ list (flattenedOf 65535 unused) gives list (cut (record { next = 12; publics = []; provers = []; equalities = []; kept = [] }))
     ∷ list (flattened product 1048560) gives list product-cut
+    ∷ element (infixOf P IntDivide (negsuc 6) (negsuc 1)) gives element (Value (pos 4))
+    ∷ element (infixOf P IntDivide (pos 5) (pos 3)) gives element (Value (pos 2))
+    ∷ element (infixOf P IntDivide (pos 4) (pos 3)) gives element (Value (pos 1))
+    ∷ element (infixOf P Modulo (pos 7) (pos 2)) gives element (Value (negsuc 0))
     ∷ []
 
 abbrev pub worked-out : List Case → List Worked

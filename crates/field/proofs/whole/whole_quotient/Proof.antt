@@ -1,73 +1,88 @@
 -- `field::whole::whole_quotient` meets its contract. Assumes nothing.
-use mathlib.Core.Path.{_≡_, ap, ap₂, sym, subst⁻¹, _∙_}
-use Prim.Native.Nat.{suc, _+_, _^_, _<_}
-use native.Mathlib.Nat.{pos-of-ne-zero}
+use mathlib.Core.Path.{_≡_, ap, ap₂, subst⁻¹, _∙_}
+use Prim.Native.Nat.{ℕ, _≤_}
 use native.Mathlib.Omega.{arith}
-use lib.IntN.{ℤ, pos, negℤ, _-ℤ_, +ℤ-idl}
-use lib.Signed.{mag}
+use lib.IntN.{ℤ, pos, natAbs}
+use mir.Syntax.{w64}
+use mir.Val.{toZ}
 use mir.Facts.{toZ-ofZ}
-use Rattle.field.specs.Operations.{overBy}
-use Rattle.field.proofs.ByResidues.{whole-above, whole-below}
-use Rattle.field.proofs.Signed.{back, negative, positive, mag-opp}
+use Rattle.field.specs.Operations.{nearest, signedBy, wholeQuotient}
+use Rattle.field.proofs.Rounding.{abs-signed, counts, nearest-le}
+use Rattle.field.proofs.Signed.{back, toZ-small}
 use Rattle.field.proofs.Calls.{passed, returned}
 use borrow.Author.Needs.{needs}
 use Rattle.field.proofs.whole.whole_quotient.Statement.{statement}
 use Rattle.field.proofs.whole.whole_quotient.Tie as tie
 
-magnitude-requires : tie.Need-magnitude-requires
-magnitude-requires c κs = search needs
+absolute-requires : tie.Need-absolute-requires
+absolute-requires c κs = search needs
 
--- what `magnitude` returned, and the dividend's opposite
-size : (c : tie.After-magnitude) → c .magnitude .result ≡ mag (c .before .args .y)
-size c = passed mag _ (c .before .fits .y) (c .magnitude .ensures)
+absolute-requires-2 : tie.Need-absolute-requires-2
+absolute-requires-2 c κs = search needs
 
-above : (c : tie.Else1) → c .before .before .args .y ≡ pos (mag (c .before .before .args .y))
-above c = positive _ (c .before .before .fits .y) (c .if1 .left)
+-- the two magnitudes, and their quotient, which is an element's magnitude
+x-size : (c : tie.After-absolute2) → c .before .absolute .result ≡ natAbs (c .before .before .args .x)
+x-size c = passed natAbs _ (c .before .before .fits .x) (c .before .absolute .ensures)
 
-opp : (c : tie.Start) → pos 0 -ℤ back (c .args .x) ≡ negℤ (c .args .x)
-opp c = ap (λ (z : ℤ). pos 0 -ℤ z) (toZ-ofZ (c .fits .x)) ∙ +ℤ-idl (negℤ (c .args .x))
+y-size : (c : tie.After-absolute2) → c .absolute2 .result ≡ natAbs (c .before .before .args .y)
+y-size c = passed natAbs _ (c .before .before .fits .y) (c .absolute2 .ensures)
 
-opp-small : (c : tie.Start) → mag (negℤ (c .args .x)) < 2 ^ 63
-opp-small c = omega (arith, mag-opp (c .args .x), c .pre .0)
+magnitude : (c : tie.Start) → ℕ
+magnitude c = nearest (natAbs (c .args .x)) (natAbs (c .args .y))
 
-sub-quotient-by : tie.Need-sub-quotient-by
-sub-quotient-by c = record { sfits = subst⁻¹ (λ (z : ℤ). mag z < 2 ^ 63) (opp (c .before .before)) (opp-small (c .before .before)) }
+magnitude-is : (c : tie.After-nearest-of) → c .nearest-of .result ≡ magnitude (c .before .before .before)
+unfolding magnitude
+magnitude-is c = c .nearest-of .ensures ∙ ap₂ nearest (x-size (c .before)) (y-size (c .before))
 
-add-quotient-by : tie.Need-add-quotient-by
-add-quotient-by c = omega (arith, size (c .before), c .before .before .fits .y .sfits)
+magnitude-le : (c : tie.Start) → magnitude c ≤ 1073741823
+unfolding magnitude
+magnitude-le c = omega (arith, nearest-le (natAbs (c .args .x)) (natAbs (c .args .y)) (counts (c .args .y) (c .pre .2)), c .pre .0)
 
-quotient-by-requires : tie.Need-quotient-by-requires
-quotient-by-requires c κs = search needs
+nearest-of-requires : tie.Need-nearest-of-requires
+nearest-of-requires c κs =
+    let s : tie.Start = c .before .before in (
+      omega (arith, x-size c, s .pre .0),
+      omega (arith, y-size c, s .pre .1),
+      omega (arith, y-size c, counts (s .args .y) (s .pre .2)),
+    )
 
-quotient-by-requires-2 : tie.Need-quotient-by-requires-2
-quotient-by-requires-2 c κs =
-    pos-of-ne-zero (λ z. c .before .before .pre .2 (above c ∙ ap pos (sym (size (c .before)) ∙ z)))
+cast-signed-by : tie.Need-cast-signed-by
+cast-signed-by c = record { sfits = omega (arith, magnitude-is c, magnitude-le (c .before .before .before)) }
+
+-- it as a signed number, and with the divisor's sign
+cast-is : (c : tie.After-nearest-of) → toZ w64 (c .nearest-of .result) ≡ pos (magnitude (c .before .before .before))
+cast-is c =
+    toZ-small _ (omega (arith, magnitude-is c, magnitude-le (c .before .before .before)))
+    ∙ ap pos (magnitude-is c)
+
+abbrev start : tie.After-signed-by → tie.Start
+start c = c .before .before .before .before
+
+inner-is : (c : tie.After-signed-by) → back (c .signed-by .result) ≡ signedBy (start c .args .y) (pos (magnitude (start c)))
+inner-is c = returned _ (c .signed-by .ok) (c .signed-by .ensures ∙ ap₂ signedBy (toZ-ofZ (start c .fits .y)) (cast-is (c .before)))
+
+signed-by-requires : tie.Need-signed-by-requires
+signed-by-requires c κs = subst⁻¹ (λ (z : ℤ). natAbs z ≤ 1073741823) (cast-is c) (magnitude-le (c .before .before .before))
+
+signed-by-requires-2 : tie.Need-signed-by-requires-2
+signed-by-requires-2 c κs =
+    subst⁻¹ (λ (z : ℤ). natAbs z ≤ 1073741823) (inner-is c)
+    (subst⁻¹ (λ (n : ℕ). n ≤ 1073741823) (abs-signed (start c .args .y) (pos (magnitude (start c)))) (magnitude-le (start c)))
 
 returns : tie.Need-returns
+unfolding wholeQuotient magnitude
 returns c =
-    let s : tie.Start = c .before .before .before in
-    let one : c .before .before .magnitude .result + 1 ≡ suc (mag (s .args .y)) = omega (arith, size (c .before .before)) in
-    returned _ (c .quotient-by .ok)
-    (c .quotient-by .ensures
-    ∙ ap₂ overBy (returned _ (subst⁻¹ (λ (z : ℤ). mag z < 2 ^ 63) (opp s) (opp-small s)) (opp s)) one
-    ∙ sym (whole-below (s .args .x) (s .args .y) _ (negative _ (s .fits .y) (c .before .if1 .taken))))
-
-returns-2 : tie.Need-returns-2
-returns-2 c =
-    let s : tie.Start = c .before .before .before in
-    returned _ (c .quotient-by2 .ok)
-    (c .quotient-by2 .ensures
-    ∙ ap₂ overBy (toZ-ofZ (s .fits .x)) (size (c .before .before))
-    ∙ sym (whole-above (s .args .x) (s .args .y) _ (above (c .before))))
+    let s : tie.Start = start (c .before) in
+    returned _ (c .signed-by2 .ok) (c .signed-by2 .ensures ∙ ap₂ signedBy (toZ-ofZ (s .fits .x)) (inner-is (c .before)))
 
 pub whole-quotient-spec : {M : Type 1} → statement M
 whole-quotient-spec =
     tie.close
     (tie.spec
-    magnitude-requires
-    sub-quotient-by
-    add-quotient-by
-    quotient-by-requires
-    quotient-by-requires-2
-    returns
-    returns-2)
+    absolute-requires
+    absolute-requires-2
+    nearest-of-requires
+    cast-signed-by
+    signed-by-requires
+    signed-by-requires-2
+    returns)
