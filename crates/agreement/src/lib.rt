@@ -1,1 +1,2 @@
 // A plain module and its equalities say the same.
+#![tactic(auto)]

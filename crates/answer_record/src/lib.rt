@@ -1,5 +1,7 @@
 // An answer as a program gives it out in bytes: the record on standard output, or its refusal on standard error; and the bytes that an
 // argument says to lend.
+#![tactic(auto)]
+
 ghost use Rattle.std.specs.Prelude.{◌≡◌, ◌≤◌, length};
 ghost use Rattle.streams.specs.Streams.{Whole};
 ghost use Rattle.answer_record.specs.Given.{at_most, number_of, Few, given_of};
@@ -13,7 +15,7 @@ use streams::{Output, close_output, write_output};
 pub const MANY: usize = 100000000;
 
 // The bytes that an argument says to lend.
-#[derive(Drop)]
+#[derive(Clone, Copy)]
 pub enum Lent {
     Bytes(usize),
     NoNumber,

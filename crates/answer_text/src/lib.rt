@@ -1,4 +1,6 @@
 // What the text programs print of an answer: the equalities of the record that was written, or the refusal.
+#![tactic(auto)]
+
 ghost use Rattle.constraint_text.specs.Printing.{AllLines};
 ghost use Rattle.constraint_text.specs.Reading.{lines};
 ghost use Rattle.answer_text.specs.Answered.{lines_of};

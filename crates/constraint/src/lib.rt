@@ -1,5 +1,7 @@
 // The constraint record: its parts, and how an equality is written. Its header, its kept definitions and its nodes stand as a flat record's do, and are
 // written by `flat::entries`. Places are counted in words.
+#![tactic(auto)]
+
 pub mod reading;
 
 ghost use Rattle.std.specs.Prelude.{◌≡◌, ◌+◌, ◌*◌, ◌≤◌, length};
@@ -28,14 +30,14 @@ pub const EQUALITY_WORDS: usize = 7;
 pub const KEPT_WORDS: usize = DEFINITION_WORDS;
 
 // "A term is either a variable or a constant."
-#[derive(Drop)]
+#[derive(Clone, Copy)]
 pub enum Term {
     Variable(u32),
     Constant(i32),
 }
 
 // The operation of a right side: one of the nine on two terms, or negate or copy on one.
-#[derive(Drop)]
+#[derive(Clone, Copy)]
 pub enum Operation {
     Infix(InfixOp),
     Negate,
@@ -43,7 +45,7 @@ pub enum Operation {
 }
 
 // left = first OP second. Negate and copy have no second term: there it is Variable(0).
-#[derive(Drop)]
+#[derive(Clone, Copy)]
 pub struct Equality {
     pub left: Term,
     pub operation: Operation,

@@ -14,7 +14,7 @@ use records::NODE_WORDS;
 use words::{signed, word_at};
 
 // The header's numbers, the word at which each list starts (the public ids start behind the header), and the record's words in all.
-#[derive(Drop)]
+#[derive(Clone, Copy)]
 pub struct Layout {
     pub next: usize,
     pub publics: usize,

@@ -1,5 +1,7 @@
 // The text of a constraint record, in ASCII: "next N", then an equality a line. A line is made in an array of the caller's
 // and written by one call. No contract can speak of standard output: what is proved is each line, and how many there are.
+#![tactic(auto)]
+
 mod line;
 
 ghost use Rattle.std.specs.Prelude.{◌≡◌, ◌≤◌, length};
@@ -53,7 +55,7 @@ pub fn line_at(s: &[u8], k: usize, out: &mut [u8; LINE]) -> usize
 }
 
 // All lines were printed, so many; or a write failed, which was said, and no more was written.
-#[derive(Drop)]
+#[derive(Clone, Copy)]
 pub enum Printed {
     Lines(usize),
     Failed,

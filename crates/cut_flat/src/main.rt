@@ -1,6 +1,8 @@
 // The constraint record of a flat record: the flat record on standard input, its constraint record on standard output; at a refusal
 // nothing there, and "refused" with the number on standard error. Argument: how many bytes to lend as the output. If it is missing, or
 // more than a flat record can need, it counts as the most that one can. A read or a write that fails is said on standard error.
+#![tactic(auto)]
+
 use answer_record::{Lent, at_most, lent_bytes, print_answer};
 use flat::entries::BYTES;
 use libc::{STDERR_FILENO, STDIN_FILENO};

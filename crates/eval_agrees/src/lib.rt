@@ -1,1 +1,2 @@
 // Evaluation over the memory gives what evaluation on trees gives.
+#![tactic(auto)]

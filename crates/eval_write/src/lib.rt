@@ -1,4 +1,6 @@
 // The flat record, written from the evaluator's memory.
+#![tactic(auto)]
+
 mod trees;
 
 ghost use Rattle.std.specs.Prelude.{◌≡◌, ◌+◌, ◌*◌, ◌≤◌, ◌<◌, length};

@@ -1,5 +1,7 @@
 // Arithmetic modulo P = 2,147,483,647. An element is the number from -1,073,741,823 to 1,073,741,823 congruent to it, in an i64.
 // Every function takes any i64, which stands for its element.
+#![tactic(auto)]
+
 pub mod counts;
 mod inverses;
 mod residues;
@@ -16,14 +18,14 @@ use residues::{P, centred, magnitude, power_of, residue};
 use whole::whole_quotient;
 
 // What an operation answers: an element, or nothing where it has no value.
-#[derive(Drop)]
+#[derive(Clone, Copy)]
 pub enum Answer {
     Value(i64),
     Nothing,
 }
 
 // The operations on two elements, in the order of their numbers: / | * + - = ^ \ %
-#[derive(Drop)]
+#[derive(Clone, Copy)]
 pub enum InfixOp {
     Divide,
     DivideZ,

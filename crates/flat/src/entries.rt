@@ -25,14 +25,14 @@ pub const BYTES: usize = 4
     * (HEADER + PUBLICS + LISTED + MOST_DEFINITIONS + MOST_EQUATIONS + NODE_WORDS * NODES);
 
 // A definition: its id, and the root of its right side.
-#[derive(Drop)]
+#[derive(Clone, Copy)]
 pub struct DefinitionEntry {
     pub id: u32,
     pub node: usize,
 }
 
 // An equation: the roots of its sides.
-#[derive(Drop)]
+#[derive(Clone, Copy)]
 pub struct EquationEntry {
     pub left: usize,
     pub right: usize,

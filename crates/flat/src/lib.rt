@@ -1,4 +1,6 @@
 // The flat record: its layout, its nodes, and the check of a lent one (refusals 20 and 21).
+#![tactic(auto)]
+
 pub mod entries;
 mod lists;
 mod ordering;
@@ -25,14 +27,14 @@ use uses::trees_hold;
 const HEADER_BYTES: usize = 4 * HEADER;
 
 // What the check of a lent record answers.
-#[derive(Drop)]
+#[derive(Clone, Copy)]
 pub enum Checked {
     Accepted,
     Refused(u32),
 }
 
 // A node, with its children by their indices.
-#[derive(Drop)]
+#[derive(Clone, Copy)]
 pub enum Node {
     Infix(InfixOp, usize, usize),
     Negate(usize),
@@ -41,7 +43,7 @@ pub enum Node {
 }
 
 // The header's numbers, the word at which each list starts (the public ids start at word 6), and the record's words in all.
-#[derive(Drop)]
+#[derive(Clone, Copy)]
 pub struct Layout {
     pub next: usize,
     pub publics: usize,

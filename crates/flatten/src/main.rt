@@ -2,6 +2,8 @@
 // refusal nothing there, and "refused" with the number on standard error. Arguments: how many bytes to lend as the store,
 // and how many as the output. One that is missing, or more than can matter, counts as the most that can. A read or a write that
 // fails is said on standard error.
+#![tactic(auto)]
+
 use answer_record::{Lent, at_most, lent_bytes, print_answer};
 use flatten_entry::buffers::{STORE_BYTES, output_buffer, record_buffer, store_buffer};
 use libc::{STDERR_FILENO, STDIN_FILENO};

@@ -1,4 +1,6 @@
 // From a source record to its constraint record: numbering, evaluation and the four passes.
+#![tactic(auto)]
+
 pub mod buffers;
 
 ghost use Rattle.std.specs.Prelude.{◌≡◌, ◌≤◌, length, replicate, take};

@@ -1,5 +1,7 @@
 // The equalities of a source record: the record on standard input or in the file that is named, the text of its equalities, or
 // its refusal, on standard output, as program `equalities` writes them. A read or a write that fails is said on standard error.
+#![tactic(auto)]
+
 use answer_text::print_answer;
 use flatten_entry::buffers::{output_buffer, record_buffer, store_buffer};
 use streams::{Input, Opened, open_input, read_input};

@@ -1,4 +1,6 @@
 // Variable numbering: names become ids.
+#![tactic(auto)]
+
 mod expressions;
 mod listing;
 mod patterns;
@@ -24,7 +26,7 @@ use source::{Layout, layout_of};
 use source_check::{Checked, check_source};
 
 // The next free id, or the record's refusal.
-#[derive(Drop)]
+#[derive(Clone, Copy)]
 pub enum Numbered {
     Next(u32),
     Refused(u32),

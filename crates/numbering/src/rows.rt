@@ -7,7 +7,7 @@ ghost use Rattle.records.specs.SourceRecord.{NAMES, NODES};
 use records::source_record::{NAMES, NODES};
 
 // An id, and the next free one.
-#[derive(Drop)]
+#[derive(Clone, Copy)]
 pub struct Drawn {
     pub id: u32,
     pub next: u32,

@@ -1,4 +1,6 @@
 // flatten_module_to_3ac: definitions and equations cut into equalities of one operation each, written from word `at` of the body on.
+#![tactic(auto)]
+
 mod simplify;
 
 ghost use Rattle.std.specs.Prelude.{◌≡◌, [], ◌∷◌, ◌+◌, ◌*◌, ◌≤◌, ◌<◌, length};
@@ -23,14 +25,14 @@ use pass_copies::{Copied, Substitutions, copy_expr, is_dead, resolve, substitute
 use simplify::{copy, infix_op, negate};
 
 // The left side of what is cut: a new variable, or the term that is given.
-#[derive(Drop)]
+#[derive(Clone, Copy)]
 pub enum Target {
     New,
     Given(Term),
 }
 
 // What a cut leaves: the term that stands for the expression, the next id, and the word after the last equality.
-#[derive(Drop)]
+#[derive(Clone, Copy)]
 pub struct Cut {
     pub term: Term,
     pub next: u32,
@@ -116,7 +118,7 @@ fn flatten_expr_to_3ac(
 }
 
 // The next id, and the word after the last equality.
-#[derive(Drop)]
+#[derive(Clone, Copy)]
 pub struct Place {
     pub next: u32,
     pub at: usize,
@@ -198,7 +200,7 @@ pub fn flatten_defs(
 }
 
 // Which side of an equation is the left term of its last equality.
-#[derive(Drop)]
+#[derive(Clone, Copy)]
 pub enum Sides {
     Left(Term),
     Right(Term),

@@ -1,5 +1,7 @@
 // classify_defs: how each id is used, and which ids are the prover's. Usages stand in an array by id: 0 never, 1 witness, 2 constraint;
 // prover ids are marked by 1 in another.
+#![tactic(auto)]
+
 ghost use Rattle.std.specs.Prelude.{◌≡◌, ◌&&◌, ◌||◌, ◌+◌, ◌<◌, ◌≤◌, eqb, ltb};
 ghost use Rattle.flat.specs.Meaning.{update};
 ghost use Rattle.flat.specs.Record.{tree, module_of};

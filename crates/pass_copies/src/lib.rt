@@ -1,5 +1,7 @@
 // copy_propagate and eliminate_dead_equalities: what stands for a variable. Substitutions stand in an array, two words for an id: 0 where there is
 // none, 1 and an id, or 2 and a number's bits.
+#![tactic(auto)]
+
 ghost use Rattle.std.specs.Prelude.{◌≡◌, not, ◌+◌, ◌<◌, length, replicate};
 ghost use Rattle.flat.specs.Layout.{definitions, definitions_offset};
 ghost use Rattle.flat.specs.Record.{pick, tree, module_of};
@@ -56,7 +58,7 @@ pub fn resolve(subs: &Substitutions, v: u32, steps: usize) -> Term
 }
 
 // The root of an expression with the substitutions made: a term, or an operation on others.
-#[derive(Drop)]
+#[derive(Clone, Copy)]
 pub enum Copied {
     Leaf(Term),
     Tree,

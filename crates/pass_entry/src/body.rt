@@ -13,7 +13,7 @@ use pass_classify::{Provers, Usages};
 use records::flat_record::IDS;
 
 // The next id; the words of the body up to the equalities, up to the kept definitions, and in all; the nodes.
-#[derive(Drop)]
+#[derive(Clone, Copy)]
 pub struct Built {
     pub next: u32,
     pub start: usize,
@@ -23,7 +23,7 @@ pub struct Built {
 }
 
 // What the passes leave: the numbers of the record in the two lists, or document 01's number.
-#[derive(Drop)]
+#[derive(Clone, Copy)]
 pub enum Passed {
     Made(Built),
     Refused(u32),

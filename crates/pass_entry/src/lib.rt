@@ -1,4 +1,6 @@
 // From a flat record to its constraint record: the four passes, and the refusals 20 to 22, 32 and 33.
+#![tactic(auto)]
+
 mod body;
 mod lists;
 
@@ -27,14 +29,14 @@ const HEADER_BYTES: usize = 4 * HEADER;
 const NODE_BYTES: usize = 4 * NODE_WORDS;
 
 // The bytes written, or document 01's number.
-#[derive(Drop)]
+#[derive(Clone, Copy)]
 pub enum Answer {
     Written(usize),
     Refused(u32),
 }
 
 // What the constraint record of a flat record needs: its equalities and its bytes; or document 01's number.
-#[derive(Drop)]
+#[derive(Clone, Copy)]
 pub enum Need {
     Fits(usize, usize),
     Refused(u32),

@@ -1,4 +1,6 @@
 // The definitions of prover variables, kept uncut with the substitutions made: pairs of id and node in the body, nodes in a list of their own.
+#![tactic(auto)]
+
 ghost use Rattle.std.specs.Prelude.{◌≡◌, [], ◌∷◌, ◌+◌, ◌<◌, length};
 ghost use Rattle.flat.specs.Trees.{tree_nodes, definitions_nodes};
 ghost use Rattle.flat.specs.Layout.{definitions as definitionCount, definitions_offset, nodes_offset};
@@ -82,7 +84,7 @@ fn put_tree(
 }
 
 // The word after the last kept definition, and the index after the last node.
-#[derive(Drop)]
+#[derive(Clone, Copy)]
 pub struct Kept {
     pub at: usize,
     pub nodes: usize,

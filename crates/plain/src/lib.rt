@@ -1,1 +1,2 @@
 // Plain modules: what they mean, and that numbering and evaluation keep it.
+#![tactic(auto)]

@@ -1,5 +1,7 @@
 // The numbers that several parts share: kinds of nodes, operators, limits of the records and of evaluation, ids of the intrinsics. The definitions have them
 // by the same names.
+#![tactic(auto)]
+
 pub mod evaluation;
 pub mod flat_record;
 pub mod intrinsics;

@@ -1,7 +1,7 @@
 -- Nodes and their trees, for walks by a falling node index: what `entry_of` says of a node's tree, and, where the nodes fit, of its children and names. Assumes
 -- nothing.
 use Prim.Native.Nat.{ℕ, zero, suc, ◌+◌, ◌*◌, ◌^◌, ◌≤◌, ◌<◌}
-use mathlib.Core.Path.{◌≡◌, refl, sym, ap, ◌∙◌}
+use mathlib.Core.Path.{◌≡◌, ap₂, refl, sym, ap, ◌∙◌}
 use mathlib.Core.List.{List, [], ◌∷◌}
 use mathlib.Core.Bool.{Bool, true, false, ◌&&◌, ◌||◌}
 use mathlib.Core.Logic.{⊎_elim}
@@ -382,12 +382,12 @@ module _ (b : List ℕ) (at k x : ℕ) {item next result : ℕ} (e : entry_of b 
 
     pub items-end : next ≡ 4294967295 → (node_tree b at x).items ≡ Items.last (node_tree b at item).expression
     unfolding link_of
-    items-end z = ap (λ (t : Tree). t.items) (link-is b at x e) ∙ rw (eq-eqb next 4294967295 z, settled b at x item items-item.before)
+    items-end z = ap (λ (t : Tree). t.items) (link-is b at x e) ∙ rw (eq-eqb next 4294967295 z, link_of) (ap (λ (t : Tree). Items.last t.expression) (settled b at x item items-item.before))
 
     pub items-on : (next ≡ 4294967295 → ⊥) → (node_tree b at x).items ≡ Items.◌then◌ (node_tree b at item).expression (node_tree b at next).items
     unfolding link_of
-    items-on z = ap (λ (t : Tree). t.items) (link-is b at x e) ∙ rw (
-      ne_eqb next 4294967295 z,
-      settled b at x item items-item.before,
-      settled b at x next (chain-before b at Chain.Items x next (link-next b at Chain.Items k x f e z)),
-    )
+    items-on z =
+        ap (λ (t : Tree). t.items) (link-is b at x e)
+        ∙ rw (ne_eqb next 4294967295 z, link_of) (ap₂ (λ (t u : Tree). Items.◌then◌ t.expression u.items)
+        (settled b at x item items-item.before)
+        (settled b at x next (chain-before b at Chain.Items x next (link-next b at Chain.Items k x f e z))))

@@ -1,4 +1,6 @@
 // The source record, read in place: its layout, the entries of its lists, and its nodes.
+#![tactic(auto)]
+
 mod entries;
 pub mod lists;
 
@@ -26,7 +28,7 @@ const WORDS: usize = HEADER
 pub const BYTES: usize = 4 * WORDS + NAMES * NAME_BYTES;
 
 // The counts of the header, the word at which each list starts (the names' pairs start at word 5), and the byte at which the name text starts.
-#[derive(Drop)]
+#[derive(Clone, Copy)]
 pub struct Layout {
     pub names: usize,
     pub publics: usize,
@@ -41,7 +43,7 @@ pub struct Layout {
 }
 
 // An expression node: children and chains of links by their node indices, names by theirs.
-#[derive(Drop)]
+#[derive(Clone, Copy)]
 pub enum Form {
     Unit,
     Nil,
@@ -59,7 +61,7 @@ pub enum Form {
 }
 
 // A pattern node.
-#[derive(Drop)]
+#[derive(Clone, Copy)]
 pub enum Shape {
     Unit,
     Nil,
@@ -71,7 +73,7 @@ pub enum Shape {
 }
 
 // What the reader of a node answers: an expression, a pattern, a link (item, next link, arm result), or no node.
-#[derive(Drop)]
+#[derive(Clone, Copy)]
 pub enum Entry {
     Expression(Form),
     Pattern(Shape),
@@ -80,7 +82,7 @@ pub enum Entry {
 }
 
 // Whose links a chain's are.
-#[derive(Drop)]
+#[derive(Clone, Copy)]
 pub enum Chain {
     Parameters,
     Arms,
@@ -88,7 +90,7 @@ pub enum Chain {
 }
 
 // What a word of a node must be: a name, an expression, a pattern, or the first link of a chain; of no node, nothing can serve.
-#[derive(Drop)]
+#[derive(Clone, Copy)]
 pub enum Child {
     Nothing,
     Name(usize),
@@ -98,7 +100,7 @@ pub enum Child {
     Wrong,
 }
 
-#[derive(Drop)]
+#[derive(Clone, Copy)]
 pub struct Children {
     pub first: Child,
     pub second: Child,

@@ -14,21 +14,21 @@ pub const NAME_WORDS: usize = 2;
 pub const DEFINITION_WORDS: usize = 2;
 
 // A name: where it starts in the name text, and its bytes.
-#[derive(Drop)]
+#[derive(Clone, Copy)]
 pub struct NameEntry {
     pub offset: u32,
     pub size: u32,
 }
 
 // A definition: the nodes of its pattern and of its value.
-#[derive(Drop)]
+#[derive(Clone, Copy)]
 pub struct DefinitionEntry {
     pub pattern: u32,
     pub value: u32,
 }
 
 // A node: its kind, and its words a, b and c.
-#[derive(Drop)]
+#[derive(Clone, Copy)]
 pub struct NodeEntry {
     pub kind: u32,
     pub a: u32,

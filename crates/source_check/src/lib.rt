@@ -1,4 +1,6 @@
 // The check of a source record: accepted, or the first of refusals 1 to 6.
+#![tactic(auto)]
+
 mod asking;
 mod fingerprints;
 mod naming;
@@ -16,7 +18,7 @@ use source::layout_of;
 const HEADER_BYTES: usize = 4 * HEADER;
 
 // What the check of a source record answers.
-#[derive(Drop)]
+#[derive(Clone, Copy)]
 pub enum Checked {
     Accepted,
     Refused(u32),

@@ -1,32 +1,34 @@
 // The streams of a program. What fails is said on standard error, in words, and no failure is taken for an end or for success.
+#![tactic(auto)]
+
 ghost use Rattle.std.specs.Prelude.{length};
 ghost use Rattle.streams.specs.Streams.{Within, Whole, Stepped, Descriptor, Standard};
 
 use libc::{STDERR_FILENO, STDIN_FILENO, STDOUT_FILENO};
 
 // So many bytes, up to the end of the input or of the buffer; or a read failed, which was said.
-#[derive(Drop)]
+#[derive(Clone, Copy)]
 pub enum Input {
     Bytes(usize),
     Failed,
 }
 
 // All was written, so many bytes; or a write failed, which was said, and some bytes may have been written.
-#[derive(Drop)]
+#[derive(Clone, Copy)]
 pub enum Output {
     All(usize),
     Failed,
 }
 
 // A descriptor to read from; or there is none, which was said.
-#[derive(Drop)]
+#[derive(Clone, Copy)]
 pub enum Opened {
     At(i32),
     Failed,
 }
 
 // More bytes, at least one; the end of the input; or a read failed, which was said.
-#[derive(Drop)]
+#[derive(Clone, Copy)]
 enum Step {
     More(usize),
     End,

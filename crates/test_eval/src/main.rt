@@ -2,6 +2,8 @@
 // input: the words record length, number of runs and length of the expected flat record; two words for each run, the length of the
 // store to lend and the expected answer (0 for accepted, else the number of the refusal); the record; the expected flat record.
 // A read or a write that fails is said on standard error.
+#![tactic(auto)]
+
 use eval_entry::Answer;
 use eval_memory::{MOST_UNITS, UNIT_BYTES};
 use eval_write::FLAT_BYTES;
@@ -32,7 +34,7 @@ const UNCLEARED: u8 = 90;
 const NONE: u32 = 4294967295;
 
 // What a run came to. Differs: with the number that was answered, 0 for accepted.
-#[derive(Drop)]
+#[derive(Clone, Copy)]
 enum Seen {
     Accepted,
     Refused,

@@ -8,7 +8,7 @@ use crate::differs;
 use field::{Answer, InfixOp};
 
 // The fields of `DeskLaws`, in their order.
-#[derive(Drop)]
+#[derive(Clone, Copy)]
 enum Law {
     SumsCommute,
     ProductsCommute,
@@ -56,14 +56,14 @@ const TRIPLES: usize = 729;
 const LAW_ROW: usize = 6;
 
 // The two sides of a law.
-#[derive(Drop)]
+#[derive(Clone, Copy)]
 struct Sides {
     left: Answer,
     right: Answer,
 }
 
 // How often laws were tried, and how often their sides differ.
-#[derive(Drop)]
+#[derive(Clone, Copy)]
 pub struct Tried {
     pub cases: u64,
     pub differ: u64,

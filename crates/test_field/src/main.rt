@@ -1,5 +1,7 @@
 // Runs the field on vectors that another program made, and the desk's laws on numbers at the edges and on such vectors, and writes how
 // many there were and how many answers differ. A write that fails is said on standard error.
+#![tactic(auto)]
+
 mod law_vectors;
 mod laws;
 mod vectors;

@@ -1,6 +1,8 @@
 // Replays cases of the passes: flat records with the answers of the Rust, made by tools/flat_cases.py. A case on standard
 // input: the words record length, output room, store length and expected answer (a length, or 4,294,901,760 and the number
 // of a refusal), the record, and the expected constraint record. A read or a write that fails is said on standard error.
+#![tactic(auto)]
+
 ghost use Rattle.std.specs.Prelude.{◌≡◌, ◌+◌, ◌≤◌, ◌<◌, length, replicate};
 
 use pass_entry::Answer;
@@ -33,7 +35,7 @@ const UNWRITTEN: u8 = 165;
 const UNCLEARED: u8 = 90;
 
 // What the next bytes of the input are: those that were asked for, others, or none to be had.
-#[derive(Drop)]
+#[derive(Clone, Copy)]
 enum Next {
     These,
     Others,

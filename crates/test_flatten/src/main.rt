@@ -2,6 +2,8 @@
 // input: the words record length, number of runs and length of the expected constraint record; three words for each run, the
 // lengths of the store and of the output to lend and the expected answer (0 for accepted, else the number of the refusal); the
 // record; the expected constraint record. A read or a write that fails is said on standard error.
+#![tactic(auto)]
+
 use eval_memory::{MOST_UNITS, UNIT_BYTES};
 use pass_entry::Answer;
 use source::BYTES;
@@ -35,7 +37,7 @@ const UNWRITTEN: u8 = 165;
 const NONE: u32 = 4294967295;
 
 // What a run came to. Differs: with the number that was answered, 0 for accepted.
-#[derive(Drop)]
+#[derive(Clone, Copy)]
 enum Seen {
     Accepted,
     Refused,

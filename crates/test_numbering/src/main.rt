@@ -1,6 +1,8 @@
 // Replays cases of numbering: source records with the ids that the Rust gives, made by tools/number_cases.py. A case on standard
 // input: the words record length, expected answer (the next id, or 4,294,901,760 and the number of a refusal), counts of ids and
 // of publics, the record, and the expected entries of both arrays. A read or a write that fails is said on standard error.
+#![tactic(auto)]
+
 ghost use Rattle.std.specs.Prelude.{◌+◌, ◌*◌, ◌≤◌, length};
 
 use numbering::Numbered;

@@ -1,5 +1,7 @@
 // What the test programs share: reading the parts of their input, counting what these came to, and lines of text with counts in
 // them. A read or a write that fails is said on standard error by the crate `streams`, and nothing is read or written after it.
+#![tactic(auto)]
+
 mod line;
 
 ghost use Rattle.std.specs.Prelude.{◌≡◌, length, take};
@@ -14,7 +16,7 @@ use streams::{Input, Output, close_output, read_input, write_output};
 // A part of the input: a case, or some bytes of it. Whole: it was there, and what there was to say of it was said. End: the input had
 // ended before it. Broken: the input ends within it, or it does not fit here, so that no next one can be found. Failed: a read or a
 // write failed, which was said.
-#[derive(Drop)]
+#[derive(Clone, Copy)]
 pub enum Part {
     Whole,
     End,

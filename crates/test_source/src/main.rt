@@ -3,6 +3,8 @@
 // the length of a case: so many bytes of the base, with two words of it written anew. A case's words: length, expected answer (the
 // next id, or 4,294,901,760 and the number of a refusal), and twice the index of a word and the word that it becomes.
 // A read or a write that fails is said on standard error.
+#![tactic(auto)]
+
 ghost use Rattle.std.specs.Prelude.{◌≤◌, length};
 
 use numbering::Numbered;

@@ -1,0 +1,20 @@
+use Prim.Native.Nat.{◌+◌, ◌*◌}
+use Rattle.numbering.proofs.expressions.+number_arms_number_expr_variables_number_function_number_items_number_scope_number_sides.Given as goal
+
+abbrev pub decreases-number_arms : goal.decreases-number_arms
+decreases-number_arms l = 2 * l.l + 1
+
+abbrev pub decreases-number_expr_variables : goal.decreases-number_expr_variables
+decreases-number_expr_variables l = 2 * l.k + 1
+
+abbrev pub decreases-number_function : goal.decreases-number_function
+decreases-number_function l = 2 * l.y + 2
+
+abbrev pub decreases-number_items : goal.decreases-number_items
+decreases-number_items l = 2 * l.l + 1
+
+abbrev pub decreases-number_scope : goal.decreases-number_scope
+decreases-number_scope l = 2 * l.y + 2
+
+abbrev pub decreases-number_sides : goal.decreases-number_sides
+decreases-number_sides l = 2 * l.k

@@ -1,0 +1,20 @@
+-- `pass_3ac::simplify::divide_z` meets its contract. Assumes nothing.
+use Rattle.pass_trees.specs.Passes.{infix_op}
+use Rattle.pass_3ac.proofs.Simplified.{when-yes, when-no}
+use Rattle.pass_3ac.proofs.simplify.divide_z.Goals as goal
+
+pub returns-then-is_one : goal.returns-then-is_one
+unfolding infix_op
+returns-then-is_one c = when-yes _ _ _ _ c.is_one.ensures c.if-is_one.true c.copy.ensures
+
+pub returns-then-is_zero : goal.returns-then-is_zero
+unfolding infix_op
+returns-then-is_zero c =
+    when-no _ _ _ _ c.is_one.ensures c.if-is_one.false
+    (when-yes _ _ _ _ c.is_zero.ensures c.if-is_zero.true c.copy-then-is_zero.ensures)
+
+pub returns : goal.returns
+unfolding infix_op
+returns c =
+    when-no _ _ _ _ c.is_one.ensures c.if-is_one.false
+    (when-no _ _ _ _ c.is_zero.ensures c.if-is_zero.false c.plain.ensures)

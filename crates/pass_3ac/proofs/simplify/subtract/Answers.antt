@@ -1,0 +1,12 @@
+-- `pass_3ac::simplify::subtract` meets its contract. Assumes nothing.
+use Rattle.pass_trees.specs.Passes.{infix_op}
+use Rattle.pass_3ac.proofs.Simplified.{when-yes, when-no}
+use Rattle.pass_3ac.proofs.simplify.subtract.Goals as goal
+
+pub returns-then-is_zero : goal.returns-then-is_zero
+unfolding infix_op
+returns-then-is_zero c = when-yes _ _ _ _ c.is_zero.ensures c.if-is_zero.true c.copy.ensures
+
+pub returns : goal.returns
+unfolding infix_op
+returns c = when-no _ _ _ _ c.is_zero.ensures c.if-is_zero.false c.plain.ensures

@@ -1,0 +1,20 @@
+-- `pass_entry::cut` meets its contract. Assumes nothing.
+use mathlib.Core.Path.{sym, ◌∙◌}
+use Rattle.pass_entry.proofs.Answers.{gives_as, gives-refused, record-refused, record-accepted, record-passable}
+use Rattle.pass_entry.proofs.cut.Goals as goal
+
+pub passes-requires : goal.passes-requires
+passes-requires c = record-passable c.args.s.now (sym c.check_flat.ensures ∙ c.in-Accepted.is)
+
+pub returns-in-Refused : goal.returns-in-Refused
+returns-in-Refused c =
+    let g = gives_as c.args.out.now _ _ (record-refused c.args.s.now _
+    (sym c.check_flat.ensures ∙ c.in-Refused.is)) (gives-refused c.args.out.now _) in
+    (g.0, (g.1, c.clear.ensures))
+
+pub returns-in-Accepted : goal.returns-in-Accepted
+returns-in-Accepted c =
+    let g =
+    gives_as c.args.out.now _ _ (record-accepted c.args.s.now (sym c.check_flat.ensures ∙ c.in-Accepted.is))
+    c.passes.ensures in
+    (g.0, (g.1, c.clear.ensures))

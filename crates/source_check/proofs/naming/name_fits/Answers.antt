@@ -1,0 +1,35 @@
+-- `source_check::naming::name_fits` meets its contract. Assumes nothing.
+use Rattle.source.proofs.Parts.{offset-is, size_is}
+use Rattle.source.proofs.Names.{printed-past, name-starts-off, name-empty, name-long, name-sized}
+use Rattle.source_check.proofs.naming.name_fits.Goals as goal
+
+pub returns-then-offset-end : goal.returns-then-offset-end
+returns-then-offset-end c = name-starts-off c.args.s.now _ _ (offset-is c.name_at-name.ensures) c.requires.1.1 c.if-offset-end.true
+
+pub returns-then-n-lt1 : goal.returns-then-n-lt1
+returns-then-n-lt1 c =
+    let read = c.name_at-name.ensures in
+    name-empty c.args.s.now _ _ (offset-is read) c.requires.1.1 c.if-offset-end.false (size_is read) c.if-n-lt1.true
+
+pub returns-then-n-gt-NAME_BYTES : goal.returns-then-n-gt-NAME_BYTES
+returns-then-n-gt-NAME_BYTES c =
+    let read = c.name_at-name.ensures in
+    name-long c.args.s.now _ _ (offset-is read) c.requires.1.1 c.if-offset-end.false (size_is read)
+    c.if-n-lt1.false
+    c.if-n-gt-NAME_BYTES.true
+
+pub returns-then-s-text : goal.returns-then-s-text
+returns-then-s-text c =
+    let read = c.name_at-name.ensures in
+    name-sized c.args.s.now _ _ (offset-is read) c.requires.1.1 c.if-offset-end.false (size_is read)
+    c.if-n-lt1.false
+    c.if-n-gt-NAME_BYTES.false
+    (printed-past c.args.s.now _ _ c.if-n-lt1.false c.if-s-text.true)
+
+pub returns : goal.returns
+returns c =
+    let read = c.name_at-name.ensures in
+    name-sized c.args.s.now _ _ (offset-is read) c.requires.1.1 c.if-offset-end.false (size_is read)
+    c.if-n-lt1.false
+    c.if-n-gt-NAME_BYTES.false
+    c.prints.ensures

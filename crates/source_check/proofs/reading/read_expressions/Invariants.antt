@@ -1,0 +1,14 @@
+use Prim.Native.Nat.{◌-◌, ◌≤◌}
+use mathlib.Core.Path.{◌≡◌}
+use mathlib.Core.Bool.{true}
+use Rattle.source.specs.Nodes.{expressions_fit}
+use Rattle.source.specs.Uses.{by_expressions}
+use Rattle.source_check.specs.Marks.{Adds}
+use Rattle.source_check.proofs.reading.read_expressions.Given as goal
+
+abbrev pub invariant-loop-k : goal.invariant-loop-k
+invariant-loop-k l =
+    ((expressions_fit l.s l.at l.nodes l.list l.k ≡ true) × Adds l.initial.marks l.marks (by_expressions l.s l.list l.k)) × (l.k ≤ l.n)
+
+abbrev pub decreases-loop-k : goal.decreases-loop-k
+decreases-loop-k l = l.n - l.k
