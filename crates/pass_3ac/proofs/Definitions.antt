@@ -119,7 +119,7 @@ module _ (b : List ℕ) (k : ℕ) where
   pub few-defs : (s : Substitutions) (ds : List Definition) (n : ℕ) → Few (defs_cut b k s ds n) (definitions_nodes ds) n
   unfolding definitions_nodes
   few-defs s [] n = rw (defs-none s n) (few-none n)
-  few-defs s (d ∷ ds) n = rw (defs-first s d ds n) (few-join _ _ (few-def b k s d.id d.right n) (few-defs _ ds _))
+  few-defs s (d ∷ ds) n = rw (defs-first s d ds n) (few-join _ _ (few-def b k s d.id d.right n) (few-defs (defs_after b k s (d ∷ [])) ds _))
 
 -- ---- what is left of cut definitions: the body, the answer, the substitutions
 
