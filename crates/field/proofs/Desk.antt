@@ -1,5 +1,5 @@
 -- The laws of specs/Desk.antt, for any prime p, and so for the field's own. Assumes nothing.
-use mathlib.Core.Path.{◌≡◌, refl, sym, ap, ◌∙◌}
+use mathlib.Core.Path.{◌≡◌, refl, ap, ◌∙◌}
 use Prim.Native.Nat.{ℕ, ◌<◌}
 use native.Mathlib.Omega.{arith}
 use lib.IntN.{ℤ, pos, ◌+ℤ◌, ◌*ℤ◌}
@@ -8,7 +8,7 @@ use Rattle.field.specs.declared.Answer.TheVariants.{Value, Nothing}
 use Rattle.field.specs.declared.InfixOp.TheVariants.{Divide, DivideZ, Multiply, Add, Subtract}
 use Rattle.field.specs.Prime.{Prime, P}
 use Rattle.field.specs.Element.{res, elem}
-use Rattle.field.specs.Operations.{product, opposite, divide_of, divide_z_of, infix_of}
+use Rattle.field.specs.Operations.{opposite, divide_of, divide_z_of, infix_of}
 use Rattle.field.specs.Desk.{chained, NonZero, DeskLaws}
 use Rattle.field.proofs.Primality.{P-prime}
 use Rattle.field.proofs.Elements.{elem-zero, zero-elem}

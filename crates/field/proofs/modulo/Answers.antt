@@ -32,8 +32,7 @@ returns-then-residue-eq0 c =
     sym (pick-zero _ _ _ (sym (divisor (goal.at.returns-then-residue-eq0 c).After-residue) ∙ c.if-residue-eq0.true))
 
 pub whole_quotient-requires : goal.whole_quotient-requires
-whole_quotient-requires c =
-    (
+whole_quotient-requires c = (
   subst⁻¹ (λ (z : ℤ). nat_abs z ≤ 1073741823) (returned _ c.canonical-x.type_inv (x-is (goal.at.whole_quotient-requires c).After-canonical-x)) (elem-range P (omega arith) _),
   subst⁻¹ (λ (z : ℤ). nat_abs z ≤ 1073741823) (returned _ c.canonical-y.type_inv (y-is c)) (elem-range P (omega arith) _),
   λ z. c.if-residue-eq0.false (divisor (goal.at.whole_quotient-requires c).After-residue ∙ zero-elem P (omega arith) _ (sym (returned _ c.canonical-y.type_inv (y-is c)) ∙ z)),

@@ -32,7 +32,7 @@ joined c = let a : ℕ = c.loop-left.product in
     let b : ℕ = c.loop-left.base in
     let e : ℕ = c.loop-left.left in
     elim c.if-left-eq1.branch [
-      then-left-eq1 w ↦ (
+      | then-left-eq1 w ↦ (
         subst⁻¹ (λ (m : ℕ). m < P) w.product-is (mod-lt (a * b) (omega arith)),
         ap (λ (m : ℕ). (m * (b * b % P) ^ (e / 2)) % P) w.product-is ∙ turn_odd P a b e w.if-left-eq1.true,
       )

@@ -32,12 +32,11 @@ unfolding magnitude
 magnitude-le c = omega (arith, nearest-le (nat_abs c.args.x) (nat_abs c.args.y) (counts c.args.y c.requires.2), c.requires.0)
 
 pub nearest_of-q-requires : goal.nearest_of-q-requires
-nearest_of-q-requires c =
-    (
-      omega (arith, x-size c, c.requires.0),
-      omega (arith, y-size c, c.requires.1),
-      omega (arith, y-size c, counts c.args.y c.requires.2),
-    )
+nearest_of-q-requires c = (
+  omega (arith, x-size c, c.requires.0),
+  omega (arith, y-size c, c.requires.1),
+  omega (arith, y-size c, counts c.args.y c.requires.2),
+)
 
 pub overflow_cast-q : goal.overflow_cast-q
 overflow_cast-q c = record { sfits = omega (arith, magnitude-is c, magnitude-le (goal.at.overflow_cast-q c).Start) }
