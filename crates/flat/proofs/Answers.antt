@@ -1,6 +1,6 @@
 -- The whole check: the marks from the start to the test at the end, the cleared arrays, and the two numbers. Assumes nothing.
 use Prim.Native.Nat.{ℕ, ◌+◌, ◌*◌, ◌≤◌}
-use mathlib.Core.Path.{◌≡◌, sym, ap, ◌∙◌}
+use mathlib.Core.Path.{◌≡◌, ap, ◌∙◌}
 use mathlib.Core.List.{List}
 use mathlib.Core.Bool.{Bool, true, false, ◌&&◌}
 use native.Mathlib.Omega.{arith}
@@ -10,8 +10,8 @@ use borrow.Author.Tests.{leb-true, eqb-true}
 use Rattle.words.specs.Words.{word_at}
 use Rattle.records.specs.Kinds.{NODE-WORDS}
 use Rattle.words.proofs.Laws.{get_d-cleared}
-use Rattle.flat.specs.Layout.{layout_of, publics, provers, definitions, equations, nodes, next, size}
-use Rattle.flat.specs.Layout.{DEFINITION-WORDS, EQUATION-WORDS, provers_offset, definitions_offset, equations_offset, nodes_offset}
+use Rattle.flat.specs.Layout.{layout_of, publics, provers, definitions, equations, nodes, size}
+use Rattle.flat.specs.Layout.{DEFINITION-WORDS, EQUATION-WORDS}
 use Rattle.flat.specs.Record.{every, measured, rules, flat_of, checked, pick, rows, all_below, rising, definitions_fit, equations_fit}
 use Rattle.flat.specs.Record.{nodes_fit, ordered, definition_at, used_once, trees_hold, by_definitions, by_equations, by_nodes}
 use Rattle.flat.specs.Marks.{capped, Marked, Adds, no_marks}

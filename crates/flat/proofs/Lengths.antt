@@ -1,11 +1,11 @@
 -- How many words each part of a record has, and lists of parts in two pieces. Assumes nothing.
-use mathlib.Core.Path.{◌≡◌, refl, sym, ap, ◌∙◌}
+use mathlib.Core.Path.{◌≡◌, refl, sym}
 use mathlib.Core.List.{List, [], ◌∷◌, ◌++◌, append_assoc}
 use Prim.Native.Nat.{ℕ, ◌+◌, ◌-◌, ◌*◌, ◌<◌}
 use native.Mathlib.Omega.{arith}
 use lib.ListN.{length, length-append}
 use Rattle.flat.specs.Trees.{Flat, Definition, Equation, tree_nodes, definitions_nodes, equations_nodes}
-use Rattle.flat.specs.Layout.{DEFINITION-WORDS, EQUATION-WORDS, node_words, definition_words, equation_words}
+use Rattle.flat.specs.Layout.{DEFINITION-WORDS, EQUATION-WORDS, node_words, definition_words}
 use Rattle.flat.specs.Writer.{next_from, root_from, nodes_from, definitions_words, definitions_trees, equations_words, equations_trees}
 use Rattle.flat.proofs.EntryLaws.{length-definition, length-equation}
 

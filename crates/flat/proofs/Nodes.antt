@@ -19,7 +19,7 @@ use Rattle.flat.specs.declared.Node.TheVariants.{Infix, Negate, Constant, Variab
 use Rattle.flat.specs.Trees.{Flat}
 use Rattle.flat.specs.Rules.{Every}
 use Rattle.flat.specs.Layout.{node_at}
-use Rattle.flat.specs.Record.{pick, every, node_fits, nodes_fit, operator_of, node_for, node_of, grown, tree}
+use Rattle.flat.specs.Record.{pick, node_fits, nodes_fit, operator_of, node_for, node_of, grown, tree}
 use Rattle.flat.proofs.Laws.{split, alike, and_left, and_right, every-at}
 
 last : (t a c : Bool) → pick t (a && c) false ≡ true → a ≡ true

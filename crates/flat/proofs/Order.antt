@@ -1,5 +1,5 @@
 -- The order rule, from the last definition to the first. Assumes nothing.
-use Prim.Native.Nat.{ℕ, zero, suc, ◌+◌, ◌-◌, ◌*◌, ◌≤◌, ◌<◌}
+use Prim.Native.Nat.{ℕ, zero, suc, ◌+◌, ◌-◌, ◌≤◌, ◌<◌}
 use mathlib.Core.Path.{◌≡◌, refl, sym, ap, ◌∙◌}
 use mathlib.Core.List.{List, ◌∷◌}
 use mathlib.Core.Bool.{Bool, true, false, not, ◌&&◌, and-false}
@@ -10,7 +10,6 @@ use lib.ListN.{replicate, length-replicate, length, get_or, set}
 use lib.Seq.{get_or-set_same, get_or-set_other}
 use lib.Dec.{eqb, ltb}
 use borrow.Author.Tests.{eq-eqb, ne_eqb, ltb-true}
-use Rattle.words.specs.Words.{word_at}
 use Rattle.flat.specs.Trees.{Flat, Definition, every_id, defines}
 use Rattle.flat.specs.Marks.{Later, no_later}
 use Rattle.flat.specs.declared.Node.TheVariants.{Infix, Negate, Constant, Variable}

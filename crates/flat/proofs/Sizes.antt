@@ -3,17 +3,17 @@
 use Prim.Native.Nat.{ℕ, zero, suc, ◌+◌, ◌*◌, ◌≤◌, ◌<◌}
 use mathlib.Core.Path.{◌≡◌, refl, sym, ap, ap₂, ◌∙◌}
 use mathlib.Core.List.{List}
-use mathlib.Core.Bool.{Bool, true, false}
+use mathlib.Core.Bool.{Bool, true}
 use mathlib.Core.Logic.{⊎_elim}
 use native.Mathlib.Nat.{add-mul, one-mul, zero-mul}
 use native.Mathlib.Omega.{arith}
 use lib.Dec.{eqb, leb}
 use borrow.Author.Tests.{eq-eqb, ne_eqb, eqb-true}
 use Rattle.words.specs.Words.{word_at}
-use Rattle.flat.specs.Trees.{Flat, Definition, Equation, FlatModule, tree_nodes, definitions_nodes, equations_nodes, module_nodes}
+use Rattle.flat.specs.Trees.{Definition, Equation, FlatModule, tree_nodes, definitions_nodes, equations_nodes, module_nodes}
 use Rattle.flat.specs.Layout.{next, publics, provers, definitions, equations, nodes, provers_offset}
 use Rattle.flat.specs.Layout.{definitions_offset, equations_offset, nodes_offset, node_at, definition_entry, equation_entry}
-use Rattle.flat.specs.Record.{pick, every, total, rows, all_below, rising, definitions_fit, equations_fit, same, used_by, node_of, nodes_fit, tree, by_nodes}
+use Rattle.flat.specs.Record.{pick, total, rows, all_below, rising, definitions_fit, equations_fit, same, used_by, node_of, nodes_fit, tree, by_nodes}
 use Rattle.flat.specs.Record.{by_definitions, by_equations, used_once, trees_hold, ordered, definition_at, equation_at, module_of, rules, Read, flat_of}
 use Rattle.flat.specs.Readable.{Readable}
 use Rattle.flat.proofs.Laws.{alike, every-at, and_left, and_right}

@@ -1,6 +1,6 @@
 -- What holds of the module of a lent flat record, said of its trees. That each accepted record has it: `accepted-well-formed` in proofs/Wellformed.antt.
-use Rattle.std.specs.Prelude.{◌≡◌, List, [], ◌∷◌, Bool, true, false, ℕ, ◌<◌, ◌≤◌, length}
-use Rattle.flat.specs.Trees.{Flat, Definition, Equation, FlatModule, defines, module_nodes}
+use Rattle.std.specs.Prelude.{◌≡◌, List, [], ◌∷◌, false, ℕ, ◌<◌, ◌≤◌, length}
+use Rattle.flat.specs.Trees.{Flat, Definition, FlatModule, defines, module_nodes}
 use Rattle.records.specs.FlatRecord.{IDS, LISTED, NODES}
 
 -- of every element of a list, of every variable of a tree

@@ -40,7 +40,7 @@ returns-in-7 c = ap operator_of (sym c.in-7.is)
 pub returns-in_default : goal.returns-in_default
 unfolding operator_of
 returns-in_default c =
-    let r = c.in_default.rest in
+    let r = c.in_default.in_default-own.rest in
     pick_no _ _ (ne_eqb _ _ r.0.0.0.0.0.0.0.1)
     (pick_no _ _ (ne_eqb _ _ r.0.0.0.0.0.0.1) (pick_no _ _ (ne_eqb _ _ r.0.0.0.0.0.1) (pick_no _ _ (ne_eqb _ _ r.0.0.0.0.1) (pick_no _
     _ (ne_eqb _ _ r.0.0.0.1) (pick_no _ _ (ne_eqb _ _ r.0.0.1) (pick_no _ _ (ne_eqb _ _ r.0.1) (pick_no _ _ (ne_eqb _ _ r.1) (refl))))))))

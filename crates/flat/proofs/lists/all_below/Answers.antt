@@ -2,7 +2,6 @@
 use native.Mathlib.Omega.{arith}
 use Prim.Native.Nat.{◌+◌}
 use mathlib.Core.Path.{refl}
-use mathlib.Core.Bool.{true}
 use borrow.Author.Tests.{lt-ltb, le-ltb}
 use Rattle.words.specs.Words.{word_at}
 use Rattle.flat.specs.Record.{every, all_below}
@@ -20,12 +19,11 @@ returns-then-limit-count c =
     (le-ltb (word_at c.args.s.now (c.args.at + c.loop-k.k)) c.args.limit (omega arith))
 
 pub loop-k-preserved : goal.loop-k-preserved
-loop-k-preserved c =
-    (
-      every_more _ _ c.loop-k.invariant.0
-          (lt-ltb (word_at c.args.s.now (c.args.at + c.loop-k.k)) c.args.limit (omega arith)),
-      omega arith,
-    )
+loop-k-preserved c = (
+  every_more _ _ c.loop-k.invariant.0
+      (lt-ltb (word_at c.args.s.now (c.args.at + c.loop-k.k)) c.args.limit (omega arith)),
+  omega arith,
+)
 
 pub returns : goal.returns
 unfolding all_below

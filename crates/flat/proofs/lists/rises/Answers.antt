@@ -2,7 +2,6 @@
 use native.Mathlib.Omega.{arith}
 use Prim.Native.Nat.{◌-◌, ◌+◌}
 use mathlib.Core.Path.{refl}
-use mathlib.Core.Bool.{true}
 use borrow.Author.Tests.{lt-ltb, le-ltb}
 use Rattle.words.specs.Words.{word_at}
 use Rattle.flat.specs.Record.{every, rising}
@@ -24,12 +23,11 @@ returns-then-high-low c =
     (word_at c.args.s.now (c.args.at + c.loop-k.k)) (word_at c.args.s.now (c.args.at + c.loop-k.k + 1)) (omega arith))
 
 pub loop-k-preserved : goal.loop-k-preserved
-loop-k-preserved c =
-    (
-      every_more _ _ c.loop-k.invariant.0 (lt-ltb (word_at c.args.s.now (c.args.at + c.loop-k.k))
-          (word_at c.args.s.now (c.args.at + c.loop-k.k + 1)) (omega arith)),
-      omega arith,
-    )
+loop-k-preserved c = (
+  every_more _ _ c.loop-k.invariant.0 (lt-ltb (word_at c.args.s.now (c.args.at + c.loop-k.k))
+      (word_at c.args.s.now (c.args.at + c.loop-k.k + 1)) (omega arith)),
+  omega arith,
+)
 
 pub returns : goal.returns
 unfolding rising

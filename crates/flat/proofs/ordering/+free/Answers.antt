@@ -1,7 +1,6 @@
 -- `flat::ordering::free` meets its contract. Assumes nothing.
 use native.Mathlib.Omega.{arith}
 use mathlib.Core.Path.{◌∙◌, sym}
-use borrow.Author.Tests.{not-true, not-false}
 use Rattle.flat.proofs.Nodes.{infix-below, negate-below, variable-below}
 use Rattle.flat.proofs.Order.{walk-infix, walk-infix-no, walk-negate, walk-constant, walk-variable}
 use Rattle.flat.proofs.ordering.+free.Goals as goal
@@ -16,7 +15,7 @@ pub returns-then-not-free : goal.returns-then-not-free
 returns-then-not-free t c =
     let e = sym c.node_at.ensures ∙ c.in-Infix.is in
     let w = infix-below _ _ _ _ c.requires.0.1 _ c.requires.0.0 e in
-    walk-infix-no _ _ _ _ e w c.free.ensures (not-true _ c.if-not-free.true)
+    walk-infix-no _ _ _ _ e w c.free.ensures c.if-not-free.true
 
 pub free-requires-in-Infix : goal.free-requires-in-Infix
 free-requires-in-Infix t c =
@@ -39,7 +38,7 @@ pub returns-else-not-free : goal.returns-else-not-free
 returns-else-not-free t c =
     let e = sym c.node_at.ensures ∙ c.in-Infix.is in
     let w = infix-below _ _ _ _ c.requires.0.1 _ c.requires.0.0 e in
-    walk-infix _ _ _ _ e w c.free.ensures (not-false _ c.if-not-free.false) c.free-in-Infix.ensures
+    walk-infix _ _ _ _ e w c.free.ensures c.if-not-free.false c.free-in-Infix.ensures
 
 pub returns-in-Negate : goal.returns-in-Negate
 returns-in-Negate t c =

@@ -1,7 +1,6 @@
 -- `flat::uses::all_once` meets its contract. Assumes nothing.
 use native.Mathlib.Omega.{arith}
 use mathlib.Core.Path.{refl}
-use mathlib.Core.Bool.{true}
 use borrow.Author.Tests.{eq-eqb, ne_eqb}
 use Rattle.flat.specs.Record.{every}
 use Rattle.flat.proofs.Laws.{every-fails, every_more, every-all}
