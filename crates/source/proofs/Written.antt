@@ -22,7 +22,7 @@ use Rattle.source.specs.Nodes.{operator_of, infix_for, entry_for, entry_of, is_e
 use Rattle.source.specs.Nodes.{item_fits, result_fits, link_fits, chain_fits, child_fits, form_children, shape_children, children_fit}
 use Rattle.source.specs.Uses.{same, result_uses, link_uses, chain_uses, child_uses, children_use}
 use Rattle.source.specs.Record.{Tree, expression_of, pattern_of, link_of, tree, node_tree}
-use Rattle.source.specs.Encoding.{node, root_of, link_to, operator_number, pat_count, pats_count, expr_count, items_count, arms_count}
+use Rattle.source.specs.Encoding.{root_of, link_to, operator_number, pat_count, pats_count, expr_count, items_count, arms_count}
 use Rattle.source.specs.Encoding.{pat_nodes, pats_nodes, expr_nodes, items_nodes, arms_nodes, All, PatFits, ExprFits, ItemsFit, ArmsFit}
 use Rattle.source.proofs.Nodes.{settled, expression-is, pattern-is, link-is}
 use Rattle.source.proofs.Links.{chain-is, uses-is}

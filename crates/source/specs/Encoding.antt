@@ -1,11 +1,11 @@
 -- A module as a record, for a desk that writes one: nodes stand children first, each used once, a chain's links from the last to the first.
 -- That the record of a module which fits is read back as that module: `read_back` in proofs/Read_back.antt.
-use Rattle.std.specs.Prelude.{ℕ, zero, suc, ◌+◌, ◌-◌, ◌≤◌, ◌<◌, ◌≡◌, List, [], ◌∷◌, ◌++◌, length, ℤ}
+use Rattle.std.specs.Prelude.{ℕ, zero, suc, ◌+◌, ◌-◌, ◌≤◌, ◌<◌, ◌≡◌, List, [], ◌∷◌, ◌++◌, length}
 use Rattle.std.proofs.Common.{of_z, SFits}
 use Rattle.std.specs.Int.{w32}
 use Rattle.words.specs.Words.{bytes_of}
 use Rattle.field.specs.declared.InfixOp.{InfixOp}
-use Rattle.source.specs.Trees.{Which, Pat, Expr, Items, Arms, Env, Text, Module}
+use Rattle.source.specs.Trees.{Pat, Expr, Items, Arms, Env, Text, Module}
 use Rattle.records.specs.Kinds.{APPLICATION, AS-PATTERN, CONS, CONS-PATTERN, CONSTANT, CONSTANT-PATTERN, FUNCTION, INFIX, LET, LINK, MATCH}
 use Rattle.records.specs.Kinds.{NEGATE, NIL, NIL-PATTERN, PRODUCT, PRODUCT-PATTERN, SEQUENCE, UNIT, UNIT-PATTERN, VARIABLE, VARIABLE-PATTERN}
 use Rattle.records.specs.Operators.{ADD, DIVIDE, DIVIDE-Z, EQUAL, EXPONENTIATE, INT-DIVIDE, MODULO, MULTIPLY, SUBTRACT}

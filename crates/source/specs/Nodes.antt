@@ -1,6 +1,6 @@
 -- The nodes of a record with the bytes b, whose nodes start at word `at`: what each says, what its children are, and what 5 says of them.
 -- 5 is one number for all its rules, so their order says nothing.
-use Rattle.std.specs.Prelude.{ℕ, zero, suc, ◌+◌, ◌*◌, List, Bool, true, false, ◌&&◌, ◌||◌, leb, ltb, eqb}
+use Rattle.std.specs.Prelude.{ℕ, zero, suc, List, Bool, true, false, ◌&&◌, ◌||◌, leb, ltb, eqb}
 use Rattle.std.proofs.Common.{to_z}
 use Rattle.std.specs.Int.{w32}
 use Rattle.field.specs.declared.InfixOp.{InfixOp}

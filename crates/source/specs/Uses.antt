@@ -1,10 +1,10 @@
 -- How often each node is used, in a record with the bytes b whose nodes start at word `at`: what 6 says. It is asked only where nothing is 5.
-use Rattle.std.specs.Prelude.{ℕ, zero, suc, ◌+◌, List, Bool, true, false, eqb}
+use Rattle.std.specs.Prelude.{ℕ, zero, suc, ◌+◌, List, true, false, eqb}
 use Rattle.source.specs.declared.Entry.{Entry}
 use Rattle.source.specs.declared.Chain.{Chain}
 use Rattle.source.specs.declared.Child.{Child}
 use Rattle.source.specs.declared.Children.{Children}
-use Rattle.source.specs.Indices.{every, total, pick}
+use Rattle.source.specs.Indices.{total, pick}
 use Rattle.source.specs.Layout.{definition_entry, expression_root}
 use Rattle.source.specs.Nodes.{entry_of, children_of}
 use Rattle.records.specs.SourceRecord.{NO-LINK}

@@ -1,6 +1,7 @@
 -- `source::entries::entry` meets its contract. Assumes nothing.
 use Prim.Native.Nat.{ℕ}
-use mathlib.Core.Path.{refl, ◌∙◌, ap, sym}
+use Rattle.std.proofs.Common.{rules}
+use mathlib.Core.Path.{◌∙◌, ap, sym}
 use borrow.Author.Tests.{ne_eqb}
 use mir.Syntax.{w64}
 use mir.ValLaws.{to_z-of_z}
@@ -157,15 +158,4 @@ returns-in-22 c =
 
 pub returns-in_default : goal.returns-in_default
 unfolding entry_for
-returns-in_default c =
-    let r = c.in_default.rest in
-    pick_no _ _ (ne_eqb _ _ r.0.0.0.0.0.0.0.0.0.0.0.0.0.0.0.0.0.0.0.0.1)
-    (pick_no _ _ (ne_eqb _ _ r.0.0.0.0.0.0.0.0.0.0.0.0.0.0.0.0.0.0.0.1)
-    (pick_no _ _ (ne_eqb _ _ r.0.0.0.0.0.0.0.0.0.0.0.0.0.0.0.0.0.0.1) (pick_no _ _
-    (ne_eqb _ _ r.0.0.0.0.0.0.0.0.0.0.0.0.0.0.0.0.0.1) (pick_no _ _ (ne_eqb _ _ r.0.0.0.0.0.0.0.0.0.0.0.0.0.0.0.0.1)
-    (pick_no _ _ (ne_eqb _ _ r.0.0.0.0.0.0.0.0.0.0.0.0.0.0.0.1) (pick_no _ _ (ne_eqb _ _ r.0.0.0.0.0.0.0.0.0.0.0.0.0.0.1)
-    (pick_no _ _ (ne_eqb _ _ r.0.0.0.0.0.0.0.0.0.0.0.0.0.1) (pick_no _ _ (ne_eqb _ _ r.0.0.0.0.0.0.0.0.0.0.0.0.1)
-    (pick_no _ _ (ne_eqb _ _ r.0.0.0.0.0.0.0.0.0.0.0.1) (pick_no _ _ (ne_eqb _ _ r.0.0.0.0.0.0.0.0.0.0.1) (pick_no _ _ (ne_eqb _ _
-    r.0.0.0.0.0.0.0.0.0.1) (pick_no _ _ (ne_eqb _ _ r.0.0.0.0.0.0.0.0.1) (pick_no _ _ (ne_eqb _ _ r.0.0.0.0.0.0.0.1) (pick_no
-    _ _ (ne_eqb _ _ r.0.0.0.0.0.0.1) (pick_no _ _ (ne_eqb _ _ r.0.0.0.0.0.1) (pick_no _ _ (ne_eqb _ _ r.0.0.0.0.1) (pick_no _ _ (ne_eqb
-    _ _ r.0.0.0.1) (pick_no _ _ (ne_eqb _ _ r.0.0.1) (pick_no _ _ (ne_eqb _ _ r.0.1) (pick_no _ _ (ne_eqb _ _ r.1) (refl)))))))))))))))))))))
+returns-in_default c = search (rules, pick_no, ne_eqb) depth 50

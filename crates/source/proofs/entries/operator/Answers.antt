@@ -1,5 +1,6 @@
 -- `source::entries::operator` meets its contract. Assumes nothing.
-use mathlib.Core.Path.{refl, ap, sym}
+use Rattle.std.proofs.Common.{rules}
+use mathlib.Core.Path.{ap, sym}
 use borrow.Author.Tests.{ne_eqb}
 use Rattle.source.specs.Indices.{pick}
 use Rattle.source.specs.Nodes.{operator_of}
@@ -40,8 +41,4 @@ returns-in-7 c = ap operator_of (sym c.in-7.is)
 
 pub returns-in_default : goal.returns-in_default
 unfolding operator_of
-returns-in_default c =
-    let r = c.in_default.rest in
-    pick_no _ _ (ne_eqb _ _ r.0.0.0.0.0.0.0.1)
-    (pick_no _ _ (ne_eqb _ _ r.0.0.0.0.0.0.1) (pick_no _ _ (ne_eqb _ _ r.0.0.0.0.0.1) (pick_no _ _ (ne_eqb _ _ r.0.0.0.0.1) (pick_no _
-    _ (ne_eqb _ _ r.0.0.0.1) (pick_no _ _ (ne_eqb _ _ r.0.0.1) (pick_no _ _ (ne_eqb _ _ r.0.1) (pick_no _ _ (ne_eqb _ _ r.1) (refl))))))))
+returns-in_default c = search (rules, pick_no, ne_eqb) depth 50
