@@ -221,20 +221,20 @@ module _ (B : ℕ → Bool) (N : ℕ) (beyond : (x : ℕ) → N ≤ x → B x �
       exchanged-chain s s1 s2 u v w z acc q (exchange-back acc s1 new s2 second) (gives-state w v s2 u g) (gives-value w v s2 u g)
 
   chain-result : (ev : Expr → Run Expr) → Keeps B N t ev
-      → {Γ : List ℕ} {k : ℕ} {e : Expr} (τ : Table) (below : Bool) (acc : Options) (s u : State) (v : Expr) (z : ℤ) → Scoped B k Γ e
+      → {k : ℕ} {Γ : List ℕ} {e : Expr} (τ : Table) (below : Bool) (acc : Options) (s u : State) (v : Expr) (z : ℤ) → Scoped B k Γ e
       → let_chain ev e below acc s ≡ gives v u → k ≤ s.next → Core B N t s → Unbound B N t s → Agree B N t k Γ τ s → value_of τ e ≡ Value z → Chain s u v z acc
   unfolding let_chain value_of write
-  chain-result ev ih {Γ} {k} τ below acc s u v z s_constant e h c f a val =
+  chain-result ev ih {k} {Γ} τ below acc s u v z s_constant e h c f a val =
       finish-result ev _ s u v z acc (λ w s1 q. ih Γ k τ _ s s1 w z s_constant q h c f a val) e
-  chain-result ev ih {Γ} {k} τ below acc s u v z (s_bound i) e h c f a val =
+  chain-result ev ih {k} {Γ} τ below acc s u v z (s_bound i) e h c f a val =
       finish-result ev _ s u v z acc (λ w s1 q. ih Γ k τ _ s s1 w z (s_bound i) q h c f a val) e
-  chain-result ev ih {Γ} {k} τ below acc s u v z (s_free b l) e h c f a val =
+  chain-result ev ih {k} {Γ} τ below acc s u v z (s_free b l) e h c f a val =
       finish-result ev _ s u v z acc (λ w s1 q. ih Γ k τ _ s s1 w z (s_free b l) q h c f a val) e
-  chain-result ev ih {Γ} {k} τ below acc s u v z (s_negate p) e h c f a val =
+  chain-result ev ih {k} {Γ} τ below acc s u v z (s_negate p) e h c f a val =
       finish-result ev _ s u v z acc (λ w s1 q. ih Γ k τ _ s s1 w z (s_negate p) q h c f a val) e
-  chain-result ev ih {Γ} {k} τ below acc s u v z (s_binary ar p q) e h c f a val =
+  chain-result ev ih {k} {Γ} τ below acc s u v z (s_binary ar p q) e h c f a val =
       finish-result ev _ s u v z acc (λ w s1 g. ih Γ k τ _ s s1 w z (s_binary ar p q) g h c f a val) e
-  chain-result ev ih {Γ} {k} τ below acc s u v z (s_let {x = x} {v = d} {b = body} bx p q) e h c f a val =
+  chain-result ev ih {k} {Γ} τ below acc s u v z (s_let {x = x} {v = d} {b = body} bx p q) e h c f a val =
       bind-case (enter_let ev (variable_p x) d acc) (let_chain ev body true) s v u e λ new s1 first e1.
       let o = through-back (value_of τ d) (λ y. value_of (writing x (Value y) τ) body) z val in
       let n = enter-result ev ih Γ k τ x d s s1 acc new o.at bx p first h c f a o.arg in

@@ -534,21 +534,21 @@ module _ (B : ℕ → Bool) (N : ℕ) (beyond : (x : ℕ) → N ≤ x → B x �
         back = λ y. x.at y ∙ ap (restored y acc) (q.bindings.at y);
       }))
 
-  chain-shape : (ev : Expr → Run Expr) → KeepsOrder ev → {Γ : List ℕ} {k : ℕ} {e : Expr} (lo hi : ℕ) (below : Bool) (acc : Options) (s u : State) (v : Expr)
+  chain-shape : (ev : Expr → Run Expr) → KeepsOrder ev → {k : ℕ} {Γ : List ℕ} {e : Expr} (lo hi : ℕ) (below : Bool) (acc : Options) (s u : State) (v : Expr)
       → Scoped B k Γ e → Spans lo e hi → hi ≤ N → let_chain ev e below acc s ≡ gives v u → k ≤ s.next → Tidy lo s → Free s → InScope Γ s
       → ChainOrder hi s u v acc
   unfolding let_chain
-  chain-shape ev ih {Γ} {k} lo hi below acc s u v s_constant sp hn e h c f a =
+  chain-shape ev ih {k} {Γ} lo hi below acc s u v s_constant sp hn e h c f a =
       finish-shape ev hi _ s u v acc (λ w s1 g. ih Γ k lo hi _ s s1 w s_constant sp hn g h c f a) e
-  chain-shape ev ih {Γ} {k} lo hi below acc s u v (s_bound i) sp hn e h c f a =
+  chain-shape ev ih {k} {Γ} lo hi below acc s u v (s_bound i) sp hn e h c f a =
       finish-shape ev hi _ s u v acc (λ w s1 g. ih Γ k lo hi _ s s1 w (s_bound i) sp hn g h c f a) e
-  chain-shape ev ih {Γ} {k} lo hi below acc s u v (s_free b l) sp hn e h c f a =
+  chain-shape ev ih {k} {Γ} lo hi below acc s u v (s_free b l) sp hn e h c f a =
       finish-shape ev hi _ s u v acc (λ w s1 g. ih Γ k lo hi _ s s1 w (s_free b l) sp hn g h c f a) e
-  chain-shape ev ih {Γ} {k} lo hi below acc s u v (s_negate p) sp hn e h c f a =
+  chain-shape ev ih {k} {Γ} lo hi below acc s u v (s_negate p) sp hn e h c f a =
       finish-shape ev hi _ s u v acc (λ w s1 g. ih Γ k lo hi _ s s1 w (s_negate p) sp hn g h c f a) e
-  chain-shape ev ih {Γ} {k} lo hi below acc s u v (s_binary ar p q) sp hn e h c f a =
+  chain-shape ev ih {k} {Γ} lo hi below acc s u v (s_binary ar p q) sp hn e h c f a =
       finish-shape ev hi _ s u v acc (λ w s1 g. ih Γ k lo hi _ s s1 w (s_binary ar p q) sp hn g h c f a) e
-  chain-shape ev ih {Γ} {k} lo hi below acc s u v (s_let {x = x} {v = d} {b = body} bx p q) (spans_let {mid = mid} sp mx sq) hn e h c f a =
+  chain-shape ev ih {k} {Γ} lo hi below acc s u v (s_let {x = x} {v = d} {b = body} bx p q) (spans_let {mid = mid} sp mx sq) hn e h c f a =
       bind-case (enter_let ev (variable_p x) d acc) (let_chain ev body true) s v u e λ new s1 first e1.
       let n = enter-shape ev ih Γ k lo mid x d s s1 acc new bx p sp mx (le_trans (spans-le sq) hn) first h c f a in
       let rest = chain-shape ev ih (suc x) hi true new s1 u v q sq hn e1 (le_trans h n.next) n.tidy (record {

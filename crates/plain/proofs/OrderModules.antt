@@ -193,7 +193,7 @@ module _ (B : ℕ → Bool) (N : ℕ) (beyond : (x : ℕ) → N ≤ x → B x �
             (ul.ids x.left-tree x.left_is, ur.ids x.right-tree x.right_is) (sides-up s.next u.next n s.equations tm);
       }
 
-  equations-shape : {k lo hi : ℕ} {Γ : List ℕ} {es : List Expr} (l : ℕ) (s u : State) (y : Done) → ScopedEquations B k Γ es → SpansEquations lo es hi
+  equations-shape : {k hi : ℕ} {Γ : List ℕ} {lo : ℕ} {es : List Expr} (l : ℕ) (s u : State) (y : Done) → ScopedEquations B k Γ es → SpansEquations lo es hi
       → hi ≤ N → evaluate_exprs l es s ≡ gives y u → k ≤ s.next → Tidy B N beyond lo s → Free B N beyond s → InScope B N beyond Γ s
       → All (Sides s.next) s.equations → Behind hi Γ s u
   unfolding evaluate_exprs
