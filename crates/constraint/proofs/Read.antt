@@ -1,6 +1,6 @@
 -- What is read of a record, by the cases of the code. Assumes nothing.
 use Prim.Native.Nat.{ℕ, ◌+◌, ◌*◌}
-use mathlib.Core.Path.{◌≡◌, ap, ◌∙◌}
+use mathlib.Core.Path.{◌≡◌, ap}
 use mathlib.Core.List.{List}
 use lib.IntN.{ℤ}
 use mir.Val.{to_z}

@@ -3,7 +3,6 @@ use Rattle.std.specs.Prelude.{◌≡◌, List, ℕ, ◌+◌, ◌*◌, eqb}
 use Rattle.std.proofs.Common.{to_z, SFits}
 use Rattle.std.specs.Int.{w32}
 use Rattle.words.specs.Words.{word_at}
-use Rattle.flat.specs.Trees.{Definition}
 use Rattle.flat.specs.Rules.{All}
 pub use Rattle.flat.specs.Layout.{next, publics, provers, nodes, provers_offset}
 use Rattle.flat.specs.Layout.{public_at, prover_at}

@@ -1,4 +1,5 @@
 -- `constraint::put_term` meets its contract. Assumes nothing.
+use borrow.Author.Rules.{rules}
 use Rattle.constraint.proofs.Written.{variable-written, constant-written}
 use Rattle.constraint.proofs.put_term.Goals as goal
 
@@ -10,5 +11,5 @@ returns-in-Variable c =
 pub returns-in-Constant : goal.returns-in-Constant
 returns-in-Constant c =
     let entry = c.args in
-    constant-written entry.out.now entry.at _ _ _ c.in-Constant.is (record { sfits = c.known_told-in-Constant-1.given.0.1 })
+    constant-written entry.out.now entry.at _ _ _ c.in-Constant.is (search rules)
     c.unsigned.ensures c.put_word-in-Constant.ensures c.put_word-in-Constant-2.ensures
