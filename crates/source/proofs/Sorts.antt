@@ -1,12 +1,9 @@
 -- The sort of a child, as `let .. else` tells it. Assumes nothing.
 use Prim.Native.Nat.{ℕ, ◌≤◌, ◌<◌}
 use mathlib.Core.Path.{◌≡◌, refl, ap, ◌∙◌}
-use mathlib.Core.List.{List, [], ◌∷◌}
+use mathlib.Core.List.{List}
 use mathlib.Core.Bool.{true, false, and-false}
-use denote.Enum.Declared.{tag_of}
-use types.Run.{OneOf, miss}
 use borrow.Author.Tests.{le-ltb, lt-ltb}
-use Rattle.source.specs.contracts.Entry
 use Rattle.source.specs.declared.Entry.{Entry as Node}
 use Rattle.source.specs.declared.Form.{Form}
 use Rattle.source.specs.declared.Shape.{Shape}
@@ -15,17 +12,17 @@ use Rattle.source.specs.Nodes.{entry_of, is_expression, is_pattern, expression_f
 use Rattle.source.proofs.Laws.{not-both}
 use Rattle.source.proofs.Nodes.{ExpressionBelow, PatternBelow, link-of}
 
-not-expression : (e : Node) → OneOf (1 ∷ 2 ∷ 3 ∷ []) (tag_of Entry.the_type e) → is_expression e ≡ false
+not-expression : (e : Node) → ((f : Form) → e ≡ Node.Expression f → ⊥) → is_expression e ≡ false
 unfolding is_expression
-not-expression (Node.Expression f) h = absurd (miss (1 ∷ 2 ∷ 3 ∷ []) 0 tt h)
+not-expression (Node.Expression f) h = absurd (h f refl)
 not-expression (Node.Pattern p) h = refl
 not-expression (Node.Link item next result) h = refl
 not-expression Node.Bad h = refl
 
-not-pattern : (e : Node) → OneOf (0 ∷ 2 ∷ 3 ∷ []) (tag_of Entry.the_type e) → is_pattern e ≡ false
+not-pattern : (e : Node) → ((p : Shape) → e ≡ Node.Pattern p → ⊥) → is_pattern e ≡ false
 unfolding is_pattern
 not-pattern (Node.Expression f) h = refl
-not-pattern (Node.Pattern p) h = absurd (miss (0 ∷ 2 ∷ 3 ∷ []) 1 tt h)
+not-pattern (Node.Pattern p) h = absurd (h p refl)
 not-pattern (Node.Link item next result) h = refl
 not-pattern Node.Bad h = refl
 
@@ -34,7 +31,7 @@ module _ (b : List ℕ) (at k x : ℕ) where
   unfolding expression_fits
   expression-late h = rw (le-ltb x k h)
 
-  pub expression-not : (e : Node) → e ≡ entry_of b at x → OneOf (1 ∷ 2 ∷ 3 ∷ []) (tag_of Entry.the_type e) → expression_fits b at k x ≡ false
+  pub expression-not : (e : Node) → e ≡ entry_of b at x → ((f : Form) → e ≡ Node.Expression f → ⊥) → expression_fits b at k x ≡ false
   unfolding expression_fits
   expression-not e q h = rw (← q, not-expression e h, and-false)
 
@@ -46,7 +43,7 @@ module _ (b : List ℕ) (at k x : ℕ) where
   unfolding pattern_fits
   pattern-late h = rw (le-ltb x k h)
 
-  pub pattern-not : (e : Node) → e ≡ entry_of b at x → OneOf (0 ∷ 2 ∷ 3 ∷ []) (tag_of Entry.the_type e) → pattern_fits b at k x ≡ false
+  pub pattern-not : (e : Node) → e ≡ entry_of b at x → ((p : Shape) → e ≡ Node.Pattern p → ⊥) → pattern_fits b at k x ≡ false
   unfolding pattern_fits
   pattern-not e q h = rw (← q, not-pattern e h, and-false)
 
@@ -56,14 +53,14 @@ module _ (b : List ℕ) (at k x : ℕ) where
 
 -- what fits is of its sort: the `else` of a walk over an accepted record is never met
 pub sure-expression : (b : List ℕ) (at k x : ℕ) {e : Node} → ExpressionBelow b at k x → e ≡ entry_of b at x
-    → OneOf (1 ∷ 2 ∷ 3 ∷ []) (tag_of Entry.the_type e) → ⊥
+    → ((f : Form) → e ≡ Node.Expression f → ⊥) → ⊥
 sure-expression b at k x {e} f q o = not-both (not-expression e o) (ap is_expression q ∙ f.sort)
 
-pub sure-pattern : (b : List ℕ) (at k x : ℕ) {e : Node} → PatternBelow b at k x → e ≡ entry_of b at x → OneOf (0 ∷ 2 ∷ 3 ∷ []) (tag_of Entry.the_type e) → ⊥
+pub sure-pattern : (b : List ℕ) (at k x : ℕ) {e : Node} → PatternBelow b at k x → e ≡ entry_of b at x → ((p : Shape) → e ≡ Node.Pattern p → ⊥) → ⊥
 sure-pattern b at k x {e} f q o = not-both (not-pattern e o) (ap is_pattern q ∙ f.sort)
 
 pub sure-link : (b : List ℕ) (at : ℕ) (h : Chain) (k x : ℕ) {e : Node} → chain_fits b at h k x ≡ true → e ≡ entry_of b at x
-    → OneOf (0 ∷ 1 ∷ 3 ∷ []) (tag_of Entry.the_type e) → ⊥
+    → ((item next result : ℕ) → e ≡ Node.Link item next result → ⊥) → ⊥
 sure-link b at h k x {e} f q o =
     let w = link-of b at h k x f in
-    miss (0 ∷ 1 ∷ 3 ∷ []) 2 tt (rw (q ∙ w.3) at o)
+    o w.0 w.1 w.2 (q ∙ w.3)

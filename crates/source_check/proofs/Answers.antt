@@ -9,7 +9,7 @@ use lib.Dec.{leb, ltb, eqb}
 use borrow.Author.Tests.{leb-true, le-leb, lt-leb}
 use Rattle.source.specs.declared.Layout.{Layout}
 use Rattle.source.specs.Indices.{every}
-use Rattle.source.specs.Layout.{layout_of, counted, listed, names, publics, definitions, expressions, nodes, text_offset, NAME-WORDS, DEFINITION-WORDS}
+use Rattle.source.specs.Layout.{layout_of, counted, listed, names, text_offset, NAME-WORDS, DEFINITION-WORDS}
 use Rattle.source.specs.Names.{names_fit, names_differ}
 use Rattle.source.specs.Nodes.{nodes_fit, publics_fit, definitions_fit, expressions_fit}
 use Rattle.source.specs.Uses.{by_nodes, by_definitions, by_expressions}

@@ -1,16 +1,12 @@
 -- The loop along a chain of links. Assumes nothing.
 use Prim.Native.Nat.{ℕ, ◌+◌, ◌≤◌, ◌<◌}
 use mathlib.Core.Path.{◌≡◌, refl, sym, ap, ◌∙◌}
-use mathlib.Core.List.{List, [], ◌∷◌}
+use mathlib.Core.List.{List}
 use mathlib.Core.Bool.{Bool, true, false, ◌&&◌, ◌||◌}
 use native.Mathlib.Omega.{arith}
-use denote.Enum.Declared.{tag_of}
-use types.Run.{OneOf, miss}
 use lib.ListN.{get_or, set}
 use lib.Dec.{eqb}
 use borrow.Author.Tests.{eq-eqb, ne_eqb}
-use Rattle.source.specs.contracts.Entry
-use Rattle.source.specs.contracts.Chain
 use Rattle.source.specs.declared.Entry.{Entry as Node}
 use Rattle.source.specs.declared.Chain.{Chain as Owner}
 use Rattle.source.specs.Indices.{pick}
@@ -23,19 +19,19 @@ use Rattle.source_check.proofs.Marks.{accepted, refused, adds-use, adds_none, ad
 
 -- ---- by whom an arm result is used
 
-no_result : (h : Owner) → OneOf (0 ∷ 2 ∷ []) (tag_of Chain.the_type h) → (x k : ℕ) → result_uses h x k ≡ 0
+no_result : (h : Owner) → (h ≡ Owner.Arms → ⊥) → (x k : ℕ) → result_uses h x k ≡ 0
 unfolding result_uses
 no_result Owner.Parameters o x k = refl
-no_result Owner.Arms o x k = absurd (miss (0 ∷ 2 ∷ []) 1 tt o)
+no_result Owner.Arms o x k = absurd (o refl)
 no_result Owner.Items o x k = refl
 
-pub result-unused : (m : List ℕ) (h : Owner) (x : ℕ) → OneOf (0 ∷ 2 ∷ []) (tag_of Chain.the_type h) → Adds m m (result_uses h x)
+pub result-unused : (m : List ℕ) (h : Owner) (x : ℕ) → (h ≡ Owner.Arms → ⊥) → Adds m m (result_uses h x)
 result-unused m h x o = adds_none m _ (λ k. no_result h o x k)
 
-pub result-blank : (b : List ℕ) (at : ℕ) (h : Owner) (k x : ℕ) → OneOf (0 ∷ 2 ∷ []) (tag_of Chain.the_type h) → result_fits b at h k x ≡ eqb x 0
+pub result-blank : (b : List ℕ) (at : ℕ) (h : Owner) (k x : ℕ) → (h ≡ Owner.Arms → ⊥) → result_fits b at h k x ≡ eqb x 0
 unfolding result_fits
 result-blank b at Owner.Parameters k x o = refl
-result-blank b at Owner.Arms k x o = absurd (miss (0 ∷ 2 ∷ []) 1 tt o)
+result-blank b at Owner.Arms k x o = absurd (o refl)
 result-blank b at Owner.Items k x o = refl
 
 -- ---- the loop along a chain
@@ -47,12 +43,12 @@ pub record Onward (m₀ m : List ℕ) (f g : ℕ → ℕ) : Type 0 where
 pub onward-start : (m : List ℕ) (f : ℕ → ℕ) → Onward m m f f
 onward-start m f = record { onward = λ m' a. a }
 
-not-link : (b : List ℕ) (at : ℕ) (h : Owner) (rest : ℕ → Bool) (k : ℕ) (e : Node) → OneOf (0 ∷ 1 ∷ 3 ∷ []) (tag_of Entry.the_type e)
+not-link : (b : List ℕ) (at : ℕ) (h : Owner) (rest : ℕ → Bool) (k : ℕ) (e : Node) → ((item next result : ℕ) → e ≡ Node.Link item next result → ⊥)
     → link_fits b at h rest k e ≡ false
 unfolding link_fits
 not-link b at h rest k (Node.Expression f) o = refl
 not-link b at h rest k (Node.Pattern p) o = refl
-not-link b at h rest k (Node.Link item next result) o = absurd (miss (0 ∷ 1 ∷ 3 ∷ []) 2 tt o)
+not-link b at h rest k (Node.Link item next result) o = absurd (o item next result refl)
 not-link b at h rest k Node.Bad o = refl
 
 -- at link x, met below `above`, of a chain from `first` on that node k owns
@@ -61,7 +57,7 @@ module _ (b : List ℕ) (at : ℕ) (h : Owner) (k first above x : ℕ) (i : chai
   way-late l = i ∙ chain-late b at h above x l
 
   module _ {e : Node} (l : x < above) (q : e ≡ entry_of b at x) where
-    pub way-other : OneOf (0 ∷ 1 ∷ 3 ∷ []) (tag_of Entry.the_type e) → chain_fits b at h k first ≡ false
+    pub way-other : ((item next result : ℕ) → e ≡ Node.Link item next result → ⊥) → chain_fits b at h k first ≡ false
     way-other o = i ∙ chain-is b at h above x l ∙ ap (link_fits b at h (chain_fits b at h x) x) (sym q) ∙ not-link b at h _ x e o
 
     module _ {item next result : ℕ} (w : e ≡ Node.Link item next result) where

@@ -1,6 +1,5 @@
 -- `source_check::check_source` meets its contract. Assumes nothing.
 use mathlib.Core.Path.{refl, ◌∙◌, sym}
-use borrow.Author.Tests.{not-true, not-false}
 use Rattle.source_check.proofs.Answers.{room, is-short, is-over, is-unlisted, is-unnamed, is-equal, is-trees, few-names, few-nodes, long-lists}
 use Rattle.source_check.proofs.check_source.Goals as goal
 
@@ -8,50 +7,47 @@ pub returns-then-size-lt-HEADER_BYTES : goal.returns-then-size-lt-HEADER_BYTES
 returns-then-size-lt-HEADER_BYTES c = is-short c.args.s.now c.if-size-lt-HEADER_BYTES.true
 
 pub returns-then-not-counted : goal.returns-then-not-counted
-returns-then-not-counted c = is-over c.args.s.now c.if-size-lt-HEADER_BYTES.false c.layout_of-l.ensures refl (not-true _ c.if-not-counted.true)
+returns-then-not-counted c = is-over c.args.s.now c.if-size-lt-HEADER_BYTES.false c.layout_of-l.ensures refl c.if-not-counted.true
 
 pub returns-then-not-listed : goal.returns-then-not-listed
 returns-then-not-listed c =
-    is-unlisted c.args.s.now c.if-size-lt-HEADER_BYTES.false c.layout_of-l.ensures refl (not-false _ c.if-not-counted.false) refl
-    (not-true _ c.if-not-listed.true)
+    is-unlisted c.args.s.now c.if-size-lt-HEADER_BYTES.false c.layout_of-l.ensures refl c.if-not-counted.false refl
+    c.if-not-listed.true
 
 pub names_fit-requires : goal.names_fit-requires
-names_fit-requires c =
-    (
-      (room c.args.s.now _ c.layout_of-l.ensures (long-lists _ _ _ (not-false _ c.if-not-listed.false))).names_in,
-      (long-lists _ _ _ (not-false _ c.if-not-listed.false)),
-    )
+names_fit-requires c = (
+  (room c.args.s.now _ c.layout_of-l.ensures (long-lists _ _ _ c.if-not-listed.false)).names_in,
+  (long-lists _ _ _ c.if-not-listed.false),
+)
 
 pub returns-then-not-names_fit : goal.returns-then-not-names_fit
 returns-then-not-names_fit c =
-    is-unnamed c.args.s.now c.if-size-lt-HEADER_BYTES.false c.layout_of-l.ensures refl (not-false _ c.if-not-counted.false) refl
-    (not-false _ c.if-not-listed.false) c.names_fit.ensures (not-true _ c.if-not-names_fit.true)
+    is-unnamed c.args.s.now c.if-size-lt-HEADER_BYTES.false c.layout_of-l.ensures refl c.if-not-counted.false refl
+    c.if-not-listed.false c.names_fit.ensures c.if-not-names_fit.true
 
 pub names_differ-requires : goal.names_differ-requires
-names_differ-requires c =
-    (
-      (
-        (room c.args.s.now _ c.layout_of-l.ensures (long-lists _ _ _ (not-false _ c.if-not-listed.false))).names_in,
-        sym c.names_fit.ensures ∙ not-false _ c.if-not-names_fit.false,
-      ),
-      few-names c.layout_of-l.result (not-false _ c.if-not-counted.false),
-    )
+names_differ-requires c = (
+  (
+    (room c.args.s.now _ c.layout_of-l.ensures (long-lists _ _ _ c.if-not-listed.false)).names_in,
+    sym c.names_fit.ensures ∙ c.if-not-names_fit.false,
+  ),
+  few-names c.layout_of-l.result c.if-not-counted.false,
+)
 
 pub returns-then-not-names_differ : goal.returns-then-not-names_differ
 returns-then-not-names_differ c =
-    is-equal c.args.s.now c.if-size-lt-HEADER_BYTES.false c.layout_of-l.ensures refl (not-false _ c.if-not-counted.false) refl
-    (not-false _ c.if-not-listed.false) c.names_fit.ensures (not-false _ c.if-not-names_fit.false)
-    c.names_differ.ensures (not-true _ c.if-not-names_differ.true)
+    is-equal c.args.s.now c.if-size-lt-HEADER_BYTES.false c.layout_of-l.ensures refl c.if-not-counted.false refl
+    c.if-not-listed.false c.names_fit.ensures c.if-not-names_fit.false
+    c.names_differ.ensures c.if-not-names_differ.true
 
 pub read_trees-requires : goal.read_trees-requires
-read_trees-requires c =
-    (
-      c.layout_of-l.ensures,
-      ((long-lists _ _ _ (not-false _ c.if-not-listed.false)), few-nodes c.layout_of-l.result (not-false _ c.if-not-counted.false)),
-    )
+read_trees-requires c = (
+  c.layout_of-l.ensures,
+  ((long-lists _ _ _ c.if-not-listed.false), few-nodes c.layout_of-l.result c.if-not-counted.false),
+)
 
 pub returns : goal.returns
 returns c =
-    is-trees c.args.s.now c.if-size-lt-HEADER_BYTES.false c.layout_of-l.ensures refl (not-false _ c.if-not-counted.false) refl
-    (not-false _ c.if-not-listed.false) c.names_fit.ensures (not-false _ c.if-not-names_fit.false)
-    c.names_differ.ensures (not-false _ c.if-not-names_differ.false) c.read_trees.ensures
+    is-trees c.args.s.now c.if-size-lt-HEADER_BYTES.false c.layout_of-l.ensures refl c.if-not-counted.false refl
+    c.if-not-listed.false c.names_fit.ensures c.if-not-names_fit.false
+    c.names_differ.ensures c.if-not-names_differ.false c.read_trees.ensures

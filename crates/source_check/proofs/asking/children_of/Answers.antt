@@ -1,6 +1,6 @@
 -- `source_check::asking::children_of` meets its contract. Assumes nothing.
 use mathlib.Core.Path.{◌∙◌, ap, sym}
-use Rattle.source.specs.Nodes.{three, children_of}
+use Rattle.source.specs.Nodes.{children_of}
 use Rattle.source_check.proofs.asking.children_of.Goals as goal
 
 pub returns-in-Link : goal.returns-in-Link

@@ -1,6 +1,6 @@
 -- `source_check::asking::form_children` meets its contract. Assumes nothing.
 use mathlib.Core.Path.{◌∙◌, ap, sym}
-use Rattle.source.specs.Nodes.{three, form_children}
+use Rattle.source.specs.Nodes.{form_children}
 use Rattle.source_check.proofs.asking.form_children.Goals as goal
 
 pub returns-in-Unit : goal.returns-in-Unit

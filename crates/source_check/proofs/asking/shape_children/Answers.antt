@@ -1,6 +1,6 @@
 -- `source_check::asking::shape_children` meets its contract. Assumes nothing.
 use mathlib.Core.Path.{◌∙◌, ap, sym}
-use Rattle.source.specs.Nodes.{three, shape_children}
+use Rattle.source.specs.Nodes.{shape_children}
 use Rattle.source_check.proofs.asking.shape_children.Goals as goal
 
 pub returns-in-Unit : goal.returns-in-Unit

@@ -1,6 +1,5 @@
 -- `source_check::naming::name_new` meets its contract. Assumes nothing.
 use native.Mathlib.Omega.{arith}
-use mathlib.Core.Bool.{true}
 use Rattle.source.proofs.Laws.{every-none}
 use Rattle.source.proofs.Names.{new-more, new-fails, new-all}
 use Rattle.source_check.proofs.naming.name_new.Goals as goal
@@ -10,10 +9,10 @@ loop-j-init c = (every-none _, omega arith)
 
 pub same_found-requires : goal.same_found-requires
 same_found-requires c =
-    (
-  c.requires.0,
-  ((omega (arith, c.requires.1.0), c.requires.1.0), c.requires.1.1),
-)
+    record {
+      n_in_bounds = c.requires.n_in_bounds;
+      j_lt_n = ((omega (arith, c.requires.k_lt_n.0), c.requires.k_lt_n.0), c.requires.k_lt_n.1);
+    }
 
 pub returns-then-same_found : goal.returns-then-same_found
 returns-then-same_found c =

@@ -1,9 +1,6 @@
 -- `source_check::naming::names_differ` meets its contract. Assumes nothing.
 use native.Mathlib.Omega.{arith}
 use mathlib.Core.Path.{◌∙◌, sym}
-use mathlib.Core.Bool.{true}
-use borrow.Author.Tests.{not-true, not-false}
-use Rattle.source.specs.Names.{name_new}
 use Rattle.source.proofs.Laws.{every-none, every_more}
 use Rattle.source.proofs.Names.{differ-fails, differ-all}
 use Rattle.source_check.proofs.naming.names_differ.Goals as goal
@@ -15,15 +12,18 @@ pub loop-k-init : goal.loop-k-init
 loop-k-init c = (every-none _, omega arith)
 
 pub name_new-requires : goal.name_new-requires
-name_new-requires c = (c.requires.0, (c.loop-k-test.true, (c.requires.1, c.fingerprints-prints.ensures.1)))
+name_new-requires c = record {
+  n_in_bounds = c.requires.0;
+  k_lt_n = (c.loop-k-test.true, (c.requires.1, c.fingerprints-prints.ensures.1));
+}
 
 pub returns-then-not-name_new : goal.returns-then-not-name_new
 returns-then-not-name_new c =
     differ-fails c.args.s.now _ _ c.loop-k.k c.loop-k-test.true c.name_new.ensures
-    (not-true _ c.if-not-name_new.true)
+    c.if-not-name_new.true
 
 pub loop-k-preserved : goal.loop-k-preserved
-loop-k-preserved c = (every_more _ _ c.loop-k.invariant.0 (sym c.name_new.ensures ∙ not-false _ c.if-not-name_new.false), omega arith)
+loop-k-preserved c = (every_more _ _ c.loop-k.invariant.0 (sym c.name_new.ensures ∙ c.if-not-name_new.false), omega arith)
 
 pub returns : goal.returns
 returns c = differ-all c.args.s.now _ _ _ c.loop-k.invariant.0 (omega (arith, c.loop-k-test.false))

@@ -2,9 +2,6 @@
 use borrow.Author.Rules.{rules}
 use native.Mathlib.Omega.{arith}
 use mathlib.Core.Path.{◌∙◌, sym}
-use mathlib.Core.Bool.{true}
-use borrow.Author.Tests.{not-true, not-false}
-use Rattle.source.specs.Names.{name_fits}
 use Rattle.source.proofs.Laws.{every-none, every_more}
 use Rattle.source.proofs.Parts.{offset-is, size_is}
 use Rattle.source.proofs.Names.{end_none, end_more, names-fail, names-end}
@@ -19,14 +16,14 @@ name_fits-requires c = (omega (arith, c.requires.0), (c.requires.1, c.loop-k.inv
 pub returns-then-not-name_fits : goal.returns-then-not-name_fits
 returns-then-not-name_fits c =
     names-fail c.args.s.now _ _ c.loop-k.k c.loop-k-test.true c.name_fits.ensures
-    (not-true _ c.if-not-name_fits.true)
+    c.if-not-name_fits.true
 
 pub loop-k-preserved : goal.loop-k-preserved
 loop-k-preserved c =
     let b = c.args.s.now in
     let turn = c.loop-k in
     let read = c.name_at-name.ensures in
-    let fits = sym c.name_fits.ensures ∙ not-false _ c.if-not-name_fits.false in
+    let fits = sym c.name_fits.ensures ∙ c.if-not-name_fits.false in
     ((every_more _ _ turn.invariant.0.0 fits, end_more b _ (offset-is read) (size_is read)), (omega arith, search rules))
 
 pub returns : goal.returns

@@ -2,8 +2,6 @@
 use native.Mathlib.Omega.{arith}
 use Prim.Native.Nat.{ℕ}
 use mathlib.Core.Path.{◌∙◌, ap, sym}
-use mathlib.Core.Bool.{true}
-use borrow.Author.Tests.{not-true, not-false}
 use Rattle.source.specs.Names.{printed}
 use Rattle.source.proofs.Names.{printed-none, printed-more, printed-fails}
 use Rattle.source_check.proofs.naming.prints.Goals as goal
@@ -12,10 +10,10 @@ pub loop-i-init : goal.loop-i-init
 loop-i-init c = (printed-none _ _, omega arith)
 
 pub returns-then-not-fits : goal.returns-then-not-fits
-returns-then-not-fits c = printed-fails c.args.s.now _ _ c.loop-i.i c.loop-i-test.true (not-true _ c.if-not-fits.true)
+returns-then-not-fits c = printed-fails c.args.s.now _ _ c.loop-i.i c.loop-i-test.true c.if-not-fits.true
 
 pub loop-i-preserved : goal.loop-i-preserved
-loop-i-preserved c = (printed-more c.args.s.now _ _ c.loop-i.invariant.0 (not-false _ c.if-not-fits.false), omega arith)
+loop-i-preserved c = (printed-more c.args.s.now _ _ c.loop-i.invariant.0 c.if-not-fits.false, omega arith)
 
 pub returns : goal.returns
 returns c =

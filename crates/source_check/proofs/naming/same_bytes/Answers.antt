@@ -2,7 +2,6 @@
 use native.Mathlib.Omega.{arith}
 use Prim.Native.Nat.{ℕ}
 use mathlib.Core.Path.{◌∙◌, ap, sym}
-use mathlib.Core.Bool.{true}
 use Rattle.source.specs.Names.{same_bytes}
 use Rattle.source.proofs.Names.{same_none, same_more, same-fails}
 use Rattle.source_check.proofs.naming.same_bytes.Goals as goal

@@ -1,6 +1,5 @@
 -- `source_check::reading::all_once` meets its contract. Assumes nothing.
 use native.Mathlib.Omega.{arith}
-use mathlib.Core.Bool.{true}
 use borrow.Author.Tests.{eq-eqb, ne_eqb}
 use Rattle.source.proofs.Laws.{every-none, every_more, every-fails, every-all}
 use Rattle.source_check.proofs.reading.all_once.Goals as goal

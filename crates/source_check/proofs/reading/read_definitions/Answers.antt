@@ -1,7 +1,6 @@
 -- `source_check::reading::read_definitions` meets its contract. Assumes nothing.
 use native.Mathlib.Omega.{arith}
 use mathlib.Core.Path.{◌≡◌, ◌∙◌, ap, sym}
-use mathlib.Core.Bool.{true}
 use Rattle.source.specs.Nodes.{definitions_fit}
 use Rattle.source.proofs.Parts.{pattern-is, value-is}
 use Rattle.source_check.proofs.Marks.{accepts, refuses, not-accepted}
@@ -56,8 +55,8 @@ loop-k-preserved c =
 pub returns : goal.returns
 returns c =
     let e : c.loop-k.k ≡ c.args.n = omega (arith, c.loop-k-test.false) in (
-  accepts 5 _ (ap (definitions_fit c.args.s.now c.args.at
-      c.args.nodes c.args.list) (sym e)
-      ∙ c.loop-k.invariant.0.0),
-  λ _. rw e at c.loop-k.invariant.0.1,
-)
+      accepts 5 _ (ap (definitions_fit c.args.s.now c.args.at
+          c.args.nodes c.args.list) (sym e)
+          ∙ c.loop-k.invariant.0.0),
+      λ _. rw e at c.loop-k.invariant.0.1,
+    )

@@ -1,7 +1,6 @@
 -- `source_check::reading::read_publics` meets its contract. Assumes nothing.
 use native.Mathlib.Omega.{arith}
 use mathlib.Core.Path.{◌≡◌, ◌∙◌, ap, sym}
-use mathlib.Core.Bool.{true}
 use Rattle.source.specs.Nodes.{publics_fit}
 use Rattle.source_check.proofs.Marks.{accepts, refuses}
 use Rattle.source.proofs.Publics.{publics-fail, publics-none, publics-more}

@@ -4,8 +4,7 @@ use Rattle.source_check.proofs.Answers.{trees-shaped, trees-marked, trees-once, 
 use Rattle.source_check.proofs.reading.read_trees.Goals as goal
 
 pub read_nodes-requires : goal.read_nodes-requires
-read_nodes-requires c =
-    (
+read_nodes-requires c = (
   (room c.args.s.now _ c.requires.0 c.requires.1.0).nodes-in,
   c.requires.1.1,
 )
@@ -22,11 +21,10 @@ returns-in_default-read_publics c =
     c.read_publics.ensures c.in_default-read_publics.is
 
 pub read_definitions-requires : goal.read_definitions-requires
-read_definitions-requires c =
-    (
-      (room c.args.s.now _ c.requires.0 c.requires.1.0).definitions-in,
-      ((room c.args.s.now _ c.requires.0 c.requires.1.0).nodes-in, c.requires.1.1),
-    )
+read_definitions-requires c = (
+  (room c.args.s.now _ c.requires.0 c.requires.1.0).definitions-in,
+  ((room c.args.s.now _ c.requires.0 c.requires.1.0).nodes-in, c.requires.1.1),
+)
 
 pub returns-in_default-read_definitions : goal.returns-in_default-read_definitions
 returns-in_default-read_definitions c =
@@ -34,11 +32,10 @@ returns-in_default-read_definitions c =
     c.read_publics.ensures c.in-Accepted-read_publics.is c.read_definitions.ensures.0 c.in_default-read_definitions.is
 
 pub read_expressions-requires : goal.read_expressions-requires
-read_expressions-requires c =
-    (
-      (room c.args.s.now _ c.requires.0 c.requires.1.0).expressions-in,
-      ((room c.args.s.now _ c.requires.0 c.requires.1.0).nodes-in, c.requires.1.1),
-    )
+read_expressions-requires c = (
+  (room c.args.s.now _ c.requires.0 c.requires.1.0).expressions-in,
+  ((room c.args.s.now _ c.requires.0 c.requires.1.0).nodes-in, c.requires.1.1),
+)
 
 pub returns-in_default-read_expressions : goal.returns-in_default-read_expressions
 returns-in_default-read_expressions c =
