@@ -28,15 +28,14 @@ COMPUTED = {
     "plain/proofs/Example.antt",
 }
 
-USE = re.compile(r"^(?:ghost )?use (Rattle·[^{;\s]+?)(?:\.\{([^}]*)\})?(?: as (\S+?))?;?$", re.M)
+USE = re.compile(r"^(?:pub )?(?:ghost )?use (Rattle\.[^{;\s]+?)(?:\.\{([^}]*)\})?(?: as (\S+?))?;?$", re.M)
 SIGNATURE = re.compile(r"^\s*((?:(?:pub|abbrev|unfoldable) )*)(\S+)(?: \{[^}]*\})? :(?: |$)")
 UNFOLDING = re.compile(r"^\s*unfolding((?: \S+)+)$")
 
 
 def module_of(path):
-    """The module that a use names: `Rattle·field·specs.specs.Element` is `field.specs.Element`, as seen from within and from without."""
-    crate, rest = path[len("Rattle·"):].split(".", 1)
-    return crate.split("·")[0] + "." + rest
+    """The module that a use names: `Rattle.field.specs.Element` is `field.specs.Element`."""
+    return path[len("Rattle."):]
 
 
 def imported(lines):
@@ -67,7 +66,7 @@ def clauses(module, lines):
         opened = set()
         for name in clause.group(1).split():
             qualifier, _, last = name.rpartition(".")
-            if qualifier.startswith("Rattle·"):
+            if qualifier.startswith("Rattle."):
                 opened.add((module_of(qualifier), last))
             elif qualifier in qualifiers:
                 opened.add((qualifiers[qualifier], last))

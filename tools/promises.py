@@ -4,7 +4,7 @@
     python3 tools/promises.py            a table: function, requires, ensures, and a remark
     python3 tools/promises.py --silent   only functions that are silent: without an ensures, or about the later contents of a slice that they are lent
 
-A remark says where the result or the later contents of a lent slice are not a side of an equation (`r ≡ ..`, `now (x .exit) ≡ ..`): `by made: result`
+A remark says where the result or the later contents of a lent slice are not a side of an equation (`result ≡ ..`, `x.new ≡ ..`): `by made: result`
 where the equation is of a function of it, `no equation` where a relation holds or the answer is free. Functions of a private module that no `pub use`
 hands on are marked `inner`: no other crate can call them. The exit status is 1 if a function is silent.
 """
@@ -75,7 +75,7 @@ def equations(text):
 def view_of(pattern, clauses):
     """Of what matches the pattern: "" if an equation has it, or its fields, as a side; the function of it that is a side; None where it is in none."""
     found = None
-    for left, right in [equation for clause in clauses for equation in equations(re.sub(r"^λ \w+\.", "", clause))]:
+    for left, right in [equation for clause in clauses for equation in equations(clause)]:
         for side, other in ((left, right), (right, left)):
             if re.search(pattern, side) and not re.search(pattern, other):
                 if re.fullmatch(pattern + r"(?: \.\w+)?", side):
@@ -85,8 +85,8 @@ def view_of(pattern, clauses):
 
 
 def fact(clause):
-    """A clause on one line, without the brackets of its fact."""
-    return " ".join(clause.replace("⌜", "").replace("⌝", "").split())
+    """A clause on one line."""
+    return " ".join(clause.split())
 
 
 class Function:
@@ -106,13 +106,12 @@ class Function:
         if not self.ensures:
             return ["no ensures"] if self.result or self.lent else []
         said = " ".join(self.ensures)
-        return [f"nothing of `{name}`" for name in self.lent if not re.search(rf"\b{name} \.exit", said)]
+        return [f"nothing of `{name}`" for name in self.lent if not re.search(rf"\b{name}\.new\b", said)]
 
     def said(self):
         """For the result and each lent slice: "" if an equation says what it is, the name of a view if one says it of that, else None."""
-        answer = next((found.group(1) for clause in self.ensures for found in [re.match(r"λ (\w+)\.", clause)] if found and found.group(1) != "_"), None)
-        names = {"result": rf"(?<![\w.]){answer}(?!\w)"} if self.result and self.ensures else {}
-        names.update({f"`{name}`": rf"now \({name} \.exit\)" for name in self.lent if self.ensures})
+        names = {"result": r"(?<![\w.])result(?![\w.])"} if self.result and self.ensures else {}
+        names.update({f"`{name}`": rf"(?<![\w.]){name}\.new(?!\w)" for name in self.lent if self.ensures})
         return {name: view_of(pattern, self.ensures) for name, pattern in names.items()}
 
     def remark(self):
@@ -131,7 +130,7 @@ def clauses(text, at):
     """The requires and ensures clauses from `at` on."""
     found = {"requires": [], "ensures": []}
     while True:
-        word = re.compile(r"\s*(requires|ensures)\s*(?=\{)").match(text, at)
+        word = re.compile(r"\s*(requires|ensures)\s*(?:\w+\s*)?(?=\{)").match(text, at)
         if not word:
             return found["requires"], found["ensures"]
         at = matching(text, word.end())
@@ -161,7 +160,8 @@ def read_crate(crate):
     while waiting:
         module, reached = waiting.pop(0)
         text = without_comments(file_of(folder, module).read_text(encoding="utf-8"))
-        handed_on += re.findall(r"\bpub use (?:super::|self::)*([\w:]+);", text)
+        for path, items in re.findall(r"\bpub use (?:super::|self::)*([\w:]+?)(?:::\{([^}]*)\})?;", text):
+            handed_on += [f"{path}::{item.strip()}" for item in items.split(",")] if items else [path]
         waiting += [(module + [name], reached and bool(public)) for public, name in re.findall(r"^(pub )?mod (\w+);", text, re.M)]
         for function in functions_of(crate.name, module, text):
             function.inner = not reached
