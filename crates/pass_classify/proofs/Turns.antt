@@ -12,7 +12,7 @@ use Rattle.flat.specs.declared.entries.DefinitionEntry.{DefinitionEntry}
 use Rattle.flat.specs.declared.entries.EquationEntry.{EquationEntry}
 use Rattle.flat.specs.Meaning.{update}
 use Rattle.flat.specs.Trees.{Flat, Definition, Equation}
-use Rattle.flat.specs.Layout.{provers, definitions, equations, prover_at, definition_entry, equation_entry}
+use Rattle.flat.specs.Layout.{prover_at, definition_entry, equation_entry}
 use Rattle.flat.specs.Record.{tree, module_of}
 use Rattle.flat.specs.Readable.{Readable}
 use Rattle.flat.proofs.Laws.{split, alike}

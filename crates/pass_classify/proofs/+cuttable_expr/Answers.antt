@@ -1,7 +1,6 @@
 -- `pass_classify::cuttable_expr` meets its contract. Assumes nothing.
 use native.Mathlib.Omega.{arith}
 use mathlib.Core.Path.{◌∙◌, sym}
-use borrow.Author.Tests.{not-true, not-false}
 use Rattle.pass_classify.proofs.Walks.{left-inside, right-inside, child-inside, cuttable-operator-no, cuttable-left-no}
 use Rattle.pass_classify.proofs.Walks.{cuttable-infix, cuttable-negate, cuttable-constant, cuttable-variable}
 use Rattle.pass_classify.proofs.+cuttable_expr.Goals as goal
@@ -9,7 +8,7 @@ use Rattle.pass_classify.proofs.+cuttable_expr.Goals as goal
 pub returns-then-not-cuttable_operator : goal.returns-then-not-cuttable_operator
 returns-then-not-cuttable_operator t c =
     cuttable-operator-no c.requires (sym c.node_at-node.ensures ∙ c.in-Infix.is)
-    c.cuttable_operator.ensures (not-true _ c.if-not-cuttable_operator.true)
+    c.cuttable_operator.ensures c.if-not-cuttable_operator.true
 
 pub cuttable_expr-requires : goal.cuttable_expr-requires
 cuttable_expr-requires t c =
@@ -19,7 +18,7 @@ cuttable_expr-requires t c =
 pub returns-then-not-cuttable_expr : goal.returns-then-not-cuttable_expr
 returns-then-not-cuttable_expr t c =
     cuttable-left-no c.requires (sym c.node_at-node.ensures ∙ c.in-Infix.is) c.cuttable_operator.ensures
-    (not-false _ c.if-not-cuttable_operator.false) c.cuttable_expr.ensures (not-true _ c.if-not-cuttable_expr.true)
+    c.if-not-cuttable_operator.false c.cuttable_expr.ensures c.if-not-cuttable_expr.true
 
 pub cuttable_expr-requires-in-Infix : goal.cuttable_expr-requires-in-Infix
 cuttable_expr-requires-in-Infix t c =
@@ -33,7 +32,7 @@ cuttable_expr-requires-in-Negate t c =
 pub returns-else-not-cuttable_expr : goal.returns-else-not-cuttable_expr
 returns-else-not-cuttable_expr t c =
     cuttable-infix c.requires (sym c.node_at-node.ensures ∙ c.in-Infix.is) c.cuttable_operator.ensures
-    (not-false _ c.if-not-cuttable_operator.false) c.cuttable_expr.ensures (not-false _ c.if-not-cuttable_expr.false)
+    c.if-not-cuttable_operator.false c.cuttable_expr.ensures c.if-not-cuttable_expr.false
     c.cuttable_expr-in-Infix.ensures
 
 pub returns-in-Negate : goal.returns-in-Negate

@@ -14,14 +14,13 @@ pub mark_equations-requires : goal.mark_equations-requires
 mark_equations-requires c = (c.requires.0, none-codes 2 c.requires.1)
 
 pub mark_definitions-requires : goal.mark_definitions-requires
-mark_definitions-requires c =
-    (
-      c.requires.0,
-      (
-        c.mark_equations.ensures.codes,
-        provers-marked _ _ (ap marked c.requires.2 ∙ none-marked) c.mark_provers.ensures,
-      ),
-    )
+mark_definitions-requires c = (
+  c.requires.0,
+  (
+    c.mark_equations.ensures.codes,
+    provers-marked _ _ (ap marked c.requires.2 ∙ none-marked) c.mark_provers.ensures,
+  ),
+)
 
 pub add_witnesses-requires : goal.add_witnesses-requires
 add_witnesses-requires c = (omega (arith, layout-next _ c.layout_of-layout.ensures, c.requires.0.next_small), c.mark_provers.ensures.codes)

@@ -1,6 +1,5 @@
 -- `pass_classify::cuttable_equations` meets its contract. Assumes nothing.
 use native.Mathlib.Omega.{arith}
-use borrow.Author.Tests.{not-true, not-false}
 use Rattle.pass_classify.proofs.Lists.{over-equations, left-side, right_side}
 use Rattle.pass_classify.proofs.Turns.{cuttable-start, left-fails, right-fails, cuttable-turn, cuttable-end}
 use Rattle.pass_classify.proofs.cuttable_equations.Goals as goal
@@ -15,7 +14,7 @@ pub returns-then-not-cuttable_expr : goal.returns-then-not-cuttable_expr
 returns-then-not-cuttable_expr c =
     let readable = c.requires in
     left-fails readable c.loop-k.invariant.0 c.loop-k-test.true c.equation_at-e.ensures c.loop-k.invariant.1 c.cuttable_expr.ensures
-    (not-true _ c.if-not-cuttable_expr.true)
+    c.if-not-cuttable_expr.true
 
 pub cuttable_expr-requires-in-loop-k : goal.cuttable_expr-requires-in-loop-k
 cuttable_expr-requires-in-loop-k c = right_side c.requires c.loop-k.invariant.0 c.loop-k-test.true c.equation_at-e.ensures
@@ -24,10 +23,10 @@ pub returns-then-not-cuttable_expr-2 : goal.returns-then-not-cuttable_expr-2
 returns-then-not-cuttable_expr-2 c =
     let readable = c.requires in
     let left = c.cuttable_expr.ensures in
-    let left-true = not-false _ c.if-not-cuttable_expr.false in
+    let left-true = c.if-not-cuttable_expr.false in
     let right = c.cuttable_expr-in-loop-k.ensures in
     right-fails readable c.loop-k.invariant.0 c.loop-k-test.true c.equation_at-e.ensures c.loop-k.invariant.1 left left-true right
-    (not-true _ c.if-not-cuttable_expr-2.true)
+    c.if-not-cuttable_expr-2.true
 
 pub loop-k-preserved : goal.loop-k-preserved
 loop-k-preserved c =
@@ -38,7 +37,7 @@ loop-k-preserved c =
     let left = c.cuttable_expr.ensures in
     let right = c.cuttable_expr-in-loop-k.ensures in (
       record { count = o.count; place = o.place; trees = o.trees; within = omega arith },
-      cuttable-turn readable o more read c.loop-k.invariant.1 left (not-false _ c.if-not-cuttable_expr.false) right (not-false _ c.if-not-cuttable_expr-2.false),
+      cuttable-turn readable o more read c.loop-k.invariant.1 left c.if-not-cuttable_expr.false right c.if-not-cuttable_expr-2.false,
     )
 
 pub returns : goal.returns

@@ -1,5 +1,4 @@
 use Prim.Native.Nat.{◌-◌}
-use Rattle.flat.specs.Layout.{equations}
 use Rattle.pass_classify.proofs.Lists.{OverEquations}
 use Rattle.pass_classify.proofs.Turns.{CuttableFrom}
 use Rattle.pass_classify.proofs.cuttable_equations.Given as goal

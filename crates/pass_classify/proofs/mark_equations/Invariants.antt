@@ -1,6 +1,5 @@
 use Prim.Native.Nat.{◌-◌}
 use Rattle.pass_classify.specs.Arrays.{Codes}
-use Rattle.flat.specs.Layout.{equations}
 use Rattle.pass_classify.proofs.Lists.{OverEquations}
 use Rattle.pass_classify.proofs.Turns.{UsedFrom}
 use Rattle.pass_classify.proofs.mark_equations.Given as goal
