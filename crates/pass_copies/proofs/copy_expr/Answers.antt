@@ -1,4 +1,5 @@
 -- `pass_copies::copy_expr` meets its contract. Assumes nothing.
+use borrow.Author.Rules.{rules}
 use mathlib.Core.Path.{◌∙◌, ap, sym}
 use lib.IntN.{ℤ}
 use mir.ValLaws.{to_z-of_z}
@@ -16,7 +17,7 @@ returns-in-Negate c = sym (root-negate (copy-negate c.requires _ _ (sym c.node_a
 
 pub returns-in-Constant : goal.returns-in-Constant
 returns-in-Constant c =
-    ap (λ (n : ℤ). Copied.Leaf (Term.Constant n)) (to_z-of_z w32 _ (record { sfits = c.known_told-1.given.0.1 }))
+    ap (λ (n : ℤ). Copied.Leaf (Term.Constant n)) (to_z-of_z w32 _ (search rules))
     ∙ sym (root-leaf _ (copy-constant c.requires _ _ (sym c.node_at-node.ensures ∙ c.in-Constant.is)))
 
 pub returns-in-Variable : goal.returns-in-Variable

@@ -1,4 +1,5 @@
 -- `pass_copies::same_term` meets its contract. Assumes nothing.
+use borrow.Author.Rules.{rules}
 use mathlib.Core.Path.{◌∙◌, ap₂, sym}
 use Rattle.pass_copies.specs.Substituted.{same_term}
 use Rattle.pass_copies.proofs.Shapes.{same_bits}
@@ -19,5 +20,5 @@ returns-in-Variable-b-2 c = sym (ap₂ same_term c.in-Constant.is c.in-Variable-
 pub returns-in-Constant-b-2 : goal.returns-in-Constant-b-2
 unfolding same_term
 returns-in-Constant-b-2 c =
-    same_bits _ _ (record { sfits = c.known_told-in-Constant-a-1.given.0.1 }) (record { sfits = c.known_told-in-Constant-1.given.0.1 })
+    same_bits _ _ (search rules) (search rules)
     ∙ sym (ap₂ same_term c.in-Constant.is c.in-Constant-b-2.is)

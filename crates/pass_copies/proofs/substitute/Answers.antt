@@ -1,4 +1,5 @@
 -- `pass_copies::substitute` meets its contract. Assumes nothing.
+use borrow.Author.Rules.{rules}
 use mathlib.Core.Path.{◌∙◌, ap, sym}
 use Rattle.pass_copies.specs.declared.Copied.{Copied}
 use Rattle.pass_copies.specs.Substituted.{put_definition}
@@ -27,4 +28,4 @@ unfolding put_definition
 returns-in-Constant c =
     put-constant c.args.subs.now c.args.id _
     (sym c.copy_expr.ensures ∙ c.in-Leaf.is ∙ ap Copied.Leaf c.in-Constant.is)
-    (record { sfits = c.known_told-in-Constant-1.given.0.1 }) c.unsigned.ensures c.put_substitution-in-Constant.ensures
+    (search rules) c.unsigned.ensures c.put_substitution-in-Constant.ensures

@@ -19,16 +19,16 @@ overflow_add-count c =
 pub loop-k-preserved : goal.loop-k-preserved
 loop-k-preserved c =
     let z = one-most _ c.one_where_used-count.ensures in (
-  (
-    used_turn _ c.args.usage.now
-        c.requires.0 c.requires.1
-        c.requires.2 c.loop-k-test.true
-        c.definition_at-d.ensures c.wide-id.ensures.0 c.loop-k.count
-        c.one_where_used-count.ensures c.loop-k.invariant.0.0,
-    omega arith,
-  ),
-  omega arith,
-)
+      (
+        used_turn _ c.args.usage.now
+            c.requires.0 c.requires.1
+            c.requires.2 c.loop-k-test.true
+            c.definition_at-d.ensures c.wide-id.ensures.0 c.loop-k.count
+            c.one_where_used-count.ensures c.loop-k.invariant.0.0,
+        omega arith,
+      ),
+      omega arith,
+    )
 
 pub returns : goal.returns
 returns c =
