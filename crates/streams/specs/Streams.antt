@@ -1,11 +1,13 @@
--- What the answers about streams say. Which bytes a call of C's reads or writes no contract can say.
-use Rattle.std.specs.Prelude.{ℕ, ◌≤◌, ◌<◌, ◌≡◌, List, false, pos}
-use Rattle.std.specs.Int.Signed.{lt_z}
-use Rattle.io.specs.Counts.{IsPrefixLen}
+-- What the answers about streams say.
+use Rattle.std.specs.Prelude.{ℕ, ◌≤◌, ◌<◌, ◌≡◌, List, length, take}
 use Rattle.streams.specs.declared.Input.{Input}
 use Rattle.streams.specs.declared.Output.{Output}
 use Rattle.streams.specs.declared.Step.{Step}
 use Rattle.streams.specs.declared.Opened.{Opened}
+
+-- so many bytes are the front of the list, which has no fewer
+abbrev pub IsPrefixLen : ℕ → List ℕ → Type 0
+IsPrefixLen n xs = (n ≤ length xs) × (n ≡ length (take n xs))
 
 -- bytes that were read stand at the front of the buffer
 abbrev pub Within : Input → List ℕ → Type 0
@@ -23,12 +25,8 @@ Stepped (Step.More n) size = (0 < n) × (n ≤ size)
 Stepped Step.End size = Unit {0}
 Stepped Step.Failed size = Unit {0}
 
--- a descriptor is no negative number
-abbrev pub Descriptor : Opened → Type 0
-Descriptor (Opened.At fd) = lt_z fd (pos 0) ≡ false
-Descriptor Opened.Failed = Unit {0}
-
--- the descriptor of standard input
-abbrev pub Standard : Opened → Type 0
-Standard (Opened.At fd) = fd ≡ pos 0
+-- standard input, and no file
+abbrev pub Standard : {F : Type 0} → Opened F → Type 0
+Standard Opened.Standard = Unit {0}
+Standard (Opened.File file) = ⊥
 Standard Opened.Failed = Unit {0}

@@ -2,9 +2,13 @@
 #![tactic(auto)]
 
 ghost use Rattle.std.specs.Prelude.{length};
-ghost use Rattle.streams.specs.Streams.{Within, Whole, Stepped, Descriptor, Standard};
+ghost use Rattle.streams.specs.Streams.{Within, Whole, Stepped, Standard};
 
-use libc::{STDERR_FILENO, STDIN_FILENO, STDOUT_FILENO};
+use std::convert::Infallible;
+use std::env::FillError;
+use std::io::{Error, Read, Write};
+use std::rt::{Env, Files};
+use std::{fs, io, str};
 
 // So many bytes, up to the end of the input or of the buffer; or a read failed, which was said.
 #[derive(Clone, Copy)]
@@ -20,10 +24,11 @@ pub enum Output {
     Failed,
 }
 
-// A descriptor to read from; or there is none, which was said.
-#[derive(Clone, Copy)]
-pub enum Opened {
-    At(i32),
+// What to read: standard input, or a file that was opened; or there is nothing, which was said.
+#[derive(Drop)]
+pub enum Opened<F> {
+    Standard,
+    File(F),
     Failed,
 }
 
@@ -35,16 +40,41 @@ enum Step {
     Failed,
 }
 
+// The room for the name of a file, and for the words of an error.
+const NAME: usize = 4096;
+
+const WORDS: usize = 256;
+
+// The words of an error, without its number, which std puts behind the system's words.
+fn words_of(text: &str) -> &str {
+    match text.split_once(" (os error ") {
+        Some((words, _)) => words,
+        None => text,
+    }
+}
+
+// A line on standard error: what failed, and why.
+fn say_failed(rt: &impl Eprint, what: &str, error: Error) {
+    let mut room = [0u8; WORDS];
+    let mut rest = &mut room[..];
+    let _ = write!(rest, "{error}");
+    let n = WORDS.saturating_sub(rest.len());
+    let text = str::from_utf8(&room[..n]).unwrap_or("");
+    let words = words_of(text);
+    let _ = eprintln!(rt; "{what}: {words}");
+}
+
 // One read to the front of buf.
-fn read_more(fd: i32, buf: &mut [u8]) -> Step
+fn read_more<R: Read>(rt: &impl Eprint, input: &mut R, buf: &mut [u8]) -> Step
     ensures { Stepped result (length buf.old) }
 {
-    let got = libc::read(fd, buf);
-    if got < 0 {
-        os::fail(b"input");
-        return Step::Failed;
-    }
-    let n = io::count(got, buf);
+    let n = match input.read(buf) {
+        Ok(n) => n,
+        Err(error) => {
+            say_failed(rt, "input", error);
+            return Step::Failed;
+        }
+    };
     if n == 0 {
         return Step::End;
     }
@@ -52,13 +82,13 @@ fn read_more(fd: i32, buf: &mut [u8]) -> Step
 }
 
 // Reads until buf is full or the input ends. A read that fails, or would have to wait where that is not wanted, is no end.
-pub fn read_input(fd: i32, buf: &mut [u8]) -> Input
+pub fn read_input<R: Read>(rt: &impl Eprint, input: &mut R, buf: &mut [u8]) -> Input
     ensures { Within result buf.new }
 {
     let size = buf.len();
     let mut done = 0usize;
     while done < size {
-        let step = read_more(fd, &mut buf[done..]);
+        let step = read_more(rt, input, &mut buf[done..]);
         match step {
             Step::More(n) => done += n,
             Step::End => return Input::Bytes(done),
@@ -68,30 +98,52 @@ pub fn read_input(fd: i32, buf: &mut [u8]) -> Input
     Input::Bytes(done)
 }
 
-// Writes all of the bytes to standard output.
-pub fn write_output(bytes: &[u8]) -> Output
-    ensures { Whole result (length bytes.now) }
+// The same of standard input.
+pub fn read_standard(rt: &(impl io::Input + Eprint), buf: &mut [u8]) -> Input
+    ensures { Within result buf.new }
 {
-    if io::write_all(STDOUT_FILENO, bytes) {
-        return Output::All(bytes.len());
-    }
-    os::fail(b"standard output");
-    Output::Failed
+    read_input(rt, &mut rt.reader(), buf)
 }
 
-// Closes standard output after all of it was written, so many bytes: some systems say only then that they could not keep it.
-pub fn close_output(written: usize) -> Output
+// The same of what was opened; where there is nothing, no more is said.
+pub fn read_opened<F: Read + Drop>(
+    rt: &(impl io::Input + Eprint),
+    opened: Opened<F>,
+    buf: &mut [u8],
+) -> Input
+    ensures { Within result buf.new }
+{
+    match opened {
+        Opened::Standard => read_standard(rt, buf),
+        Opened::File(mut file) => read_input(rt, &mut file, buf),
+        Opened::Failed => Input::Failed,
+    }
+}
+
+// Writes all of the bytes to standard output.
+pub fn write_output<W: Write>(rt: &impl Eprint, out: &mut W, bytes: &[u8]) -> Output
+    ensures { Whole result (length bytes.now) }
+{
+    if let Err(error) = out.write_all(bytes) {
+        say_failed(rt, "standard output", error);
+        return Output::Failed;
+    }
+    Output::All(bytes.len())
+}
+
+// Flushes standard output after all of it was written, so many bytes.
+pub fn flush_output<W: Write>(rt: &impl Eprint, out: &mut W, written: usize) -> Output
     ensures { Whole result written }
 {
-    if libc::close(STDOUT_FILENO) < 0 {
-        os::fail(b"standard output");
+    if let Err(error) = out.flush() {
+        say_failed(rt, "standard output", error);
         return Output::Failed;
     }
     Output::All(written)
 }
 
-fn say_usage(usage: &[u8]) {
-    io::write_all(STDERR_FILENO, usage);
+fn say_usage(rt: &impl Eprint, usage: &str) {
+    let _ = rt.eprint(usage);
 }
 
 fn is_option(argument: &[u8]) -> bool {
@@ -101,49 +153,55 @@ fn is_option(argument: &[u8]) -> bool {
     argument[0] == b'-'
 }
 
-fn open_named(name: &[u8], usage: &[u8]) -> Opened
-    ensures { Descriptor result }
-{
+// Whether there is an argument i. The program's own name is argument 0.
+pub fn has_argument(rt: &impl Env, i: usize) -> bool {
+    !matches!(rt.arg(i, &mut []), Err(FillError::NotPresent))
+}
+
+fn open_named<R: Files + Eprint>(rt: &R, name: &[u8], usage: &str) -> Opened<R::File> {
     if is_option(name) {
-        say_usage(usage);
+        say_usage(rt, usage);
         return Opened::Failed;
     }
-    let fd = os::open_read(name);
-    if fd < 0 {
-        os::fail(name);
+    let Ok(name) = str::from_utf8(name) else {
+        let _ = eprintln!(rt; "input: the name is not UTF-8");
         return Opened::Failed;
+    };
+    match fs::open(rt, name) {
+        Ok(file) => Opened::File(file),
+        Err(error) => {
+            say_failed(rt, name, error);
+            Opened::Failed
+        }
     }
-    Opened::At(fd)
 }
 
 // Standard input, of a program that takes no arguments: any are answered by the line of usage.
-pub fn open_standard(usage: &[u8]) -> Opened
+pub fn open_standard(rt: &(impl Env + Eprint), usage: &str) -> Opened<Infallible>
     ensures { Standard result }
 {
-    if os::arg_count() < 2 {
-        return Opened::At(STDIN_FILENO);
+    if !has_argument(rt, 1) {
+        return Opened::Standard;
     }
-    say_usage(usage);
+    say_usage(rt, usage);
     Opened::Failed
 }
 
 // Standard input, or the file that the only argument names. Options and further arguments are answered by the line of usage.
-pub fn open_input(usage: &[u8]) -> Opened
-    ensures { Descriptor result }
-{
-    let count = os::arg_count();
-    if count < 2 {
-        return Opened::At(STDIN_FILENO);
+pub fn open_input<R: Env + Files + Eprint>(rt: &R, usage: &str) -> Opened<R::File> {
+    if !has_argument(rt, 1) {
+        return Opened::Standard;
     }
-    if 2 < count {
-        say_usage(usage);
+    if has_argument(rt, 2) {
+        say_usage(rt, usage);
         return Opened::Failed;
     }
-    let mut name = io::buffer();
-    let n = os::arg(1, &mut name);
-    if os::errno() != 0 {
-        say_usage(usage);
-        return Opened::Failed;
+    let mut name = [0u8; NAME];
+    match rt.arg(1, &mut name) {
+        Ok(n) => open_named(rt, &name[..n], usage),
+        Err(_) => {
+            say_usage(rt, usage);
+            Opened::Failed
+        }
     }
-    open_named(&name[..n], usage)
 }
