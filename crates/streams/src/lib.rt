@@ -2,7 +2,8 @@
 #![tactic(auto)]
 
 ghost use Rattle.std.specs.Prelude.{length};
-ghost use Rattle.streams.specs.Streams.{Within, Whole, Stepped, Standard};
+ghost use Rattle.std.specs.Io.KnownBytes.{Keeps};
+ghost use Rattle.streams.specs.Streams.{Within, Given, Whole, Added, Stepped, Taken, Standard};
 
 use std::convert::Infallible;
 use std::env::FillError;
@@ -66,7 +67,8 @@ fn say_failed(rt: &impl Eprint, what: &str, error: Error) {
 
 // One read to the front of buf.
 fn read_more<R: Read>(rt: &impl Eprint, input: &mut R, buf: &mut [u8]) -> Step
-    ensures { Stepped result (length buf.old) }
+    ensures count { Stepped result (length buf.old) }
+    ensures bytes { Taken result (R.remaining input.old) (R.remaining input.new) buf.new }
 {
     let n = match input.read(buf) {
         Ok(n) => n,
@@ -83,7 +85,8 @@ fn read_more<R: Read>(rt: &impl Eprint, input: &mut R, buf: &mut [u8]) -> Step
 
 // Reads until buf is full or the input ends. A read that fails, or would have to wait where that is not wanted, is no end.
 pub fn read_input<R: Read>(rt: &impl Eprint, input: &mut R, buf: &mut [u8]) -> Input
-    ensures { Within result buf.new }
+    ensures within { Within result buf.new }
+    ensures bytes { Given result (R.remaining input.old) (R.remaining input.new) buf.new }
 {
     let size = buf.len();
     let mut done = 0usize;
@@ -122,7 +125,8 @@ pub fn read_opened<F: Read + Drop>(
 
 // Writes all of the bytes to standard output.
 pub fn write_output<W: Write>(rt: &impl Eprint, out: &mut W, bytes: &[u8]) -> Output
-    ensures { Whole result (length bytes.now) }
+    ensures whole { Whole result (length bytes.now) }
+    ensures bytes { Added result (W.contents out.old) (W.contents out.new) bytes.now }
 {
     if let Err(error) = out.write_all(bytes) {
         say_failed(rt, "standard output", error);
@@ -133,7 +137,8 @@ pub fn write_output<W: Write>(rt: &impl Eprint, out: &mut W, bytes: &[u8]) -> Ou
 
 // Flushes standard output after all of it was written, so many bytes.
 pub fn flush_output<W: Write>(rt: &impl Eprint, out: &mut W, written: usize) -> Output
-    ensures { Whole result written }
+    ensures whole { Whole result written }
+    ensures bytes { Keeps (W.contents out.old) (W.contents out.new) }
 {
     if let Err(error) = out.flush() {
         say_failed(rt, "standard output", error);
