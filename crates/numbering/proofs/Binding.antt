@@ -1,28 +1,27 @@
 -- The ways of the walk over a pattern, and over parameters. Assumes nothing.
-use Prim.Native.Nat.{ℕ, zero, suc, ◌+◌, ◌-◌, ◌*◌, ◌≤◌, ◌<◌}
-use mathlib.Core.Path.{◌≡◌, refl, sym, ap, ap₂, ◌∙◌}
+use Prim.Native.Nat.{ℕ, ◌+◌, ◌-◌, ◌≤◌, ◌<◌}
+use mathlib.Core.Path.{◌≡◌, refl, ap}
 use mathlib.Core.List.{List, [], ◌∷◌}
-use mathlib.Core.Bool.{Bool, true, false}
 use native.Mathlib.Omega.{arith}
 use mathlib.Core.Logic.{⊎_elim}
-use lib.ListN.{length, get_or, set}
+use lib.ListN.{get_or, set}
 use lib.IntN.{ℤ}
 use Rattle.source.specs.declared.Entry.{Entry}
 use Rattle.source.specs.declared.Shape.{Shape}
 use Rattle.source.specs.declared.Chain.{Chain}
 use Rattle.source.specs.declared.Child.{Child}
 use Rattle.source.specs.Trees.{Pat}
-use Rattle.source.specs.Nodes.{entry_of, children_of, three, is_pattern, item_fits, chain_fits}
+use Rattle.source.specs.Nodes.{entry_of, children_of, three, is_pattern, item_fits}
 use Rattle.source.specs.Record.{tree, pattern_of}
-use Rattle.numbering.specs.Numbering.{Ids, Names, Naming, ◌>>=◌, return, generate_id, number_pattern_variables, number_parameters}
+use Rattle.numbering.specs.Numbering.{Ids, Names, ◌>>=◌, return, generate_id, number_pattern_variables, number_parameters}
 use Rattle.numbering.specs.Numbers.{is_name, bears, entry_with, shape_with, numbered_tree}
-use Rattle.numbering.specs.Walks.{names, weight, chain_weight, each, Sizes, Room, Walkable, Ready, ReadyChain, Bound, PatternWalk, ParameterWalk}
+use Rattle.numbering.specs.Walks.{weight, chain_weight, each, Sizes, Ready, ReadyChain, PatternWalk, ParameterWalk}
 use Rattle.numbering.proofs.Laws.{alike}
-use Rattle.numbering.proofs.Weights.{child_weight, result_weight}
-use Rattle.numbering.proofs.Grown.{Growing, trees-grow, numbered-grow, entry-with, stem-is, as_is}
+use Rattle.numbering.proofs.Weights.{child_weight}
+use Rattle.numbering.proofs.Grown.{trees-grow, numbered-grow, entry-with, stem-is, as_is}
 use Rattle.numbering.proofs.Grown.{product_p-is, cons_p-is, parameters-last, parameters-more}
 use Rattle.numbering.proofs.Children.{Child-facts, child-facts, pattern-child, name-child, Link-facts, link-facts, pattern-item}
-use Rattle.numbering.proofs.Scopes.{Weight, Parts, room-first, room-second, room-inner, bound-none, drawn, bound-one, bound-as-is, bound-two}
+use Rattle.numbering.proofs.Scopes.{Parts, room-first, room-inner, bound-none, bound-one, bound-as-is, bound-two}
 
 abbrev pub Paired : Shape → ℕ → ℕ → Type 0
 Paired f p q = children_of (Entry.Pattern f) ≡ three (Child.Pattern p) (Child.Pattern q) Child.Nothing

@@ -1,8 +1,8 @@
 -- The children of a node that fits: their sorts, and what they weigh. Assumes nothing.
-use Prim.Native.Nat.{ℕ, zero, suc, ◌+◌, ◌*◌, ◌≤◌, ◌<◌}
-use mathlib.Core.Path.{◌≡◌, refl, sym, ap, ap₂, ◌∙◌}
+use Prim.Native.Nat.{ℕ, suc, ◌+◌, ◌<◌}
+use mathlib.Core.Path.{◌≡◌, refl, sym, ap, ◌∙◌}
 use mathlib.Core.List.{List}
-use mathlib.Core.Bool.{Bool, true, false, ◌&&◌, ◌||◌}
+use mathlib.Core.Bool.{Bool, true, ◌&&◌, ◌||◌}
 use native.Mathlib.Omega.{arith}
 use lib.Dec.{eqb, ltb}
 use borrow.Author.Tests.{ltb-true, eq-eqb, ne_eqb}
@@ -16,7 +16,7 @@ use Rattle.source.specs.Indices.{pick}
 use Rattle.source.specs.Nodes.{entry_of, children_of, three, is_expression, is_pattern, expression_fits}
 use Rattle.source.specs.Nodes.{pattern_fits, item_fits, result_fits, link_fits, chain_fits, child_fits, children_fit}
 use Rattle.numbering.specs.Walks.{weight, chain_weight, Walkable}
-use Rattle.numbering.proofs.Laws.{alike, and_left, and_right, or-second, not-both}
+use Rattle.numbering.proofs.Laws.{and_left, and_right, or-second, not-both}
 use Rattle.numbering.proofs.Weights.{Linked, child_weight, result_weight, children-fit, grows, chain_first, chain-grows, item-below}
 
 -- a sort that a node has not

@@ -1,36 +1,34 @@
 -- All of numbering: what its parts leave is the numbered module. Assumes nothing.
-use Prim.Native.Nat.{ℕ, zero, suc, ◌+◌, ◌-◌, ◌*◌, ◌≤◌, ◌<◌}
+use Prim.Native.Nat.{ℕ, zero, suc, ◌+◌, ◌*◌, ◌≤◌, ◌<◌}
 use mathlib.Core.Path.{◌≡◌, refl, sym, ap, ap₂, ◌∙◌}
 use mathlib.Core.List.{List, [], ◌∷◌, ◌++◌}
-use mathlib.Core.Bool.{Bool, true, false}
-use native.Mathlib.Numerals.{add-one}
+use mathlib.Core.Bool.{true}
 use native.Mathlib.Omega.{arith}
 use lib.ListN.{length, get_or, replicate, length-replicate}
 use borrow.Author.Tests.{eqb-true}
-use lib.Dec.{eqb}
 use Rattle.source.specs.declared.Layout.{Layout}
 use Rattle.source.specs.Trees.{Pat, Expr}
-use Rattle.source.specs.Indices.{every, total, rows}
+use Rattle.source.specs.Indices.{total, rows}
 use Rattle.source.specs.Layout.{names, publics, definitions, expressions, nodes, publics_offset, definitions_offset, expressions_offset, nodes_offset, text_offset, layout_of}
 use Rattle.source.specs.Layout.{definition_entry, expression_root, NAME-WORDS, DEFINITION-WORDS}
 use Rattle.source.specs.Names.{names_fit, name_of}
-use Rattle.source.specs.Nodes.{entry_of, pattern_fits, publics_fit, definitions_fit, expressions_fit}
+use Rattle.source.specs.Nodes.{pattern_fits, publics_fit, definitions_fit, expressions_fit}
 use Rattle.source.specs.Uses.{same, by_nodes, by_definitions, by_expressions}
-use Rattle.source.specs.Record.{Read, module_of, used_once, definition_at, expression_at}
+use Rattle.source.specs.Record.{Read, module_of, used_once}
 use Rattle.source.specs.Readable.{Readable}
 use Rattle.source_check.specs.declared.Checked.{Checked}
 use Rattle.source_check.specs.Answer.{checked}
 use Rattle.numbering.specs.Numbering.{Ids, Names, Numbered, ◌>>=◌, return, found, named, fresh_text, iter_text}
 use Rattle.numbering.specs.Numbering.{fold_text, registered, number_module_variables, names_of, numbered}
 use Rattle.numbering.specs.Numbers.{NumberedIn, numbered_module, numbered_definition, numbered_expression}
-use Rattle.numbering.specs.Walks.{weight, each, coded, Holds, names as both, no_row, no_entries, no_publics, Sizes, Room}
-use Rattle.numbering.specs.Walks.{Walkable, Ready, ReadyDefinitions, ReadyExpressions, sum_from, definitions_weight}
+use Rattle.numbering.specs.Walks.{weight, each, coded, Holds, names as both, no_row, no_entries, no_publics, Room}
+use Rattle.numbering.specs.Walks.{Walkable, ReadyDefinitions, ReadyExpressions, sum_from, definitions_weight}
 use Rattle.numbering.specs.Walks.{expressions_weight, Published, Registered, DefinitionsWalk, ExpressionsWalk}
 use Rattle.numbering.proofs.Laws.{every-at, and_left, and_right}
-use Rattle.numbering.proofs.Sums.{total-same, total-sum, total-zero, total-add, total-extend, one_at_most, same-no, used-by}
+use Rattle.numbering.proofs.Sums.{total-same, total-sum, total-zero, total-add, one_at_most, same-no, used-by}
 use Rattle.numbering.proofs.Weights.{roots-weigh}
 use Rattle.numbering.proofs.Children.{pattern-item, expression-item}
-use Rattle.numbering.proofs.Scopes.{Weight, Parts, room-first, room-second, earlier, later}
+use Rattle.numbering.proofs.Scopes.{Parts, room-first, room-second, earlier, later}
 use Rattle.records.specs.SourceRecord.{HEADER}
 
 -- ---- rows at the start

@@ -1,23 +1,23 @@
 -- The ways of what is bound first: texts, and publics. Assumes nothing.
 use Prim.Native.Nat.{ℕ, zero, suc, ◌+◌, ◌-◌, ◌≤◌, ◌<◌}
 use mathlib.Core.Path.{◌≡◌, refl, sym, ap, ap₂, ◌∙◌}
-use mathlib.Core.List.{List, [], ◌∷◌, ◌++◌}
+use mathlib.Core.List.{List, [], ◌∷◌}
 use mathlib.Core.Bool.{Bool, true, false, ◌&&◌, cond}
 use mathlib.Core.Logic.{⊎_elim}
 use native.Mathlib.Numerals.{add-one}
 use native.Mathlib.Omega.{arith}
 use lib.ListN.{length, get_or, set, take, drop, length-take, length-drop, length-set}
 use lib.Seq.{drop-cons, get_or-set_same, get_or-set_other}
-use lib.Dec.{eqb, leb, ltb}
+use lib.Dec.{eqb}
 use borrow.Author.Tests.{eq-eqb, ne_eqb, eqb-true, ltb-true}
 use Rattle.source.specs.Trees.{Text}
 use Rattle.source.specs.Indices.{every, rows}
-use Rattle.source.specs.Names.{offset_of, length_of, end_of, name_fits, names_fit, name_of, printed}
+use Rattle.source.specs.Names.{offset_of, length_of, end_of, name_fits, names_fit, name_of}
 use Rattle.source.specs.Nodes.{publics_fit}
 use Rattle.source.specs.Layout.{name_entry, public_at}
-use Rattle.numbering.specs.Numbering.{Ids, Names, ◌>>=◌, return, same_text, named, number_publics}
-use Rattle.numbering.specs.Walks.{Holds, names, Chosen, Published, Registered}
-use Rattle.numbering.proofs.Laws.{alike, and_left, and_right, every-at, split}
+use Rattle.numbering.specs.Numbering.{Ids, ◌>>=◌, return, same_text, named, number_publics}
+use Rattle.numbering.specs.Walks.{names, Chosen, Published, Registered}
+use Rattle.numbering.proofs.Laws.{and_left, and_right, every-at, split}
 use Rattle.numbering.proofs.Held.{held_more}
 use Rattle.numbering.proofs.Listed.{rows_step, rows_none}
 

@@ -1,5 +1,5 @@
 -- What a node stands for, by what its children stand for: for the trees of a record and for its numbered trees. Assumes nothing.
-use Prim.Native.Nat.{ℕ, zero, suc, ◌+◌, ◌*◌, ◌≤◌, ◌<◌}
+use Prim.Native.Nat.{ℕ, zero, suc, ◌<◌}
 use mathlib.Core.Path.{◌≡◌, refl, sym, ap, ap₂, ◌∙◌}
 use mathlib.Core.List.{List, [], ◌∷◌}
 use mathlib.Core.Bool.{Bool, true, false}
@@ -7,7 +7,6 @@ use mathlib.Core.Logic.{⊎_elim}
 use native.Mathlib.Omega.{arith}
 use lib.ListN.{get_or}
 use lib.Dec.{eqb}
-use lib.IntN.{ℤ}
 use borrow.Author.Tests.{eq-eqb, ne_eqb}
 use Rattle.field.specs.declared.InfixOp.{InfixOp}
 use Rattle.source.specs.declared.Entry.{Entry}
@@ -16,7 +15,7 @@ use Rattle.source.specs.declared.Shape.{Shape}
 use Rattle.source.specs.Trees.{Pat, Expr, Items, Arms, Env}
 use Rattle.source.specs.Nodes.{entry_of}
 use Rattle.source.specs.Record.{Tree, tree, grown, expression_of, pattern_of, link_of}
-use Rattle.numbering.specs.Numbers.{form_with, shape_with, entry_with, numbered_tree}
+use Rattle.numbering.specs.Numbers.{entry_with, numbered_tree}
 use Rattle.numbering.proofs.Laws.{alike}
 
 -- trees by falling index: node k of the first n

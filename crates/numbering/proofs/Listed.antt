@@ -1,21 +1,20 @@
 -- The ways of the walks over a module's definitions and expressions. Assumes nothing.
-use Prim.Native.Nat.{ℕ, zero, suc, ◌+◌, ◌-◌, ◌≤◌, ◌<◌}
-use mathlib.Core.Path.{◌≡◌, refl, sym, ap, ap₂, ◌∙◌}
+use Prim.Native.Nat.{ℕ, suc, ◌+◌, ◌-◌, ◌≤◌, ◌<◌}
+use mathlib.Core.Path.{◌≡◌, refl, sym, ap, ◌∙◌}
 use mathlib.Core.List.{List, [], ◌∷◌}
-use mathlib.Core.Bool.{Bool, true, false}
+use mathlib.Core.Bool.{Bool, true}
 use native.Mathlib.Numerals.{add-one}
 use native.Mathlib.Omega.{arith}
 use lib.ListN.{length, get_or}
-use Rattle.source.specs.Trees.{Pat, Expr}
 use Rattle.source.specs.Indices.{rows}
-use Rattle.source.specs.Nodes.{entry_of, is_expression, is_pattern, pattern_fits, expression_fits, definitions_fit, expressions_fit}
+use Rattle.source.specs.Nodes.{is_expression, is_pattern, pattern_fits, definitions_fit, expressions_fit}
 use Rattle.source.specs.Uses.{same}
-use Rattle.source.specs.Record.{tree, definition_at, expression_at}
+use Rattle.source.specs.Record.{definition_at, expression_at}
 use Rattle.source.specs.Layout.{definition_entry, expression_root}
 use Rattle.numbering.specs.Numbering.{Ids, Names, Naming, ◌>>=◌, return, number_def_variables, number_definitions, number_expressions}
-use Rattle.numbering.specs.Numbers.{numbered_tree, numbered_definition, numbered_expression}
-use Rattle.numbering.specs.Walks.{names, weight, each, Sizes, Room, Walkable, Ready, ReadyTwo, ReadyDefinitions}
-use Rattle.numbering.specs.Walks.{ReadyExpressions, Walked, Bound, Defined, sum_from, definitions_weight, expressions_weight}
+use Rattle.numbering.specs.Numbers.{numbered_definition, numbered_expression}
+use Rattle.numbering.specs.Walks.{names, weight, each, Sizes, Ready, ReadyTwo, ReadyDefinitions}
+use Rattle.numbering.specs.Walks.{ReadyExpressions, Defined, sum_from, definitions_weight, expressions_weight}
 use Rattle.numbering.specs.Walks.{PatternWalk, ExpressionWalk, DefinitionWalk, DefinitionsWalk, ExpressionsWalk}
 use Rattle.numbering.proofs.Laws.{every-at, and_left, and_right}
 use Rattle.numbering.proofs.Children.{pattern-item, expression-item}

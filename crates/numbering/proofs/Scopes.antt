@@ -1,18 +1,18 @@
 -- Walks put together: one after the other, and in a scope. Assumes nothing.
-use Prim.Native.Nat.{ℕ, zero, suc, ◌+◌, ◌-◌, ◌≤◌, ◌<◌}
+use Prim.Native.Nat.{ℕ, suc, ◌+◌, ◌-◌, ◌≤◌, ◌<◌}
 use mathlib.Core.Path.{◌≡◌, refl, sym, ap, ap₂, ◌∙◌}
-use mathlib.Core.List.{List, [], ◌∷◌}
-use mathlib.Core.Bool.{Bool, true, false}
-use mathlib.Core.Logic.{◌⊎◌, ⊎_elim}
+use mathlib.Core.List.{List, ◌∷◌}
+use mathlib.Core.Bool.{Bool, true}
+use mathlib.Core.Logic.{⊎_elim}
 use native.Mathlib.Numerals.{add-one}
 use native.Mathlib.Omega.{arith}
 use lib.ListN.{length, get_or, set, length-set}
 use lib.Seq.{get_or-set_same, get_or-set_other}
 use Rattle.source.specs.Uses.{same}
 use Rattle.numbering.specs.Numbering.{Ids, Names, Naming, number_variable}
-use Rattle.numbering.specs.Walks.{Holds, names, unwound, SameBelow, each, Sizes, Room, Else, Agree, Bound, Walked, Chosen}
-use Rattle.numbering.proofs.Laws.{alike, split, not-both}
-use Rattle.numbering.proofs.Sums.{same-yes, same-no}
+use Rattle.numbering.specs.Walks.{names, unwound, each, Sizes, Room, Else, Agree, Bound, Walked, Chosen}
+use Rattle.numbering.proofs.Laws.{split, not-both}
+use Rattle.numbering.proofs.Sums.{same-yes}
 use Rattle.numbering.proofs.Held.{held_more, unwound-none, unwound-parts, unwound-same, unwound-bound}
 
 abbrev pub Weight : Type 0

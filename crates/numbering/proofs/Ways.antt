@@ -1,8 +1,8 @@
 -- The ways of the walk over an expression. Assumes nothing.
-use Prim.Native.Nat.{ℕ, zero, suc, ◌+◌, ◌-◌, ◌*◌, ◌≤◌, ◌<◌}
-use mathlib.Core.Path.{◌≡◌, refl, sym, ap, ap₂, ◌∙◌}
-use mathlib.Core.List.{List, [], ◌∷◌}
-use mathlib.Core.Bool.{Bool, true, false}
+use Prim.Native.Nat.{ℕ, ◌+◌, ◌-◌, ◌≤◌, ◌<◌}
+use mathlib.Core.Path.{◌≡◌, refl, ap, ◌∙◌}
+use mathlib.Core.List.{List}
+use mathlib.Core.Bool.{true}
 use mathlib.Core.Logic.{⊎_elim}
 use native.Mathlib.Omega.{arith}
 use lib.ListN.{length, get_or, set}
@@ -13,16 +13,16 @@ use Rattle.source.specs.declared.Form.{Form}
 use Rattle.source.specs.declared.Chain.{Chain}
 use Rattle.source.specs.declared.Child.{Child}
 use Rattle.source.specs.Trees.{Pat, Expr, Items, Arms, Env}
-use Rattle.source.specs.Nodes.{entry_of, children_of, three, is_expression, is_pattern, item_fits, result_fits, chain_fits}
+use Rattle.source.specs.Nodes.{entry_of, children_of, three, is_expression, is_pattern, item_fits, result_fits}
 use Rattle.source.specs.Record.{tree, expression_of}
-use Rattle.numbering.specs.Numbering.{Ids, Names, Naming, ◌>>=◌, return, number_expr_variables, number_items, number_arms}
+use Rattle.numbering.specs.Numbering.{Names, ◌>>=◌, return, number_expr_variables, number_items, number_arms}
 use Rattle.numbering.specs.Numbers.{is_name, bears, entry_with, form_with, numbered_tree}
-use Rattle.numbering.specs.Walks.{names, weight, chain_weight, each, unwound, Sizes, Room, Walkable, Ready, ReadyTwo}
-use Rattle.numbering.specs.Walks.{ReadyFunction, ReadyChain, Chosen, Bound, Walked, number_two, number_scope, number_function}
+use Rattle.numbering.specs.Walks.{weight, chain_weight, each, unwound, Sizes, Ready, ReadyTwo}
+use Rattle.numbering.specs.Walks.{ReadyFunction, ReadyChain, Chosen, number_two, number_scope, number_function}
 use Rattle.numbering.specs.Walks.{PatternWalk, ParameterWalk, ExpressionWalk, TwoWalk, ScopeWalk, FunctionWalk, ItemWalk, ArmWalk}
 use Rattle.numbering.proofs.Laws.{alike}
 use Rattle.numbering.proofs.Weights.{child_weight, result_weight}
-use Rattle.numbering.proofs.Grown.{Growing, trees-grow, numbered-grow, entry-with, leaf-is, product_is, cons-is, infix-is, application-is}
+use Rattle.numbering.proofs.Grown.{trees-grow, numbered-grow, entry-with, leaf-is, product_is, cons-is, infix-is, application-is}
 use Rattle.numbering.proofs.Grown.{negate-is, function-is, let-is, match_is, sequence-is, items-last, items_more, arms_last, arms_more}
 use Rattle.numbering.proofs.Children.{Child-facts, child-facts, pattern-child, expression-child, links-child}
 use Rattle.numbering.proofs.Children.{name-child, Link-facts, link-facts, pattern-item, expression-item}

@@ -3,23 +3,22 @@
 use Prim.Native.Nat.{ℕ, zero, suc, ◌+◌, ◌*◌, ◌≤◌, ◌<◌}
 use mathlib.Core.Path.{◌≡◌, refl, sym, ap, ap₂, ◌∙◌}
 use mathlib.Core.List.{List}
-use mathlib.Core.Bool.{Bool, true, false, ◌&&◌, ◌||◌}
-use mathlib.Core.Logic.{◌⊎◌, inl, inr, ⊎_elim}
-use native.Mathlib.Nat.{add-mul, one-mul, zero-mul}
+use mathlib.Core.Bool.{Bool, true, false, ◌||◌}
+use mathlib.Core.Logic.{⊎_elim}
+use native.Mathlib.Nat.{one-mul, zero-mul}
 use native.Mathlib.Omega.{arith}
 use lib.Dec.{eqb, ltb}
-use borrow.Author.Tests.{eq-eqb, ne_eqb, eqb-true, eqb-false, ltb-true}
+use borrow.Author.Tests.{eq-eqb, ne_eqb, eqb-false, ltb-true}
 use Rattle.source.specs.declared.Entry.{Entry}
 use Rattle.source.specs.declared.Chain.{Chain}
 use Rattle.source.specs.declared.Child.{Child}
-use Rattle.source.specs.declared.Children.{Children}
-use Rattle.source.specs.Indices.{every, total, pick}
-use Rattle.source.specs.Nodes.{entry_of, children_of, is_expression, is_pattern, expression_fits, pattern_fits}
+use Rattle.source.specs.Indices.{total, pick}
+use Rattle.source.specs.Nodes.{entry_of, children_of, expression_fits, pattern_fits}
 use Rattle.source.specs.Nodes.{item_fits, result_fits, link_fits, chain_fits, child_fits, children_fit, nodes_fit}
 use Rattle.source.specs.Uses.{same, result_uses, link_uses, chain_uses, child_uses, children_use, by_nodes}
 use Rattle.numbering.proofs.Laws.{alike, and_left, and_right, or-second, every-at, not-both}
-use Rattle.numbering.specs.Walks.{summed, weight, chain_weight, each}
-use Rattle.numbering.proofs.Sums.{total-same, total-zero, total-sum, total-times, total-exchange}
+use Rattle.numbering.specs.Walks.{summed, weight, chain_weight}
+use Rattle.numbering.proofs.Sums.{total-same, total-sum, total-times, total-exchange}
 use Rattle.numbering.proofs.Sums.{total-extend, total-add, total-none, total-pick, same-no, once}
 
 -- what a link of a chain that fits says

@@ -4,9 +4,9 @@ use Rattle.std.proofs.Math.Option.{Option, none, some}
 use Rattle.source.specs.declared.Chain.{Chain}
 use Rattle.source.specs.declared.Entry.{Entry}
 use Rattle.source.specs.Names.{name_of}
-use Rattle.source.specs.Trees.{Pat, Expr, Items, Arms}
+use Rattle.source.specs.Trees.{Pat, Expr}
 use Rattle.source.specs.Indices.{total, rows}
-use Rattle.source.specs.Nodes.{entry_of, children_of, is_expression, is_pattern, chain_fits, nodes_fit}
+use Rattle.source.specs.Nodes.{entry_of, children_of, is_expression, chain_fits, nodes_fit}
 use Rattle.source.specs.Uses.{same, chain_uses, children_use}
 use Rattle.source.specs.Record.{tree, definition_at, expression_at}
 use Rattle.source.specs.Layout.{public_at, definition_entry, expression_root}

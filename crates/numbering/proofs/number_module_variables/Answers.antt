@@ -6,24 +6,21 @@ use Rattle.numbering.specs.Outcome.{Outcome}
 use Rattle.numbering.proofs.number_module_variables.Goals as goal
 
 pub number_checked-next-requires : goal.number_checked-next-requires
-number_checked-next-requires c =
-    (
-      (checked-accepted _ (sym c.in-Accepted.is ∙ c.check_source.ensures)).1,
-      (no-entries-long c.no_entries-ids.ensures, no-publics-long c.no_publics-publics.ensures),
-    )
+number_checked-next-requires c = (
+  (checked-accepted _ (sym c.in-Accepted.is ∙ c.check_source.ensures)).1,
+  (no-entries-long c.no_entries-ids.ensures, no-publics-long c.no_publics-publics.ensures),
+)
 
 pub returns-in-Accepted : goal.returns-in-Accepted
 unfolding Outcome
-returns-in-Accepted c =
-    (
-      (checked-accepted _ (sym c.in-Accepted.is ∙ c.check_source.ensures)).0,
-      numbered-from _ _ c.no_entries-ids.ensures c.no_publics-publics.ensures c.number_checked-next.ensures,
-    )
+returns-in-Accepted c = (
+  (checked-accepted _ (sym c.in-Accepted.is ∙ c.check_source.ensures)).0,
+  numbered-from _ _ c.no_entries-ids.ensures c.no_publics-publics.ensures c.number_checked-next.ensures,
+)
 
 pub returns-in-Refused : goal.returns-in-Refused
 unfolding Outcome
-returns-in-Refused c =
-    (
-      refused-is _ (sym c.in-Refused.is ∙ c.check_source.ensures),
-      (c.no_entries-ids.ensures, c.no_publics-publics.ensures),
-    )
+returns-in-Refused c = (
+  refused-is _ (sym c.in-Refused.is ∙ c.check_source.ensures),
+  (c.no_entries-ids.ensures, c.no_publics-publics.ensures),
+)

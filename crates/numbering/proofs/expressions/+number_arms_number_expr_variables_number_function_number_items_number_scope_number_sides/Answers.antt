@@ -45,48 +45,44 @@ pub number_expr_variables-node_at-requires : goal.number_expr_variables-node_at-
 number_expr_variables-node_at-requires t c = omega (arith, c.requires.0.below, c.requires.0.walk.long)
 
 pub number_expr_variables-number_sides-requires : goal.number_expr_variables-number_sides-requires
-number_expr_variables-number_sides-requires t c =
-    (
-      omega (arith, c.decreases),
-      (
-        two_ready _ _ _ _ c.requires.0
-            (sym c.node_at.ensures ∙ c.in-Expression.is ∙ ap Entry.Expression c.in-Product.is) refl,
-        c.requires.1,
-      ),
-    )
+number_expr_variables-number_sides-requires t c = (
+  omega (arith, c.decreases),
+  (
+    two_ready _ _ _ _ c.requires.0
+        (sym c.node_at.ensures ∙ c.in-Expression.is ∙ ap Entry.Expression c.in-Product.is) refl,
+    c.requires.1,
+  ),
+)
 
 pub number_expr_variables-number_sides-requires-in-Cons : goal.number_expr_variables-number_sides-requires-in-Cons
-number_expr_variables-number_sides-requires-in-Cons t c =
-    (
-      omega (arith, c.decreases),
-      (
-        two_ready _ _ _ _ c.requires.0
-            (sym c.node_at.ensures ∙ c.in-Expression.is ∙ ap Entry.Expression c.in-Cons.is) refl,
-        c.requires.1,
-      ),
-    )
+number_expr_variables-number_sides-requires-in-Cons t c = (
+  omega (arith, c.decreases),
+  (
+    two_ready _ _ _ _ c.requires.0
+        (sym c.node_at.ensures ∙ c.in-Expression.is ∙ ap Entry.Expression c.in-Cons.is) refl,
+    c.requires.1,
+  ),
+)
 
 pub number_expr_variables-number_sides-requires-in-Infix : goal.number_expr_variables-number_sides-requires-in-Infix
-number_expr_variables-number_sides-requires-in-Infix t c =
-    (
-      omega (arith, c.decreases),
-      (
-        two_ready _ _ _ _ c.requires.0
-            (sym c.node_at.ensures ∙ c.in-Expression.is ∙ ap Entry.Expression c.in-Infix.is) refl,
-        c.requires.1,
-      ),
-    )
+number_expr_variables-number_sides-requires-in-Infix t c = (
+  omega (arith, c.decreases),
+  (
+    two_ready _ _ _ _ c.requires.0
+        (sym c.node_at.ensures ∙ c.in-Expression.is ∙ ap Entry.Expression c.in-Infix.is) refl,
+    c.requires.1,
+  ),
+)
 
 pub number_expr_variables-number_sides-requires-in-Application : goal.number_expr_variables-number_sides-requires-in-Application
-number_expr_variables-number_sides-requires-in-Application t c =
-    (
-      omega (arith, c.decreases),
-      (
-        two_ready _ _ _ _ c.requires.0
-            (sym c.node_at.ensures ∙ c.in-Expression.is ∙ ap Entry.Expression c.in-Application.is) refl,
-        c.requires.1,
-      ),
-    )
+number_expr_variables-number_sides-requires-in-Application t c = (
+  omega (arith, c.decreases),
+  (
+    two_ready _ _ _ _ c.requires.0
+        (sym c.node_at.ensures ∙ c.in-Expression.is ∙ ap Entry.Expression c.in-Application.is) refl,
+    c.requires.1,
+  ),
+)
 
 pub number_expr_variables-number_expr_variables-requires : goal.number_expr_variables-number_expr_variables-requires
 number_expr_variables-number_expr_variables-requires t c =
@@ -254,15 +250,14 @@ number_function-overflow_add-top t c =
     )
 
 pub number_function-number_expr_variables-two-requires : goal.number_function-number_expr_variables-two-requires
-number_function-number_expr_variables-two-requires t c =
-    (
-      omega (arith, c.decreases),
-      (
-        body-second _ _ _ _ _ c.requires.0 _ c.number_parameters-one.ensures.more
-            c.number_parameters-one.ensures.few,
-        (c.number_parameters-one.ensures.sizes, c.requires.1.1),
-      ),
-    )
+number_function-number_expr_variables-two-requires t c = (
+  omega (arith, c.decreases),
+  (
+    body-second _ _ _ _ _ c.requires.0 _ c.number_parameters-one.ensures.more
+        c.number_parameters-one.ensures.few,
+    (c.number_parameters-one.ensures.sizes, c.requires.1.1),
+  ),
+)
 
 pub number_function-overflow_sub-one-2 : goal.number_function-overflow_sub-one-2
 number_function-overflow_sub-one-2 t c = omega (arith, c.number_parameters-one.ensures.more)
@@ -332,15 +327,14 @@ number_scope-overflow_add-top t c =
     )
 
 pub number_scope-number_expr_variables-two-requires : goal.number_scope-number_expr_variables-two-requires
-number_scope-number_expr_variables-two-requires t c =
-    (
-      omega (arith, c.decreases),
-      (
-        scope-second _ _ _ _ _ c.requires.0 _ c.number_pattern_variables-one.ensures.more
-            c.number_pattern_variables-one.ensures.few,
-        (c.number_pattern_variables-one.ensures.sizes, c.requires.1.1),
-      ),
-    )
+number_scope-number_expr_variables-two-requires t c = (
+  omega (arith, c.decreases),
+  (
+    scope-second _ _ _ _ _ c.requires.0 _ c.number_pattern_variables-one.ensures.more
+        c.number_pattern_variables-one.ensures.few,
+    (c.number_pattern_variables-one.ensures.sizes, c.requires.1.1),
+  ),
+)
 
 pub number_scope-overflow_sub-one-2 : goal.number_scope-overflow_sub-one-2
 number_scope-overflow_sub-one-2 t c = omega (arith, c.number_pattern_variables-one.ensures.more)

@@ -15,12 +15,11 @@ returns-then-t-i c =
     c.loop-i-test.true c.if-t-i.true c.loop-i.invariant.0
 
 pub loop-i-preserved : goal.loop-i-preserved
-loop-i-preserved c =
-    (
-      text-more c.args.s.now c.args.t.now c.args.from c.args.n c.requires c.if-n-t.false _
-          c.loop-i-test.true c.if-t-i.false c.loop-i.invariant.0,
-      omega arith,
-    )
+loop-i-preserved c = (
+  text-more c.args.s.now c.args.t.now c.args.from c.args.n c.requires c.if-n-t.false _
+      c.loop-i-test.true c.if-t-i.false c.loop-i.invariant.0,
+  omega arith,
+)
 
 pub returns : goal.returns
 returns c =

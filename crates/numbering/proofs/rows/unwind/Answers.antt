@@ -19,8 +19,7 @@ pub bounds-locals-x : goal.bounds-locals-x
 bounds-locals-x c = omega (arith, c.requires.1 (c.loop-i.i - 1) (omega arith) (omega arith))
 
 pub loop-i-preserved : goal.loop-i-preserved
-loop-i-preserved c =
-    (
+loop-i-preserved c = (
   unwound-last _ _ _ _ _ c.loop-i-test.true ∙ c.loop-i.invariant.0,
   (omega arith, simp length-set c.loop-i.invariant.1.1),
 )
