@@ -7,7 +7,7 @@ use lib.ListN.{length}
 use Rattle.flat.specs.declared.entries.DefinitionEntry.{DefinitionEntry}
 use Rattle.flat.specs.declared.entries.EquationEntry.{EquationEntry}
 use Rattle.flat.specs.Trees.{Flat, Definition, tree_nodes, definitions_nodes, equations_nodes}
-use Rattle.flat.specs.Layout.{definitions, equations, definition_entry, equation_entry}
+use Rattle.flat.specs.Layout.{definition_entry, equation_entry}
 use Rattle.flat.specs.Record.{tree, module_of}
 use Rattle.flat.specs.Readable.{Readable}
 use Rattle.pass_trees.specs.Passes.{Substitutions}

@@ -1,4 +1,5 @@
 -- `pass_3ac::flatten_expr_to_3ac` meets its contract. Assumes nothing.
+use borrow.Author.Rules.{rules}
 use native.Mathlib.Omega.{arith}
 use mathlib.Core.Path.{sym, ◌∙◌}
 use mir.Syntax.{w32}
@@ -66,7 +67,7 @@ returns-in-Negate t c =
 pub returns-in-Constant : goal.returns-in-Constant
 returns-in-Constant t c =
     way-constant _ _ _ _ _ _ _ (tree-constant _ _ _ (sym c.node_at-node.ensures ∙ c.in-Constant.is))
-    (to_z-of_z w32 _ (record { sfits = c.known_told-in-Constant-1.given.0.1 })) c.place_term.ensures
+    (to_z-of_z w32 _ (search rules)) c.place_term.ensures
 
 pub returns-in-Variable : goal.returns-in-Variable
 returns-in-Variable t c =

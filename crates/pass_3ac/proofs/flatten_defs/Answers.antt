@@ -11,23 +11,22 @@ use Rattle.pass_3ac.proofs.Turns.{defs-start, defs-turn, defs-end, room-start, r
 use Rattle.pass_3ac.proofs.flatten_defs.Goals as goal
 
 pub loop-k-init : goal.loop-k-init
-loop-k-init c =
-    (
-  record { count = c.requires.0.3; place = c.requires.0.2; trees = c.requires.0.4; within = omega arith },
+loop-k-init c = (
+  record { count = c.requires.readable.3; place = c.requires.readable.2; trees = c.requires.readable.4; within = omega arith },
   defs-start _ _ _ _ _ _,
-  room-start _ c.requires.1.1,
-  c.requires.1.0,
+  room-start _ c.requires.subs_len.1,
+  c.requires.subs_len.0,
   refl,
 )
 
 pub definition_at-d-requires : goal.definition_at-d-requires
 definition_at-d-requires c =
-    let readable = c.requires.0.0 in
+    let readable = c.requires.readable.0 in
     omega (arith, readable.long, readable.nodes-few, c.loop-k.invariant.0.count, c.loop-k.invariant.0.place, c.loop-k-test.true)
 
 pub flatten_def_to_3ac-p-requires : goal.flatten_def_to_3ac-p-requires
 flatten_def_to_3ac-p-requires c =
-    let pre = c.requires.0 in
+    let pre = c.requires.readable in
     let o = c.loop-k.invariant.0 in
     let more = c.loop-k-test.true in
     let read = c.definition_at-d.ensures in (
@@ -40,13 +39,13 @@ flatten_def_to_3ac-p-requires c =
 
 pub overflow_add-k : goal.overflow_add-k
 overflow_add-k c =
-    let readable = c.requires.0.0 in
+    let readable = c.requires.readable.0 in
     let o = c.loop-k.invariant.0 in
     omega (arith, readable.long, readable.nodes-few, o.count, o.place, c.loop-k-test.true)
 
 pub loop-k-preserved : goal.loop-k-preserved
 loop-k-preserved c =
-    let readable = c.requires.0.0 in
+    let readable = c.requires.readable.0 in
     let o = c.loop-k.invariant.0 in
     let more = c.loop-k-test.true in
     let read = c.definition_at-d.ensures in
@@ -60,4 +59,6 @@ loop-k-preserved c =
 
 pub returns : goal.returns
 unfolding counted counted_of used_of provers_of classify_defs
-returns c = let w = defs-end c.loop-k.invariant.0 c.loop-k-test.false _ _ _ _ _ _ _ _ _ c.loop-k.invariant.1 in (w.0, (w.1, w.2))
+returns c =
+    let w = defs-end c.loop-k.invariant.0 c.loop-k-test.false _ _ _ _ _ _ _ _ _ c.loop-k.invariant.1 in
+    record { body_after = w.0; value = w.1; subs_after = w.2 }

@@ -9,8 +9,7 @@ use Rattle.pass_3ac.proofs.Turns.{room-equations-start, room-equation, room-equa
 use Rattle.pass_3ac.proofs.flatten_equations.Goals as goal
 
 pub loop-k-init : goal.loop-k-init
-loop-k-init c =
-    (
+loop-k-init c = (
   record { count = c.requires.2; place = c.requires.1; trees = c.requires.3; within = omega arith },
   equations-start _ _ _ _ _ _,
   room-equations-start _ c.requires.4,
@@ -50,4 +49,6 @@ loop-k-preserved c =
     )
 
 pub returns : goal.returns
-returns c = equations-end c.loop-k.invariant.0 c.loop-k-test.false _ _ _ _ _ _ _ _ c.loop-k.invariant.1
+returns c =
+    let w = equations-end c.loop-k.invariant.0 c.loop-k-test.false _ _ _ _ _ _ _ _ c.loop-k.invariant.1 in
+    record { body_after = w.0; value = w.1 }

@@ -1,4 +1,5 @@
 -- `pass_3ac::simplify::is_zero` meets its contract. Assumes nothing.
+use borrow.Author.Rules.{rules}
 use Rattle.pass_3ac.proofs.Simplified.{zero-variable, zero-constant}
 use Rattle.pass_3ac.proofs.simplify.is_zero.Goals as goal
 
@@ -6,4 +7,4 @@ pub returns-in-Variable : goal.returns-in-Variable
 returns-in-Variable c = zero-variable _ c.in-Variable.is
 
 pub returns-in-Constant : goal.returns-in-Constant
-returns-in-Constant c = zero-constant _ c.in-Constant.is (record { sfits = c.known_told-1.given.0.1 })
+returns-in-Constant c = zero-constant _ c.in-Constant.is (search rules)
