@@ -23,7 +23,6 @@ use Rattle.pass_trees.proofs.Classified.{all_both}
 use Rattle.pass_trees.proofs.Agreement.{cut-keeps-meaning-at, inputs-given}
 use Rattle.numbering.specs.Numbering.{names_of, numbered}
 use Rattle.numbering.specs.Inputs.{inputs, input_ids}
-use Rattle.numbering.specs.Inputs
 use Rattle.numbering.specs.Statements.{Pointwise}
 use Rattle.numbering.specs.Statements
 use Rattle.numbering.proofs.Lists.{all-member, members, pointwise-map}

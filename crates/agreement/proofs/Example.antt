@@ -15,7 +15,6 @@ use Rattle.pass_trees.specs.Passes
 use Rattle.pass_trees.specs.Passes.{cut}
 use Rattle.eval_trees.proofs.Compute.{answer_of}
 use Rattle.plain.specs.Meaning.{value_of, NoDivisorZero}
-use Rattle.plain.specs.Meaning
 use Rattle.plain.proofs.Condition.{plain-has-plain-body}
 use Rattle.plain.proofs.Example.{source, is-plain}
 use Rattle.agreement.specs.Flattened.{passed, flattened_of}

@@ -1,6 +1,5 @@
 -- There is never a second solution, whatever the inputs' elements are: zero divisors included.
 use mathlib.Core.Path.{◌≡◌, refl, sym, subst}
-use mathlib.Core.Bool.{true}
 use Prim.Native.Nat.{ℕ}
 use native.Mathlib.Omega.{arith}
 use lib.IntN.{ℤ}
@@ -13,7 +12,6 @@ use Rattle.pass_trees.specs.Passes.{cut, cut_of}
 use Rattle.pass_trees.proofs.Agreement.{cut-keeps-meaning-at, passes-keep-solutions, accepted}
 use Rattle.numbering.specs.Numbering.{numbered}
 use Rattle.eval_trees.specs.Evaluation.{Evaluated, flat, refusal, evaluated}
-use Rattle.plain.specs.Plain.{is_plain_body}
 use Rattle.plain.specs.Statements.{IsInput, PlainFlat}
 use Rattle.plain.proofs.Agreement.{plain-modules-agree}
 use Rattle.agreement.specs.Flattened.{passed, flattened_of}

@@ -27,7 +27,7 @@ use Rattle.flat.specs.Meaning.{Assignment, Elements, value, or_zero}
 use Rattle.numbering.specs.Inputs.{member}
 use Rattle.eval_trees.specs.Environments.{look_up}
 use Rattle.eval_trees.specs.Forms.{on_constant}
-use Rattle.eval_trees.specs.State.{State, gives, Run, after, ◌>>=◌, ◌>>◌, return, refuse, get, refuse_if, make, is_prover, bound}
+use Rattle.eval_trees.specs.State.{State, gives, Run, after, ◌>>=◌, return, refuse, get, refuse_if, make, is_prover, bound}
 use Rattle.eval_trees.specs.Simplify.{infix_op, is_constant}
 use Rattle.eval_trees.specs.Evaluation
 use Rattle.eval_trees.specs.Evaluation.{defined, answered, bound_to, numbers, evaluate_operation, evaluate_power, evaluate_infix, evaluate_variable}
