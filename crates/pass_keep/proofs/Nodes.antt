@@ -15,7 +15,7 @@ use Rattle.records.specs.Kinds.{NODE-WORDS}
 use Rattle.flat.specs.Trees.{Flat, tree_nodes}
 use Rattle.flat.specs.Record.{node_of, tree}
 use Rattle.flat.specs.Readable.{Inside}
-use Rattle.flat.specs.declared.Node.TheVariants.{Infix, Negate, Constant, Variable}
+use Rattle.flat.specs.declared.Node.TheVariants.{Infix, Negate}
 use Rattle.flat.proofs.Nodes.{tree-infix, tree-negate}
 use Rattle.constraint.specs.declared.Term.{Term}
 use Rattle.constraint.specs.Record.{number_word, operator_word, root_from, next_from, node_words, nodes_from}

@@ -1,4 +1,5 @@
 -- `pass_keep::put_tree` meets its contract. Assumes nothing.
+use borrow.Author.Rules.{rules}
 use native.Mathlib.Omega.{arith}
 use mathlib.Core.Path.{◌∙◌, ap, sym}
 use mir.ValLaws.{to_z-of_z}
@@ -151,7 +152,7 @@ pub returns-in-Constant : goal.returns-in-Constant
 returns-in-Constant t c =
     put-term c.args.list.now c.args.base
     (copy-constant c.requires.0 _ _ (sym c.node_at-node.ensures ∙ c.in-Constant.is))
-    (ap Term.Constant (to_z-of_z w32 _ (record { sfits = c.known_told-in-Constant-1.given.0.1 }))) c.put_leaf.ensures
+    (ap Term.Constant (to_z-of_z w32 _ (search rules))) c.put_leaf.ensures
 
 pub returns-in-Variable : goal.returns-in-Variable
 returns-in-Variable t c =
