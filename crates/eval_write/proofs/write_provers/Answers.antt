@@ -11,8 +11,7 @@ pub write_prover-to-requires : goal.write_prover-to-requires
 write_prover-to-requires c = omega (arith, c.loop-i.invariant.1.0, c.requires, c.loop-i-test.true)
 
 pub loop-i-preserved : goal.loop-i-preserved
-loop-i-preserved c =
-    (
+loop-i-preserved c = (
   (
     more _ _ _ _ c.loop-i.invariant.0.0 c.loop-i.invariant.0.1 c.write_prover-to.ensures.0,
     marked_more _ _ _ _ _ c.loop-i.invariant.0.1 c.write_prover-to.ensures.1.0,

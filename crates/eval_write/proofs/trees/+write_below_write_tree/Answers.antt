@@ -19,23 +19,21 @@ pub write_tree-add_node-requires : goal.write_tree-add_node-requires
 write_tree-add_node-requires t c = (c.requires.0, c.write_below-one.ensures.1)
 
 pub write_tree-returns-then-sort-eq-NEGATE : goal.write_tree-returns-then-sort-eq-NEGATE
-write_tree-returns-then-sort-eq-NEGATE t c =
-    (
-      tree-negate _ _ _ _ _ _ c.kind-sort.ensures.0 c.node_word-a.ensures c.if-sort-eq-NEGATE.true
-          c.write_below-one.ensures.0 c.below.ensures c.add_node.ensures.0,
-      c.add_node.ensures.1,
-    )
+write_tree-returns-then-sort-eq-NEGATE t c = (
+  tree-negate _ _ _ _ _ _ c.kind-sort.ensures.0 c.node_word-a.ensures c.if-sort-eq-NEGATE.true
+      c.write_below-one.ensures.0 c.below.ensures c.add_node.ensures.0,
+  c.add_node.ensures.1,
+)
 
 pub write_tree-add_node-requires-then-sort-ne-INFIX : goal.write_tree-add_node-requires-then-sort-ne-INFIX
 write_tree-add_node-requires-then-sort-ne-INFIX t c = (c.requires.0, c.requires.1)
 
 pub write_tree-returns-then-sort-ne-INFIX : goal.write_tree-returns-then-sort-ne-INFIX
-write_tree-returns-then-sort-ne-INFIX t c =
-    (
-      tree-leaf _ _ _ _ _ _ c.kind-sort.ensures.0 c.node_word-a.ensures c.if-sort-eq-NEGATE.false
-          c.if-sort-ne-INFIX.true c.add_node-then-sort-ne-INFIX.ensures.0,
-      c.add_node-then-sort-ne-INFIX.ensures.1,
-    )
+write_tree-returns-then-sort-ne-INFIX t c = (
+  tree-leaf _ _ _ _ _ _ c.kind-sort.ensures.0 c.node_word-a.ensures c.if-sort-eq-NEGATE.false
+      c.if-sort-ne-INFIX.true c.add_node-then-sort-ne-INFIX.ensures.0,
+  c.add_node-then-sort-ne-INFIX.ensures.1,
+)
 
 pub write_tree-write_below-one-requires-2 : goal.write_tree-write_below-one-requires-2
 write_tree-write_below-one-requires-2 t c = (omega (arith, c.decreases), (c.requires.0, c.requires.1))
@@ -47,10 +45,9 @@ pub write_tree-add_node-requires-2 : goal.write_tree-add_node-requires-2
 write_tree-add_node-requires-2 t c = (c.requires.0, c.write_below-two.ensures.1)
 
 pub write_tree-returns : goal.write_tree-returns
-write_tree-returns t c =
-    (
-      tree-infix _ _ _ _ _ _ c.kind-sort.ensures.0 c.node_word-a.ensures c.if-sort-eq-NEGATE.false c.if-sort-ne-INFIX.false
-          c.node_word-b.ensures c.node_word-c.ensures c.write_below-one-2.ensures.0
-          c.write_below-two.ensures.0 c.below-2.ensures c.below-3.ensures c.add_node-2.ensures.0,
-      c.add_node-2.ensures.1,
-    )
+write_tree-returns t c = (
+  tree-infix _ _ _ _ _ _ c.kind-sort.ensures.0 c.node_word-a.ensures c.if-sort-eq-NEGATE.false c.if-sort-ne-INFIX.false
+      c.node_word-b.ensures c.node_word-c.ensures c.write_below-one-2.ensures.0
+      c.write_below-two.ensures.0 c.below-2.ensures c.below-3.ensures c.add_node-2.ensures.0,
+  c.add_node-2.ensures.1,
+)
