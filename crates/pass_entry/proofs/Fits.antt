@@ -8,7 +8,7 @@ use lib.Seq.{take_at}
 use Rattle.words.specs.Words.{set_words, bytes_of}
 use Rattle.words.proofs.Laws.{set_words-bytes, length-set_words, length-bytes_of}
 use Rattle.flat.specs.Trees.{definitions_nodes, equations_nodes, module_nodes}
-use Rattle.flat.specs.Layout.{next, publics, definitions}
+use Rattle.flat.specs.Layout.{next, publics}
 use Rattle.flat.specs.Record.{module_of}
 use Rattle.flat.specs.Readable.{Readable}
 use Rattle.flat.proofs.Rows.{length-rows}

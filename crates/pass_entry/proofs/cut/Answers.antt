@@ -10,11 +10,10 @@ pub returns-in-Refused : goal.returns-in-Refused
 returns-in-Refused c =
     let g = gives_as c.args.out.now _ _ (record-refused c.args.s.now _
     (sym c.check_flat.ensures ∙ c.in-Refused.is)) (gives-refused c.args.out.now _) in
-    (g.0, (g.1, c.clear.ensures))
+    record { value = g.0; out_after = g.1; store_after = c.clear.ensures }
 
 pub returns-in-Accepted : goal.returns-in-Accepted
 returns-in-Accepted c =
-    let g =
-    gives_as c.args.out.now _ _ (record-accepted c.args.s.now (sym c.check_flat.ensures ∙ c.in-Accepted.is))
+    let g = gives_as c.args.out.now _ _ (record-accepted c.args.s.now (sym c.check_flat.ensures ∙ c.in-Accepted.is))
     c.passes.ensures in
-    (g.0, (g.1, c.clear.ensures))
+    record { value = g.0; out_after = g.1; store_after = c.clear.ensures }

@@ -11,9 +11,9 @@ use Rattle.pass_entry.proofs.measure_readable.Goals as goal
 pub equalities_of-equalities-requires : goal.equalities_of-equalities-requires
 equalities_of-equalities-requires c =
     let f = module_of c.args.s.now in
-    let left = sym c.in-Made.is ∙ c.run_passes.ensures.0 in
-    let body = c.run_passes.ensures.1.0 ∙ made-body f left _ in
-    let list = c.run_passes.ensures.1.1 ∙ made_list f left _ in
+    let left = sym c.in-Made.is ∙ c.run_passes.ensures.value in
+    let body = c.run_passes.ensures.body_after ∙ made-body f left _ in
+    let list = c.run_passes.ensures.list_after ∙ made_list f left _ in
     let body-long = body-size c.no_body-body.ensures in
     let list-long = list-size c.no_list-list.ensures in
     let fits = fitting-of (passes-small c.requires.0 c.requires.1) _ _ (made-numbers f left) body list body-long list-long in
@@ -22,19 +22,19 @@ equalities_of-equalities-requires c =
 pub bytes_of-bytes-requires : goal.bytes_of-bytes-requires
 bytes_of-bytes-requires c =
     let f = module_of c.args.s.now in
-    let left = sym c.in-Made.is ∙ c.run_passes.ensures.0 in
-    let body = c.run_passes.ensures.1.0 ∙ made-body f left _ in
-    let list = c.run_passes.ensures.1.1 ∙ made_list f left _ in
+    let left = sym c.in-Made.is ∙ c.run_passes.ensures.value in
+    let body = c.run_passes.ensures.body_after ∙ made-body f left _ in
+    let list = c.run_passes.ensures.list_after ∙ made_list f left _ in
     let body-long = body-size c.no_body-body.ensures in
     let list-long = list-size c.no_list-list.ensures in
     let fits = fitting-of (passes-small c.requires.0 c.requires.1) _ _ (made-numbers f left) body list body-long list-long in
     (fits.kept_small, fits.nodes-small)
 
 pub returns-in-Refused : goal.returns-in-Refused
-returns-in-Refused c = needs-refused _ (left-refused _ (sym c.in-Refused.is ∙ c.run_passes.ensures.0))
+returns-in-Refused c = needs-refused _ (left-refused _ (sym c.in-Refused.is ∙ c.run_passes.ensures.value))
 
 pub returns-in-Made : goal.returns-in-Made
 returns-in-Made c =
     let f = module_of c.args.s.now in
-    let left = sym c.in-Made.is ∙ c.run_passes.ensures.0 in
+    let left = sym c.in-Made.is ∙ c.run_passes.ensures.value in
     needs-numbers (passes f) (made-numbers f left) c.equalities_of-equalities.ensures c.bytes_of-bytes.ensures ∙ sym (ap need_of (made-cut f left))

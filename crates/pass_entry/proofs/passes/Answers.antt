@@ -10,26 +10,26 @@ use Rattle.pass_entry.proofs.passes.Goals as goal
 pub deliver-requires : goal.deliver-requires
 deliver-requires c =
     let f = module_of c.args.s.now in
-    let left = sym c.in-Made.is ∙ c.run_passes.ensures.0 in
+    let left = sym c.in-Made.is ∙ c.run_passes.ensures.value in
     let small = passes-small c.requires.0 c.requires.1 in
-    let body = c.run_passes.ensures.1.0 ∙ made-body f left _ in
-    let list = c.run_passes.ensures.1.1 ∙ made_list f left _ in
+    let body = c.run_passes.ensures.body_after ∙ made-body f left _ in
+    let list = c.run_passes.ensures.list_after ∙ made_list f left _ in
     let body-long = body-size c.no_body-body.ensures in
     let list-long = list-size c.no_list-list.ensures in
     rw (layout-publics c.args.s.now c.layout_of-layout.ensures) (fitting-of small _ _ (made-numbers f left) body list body-long list-long)
 
 pub returns-in-Refused : goal.returns-in-Refused
 returns-in-Refused c =
-    let o = left-refused _ (sym c.in-Refused.is ∙ c.run_passes.ensures.0) in
+    let o = left-refused _ (sym c.in-Refused.is ∙ c.run_passes.ensures.value) in
     gives_as c.args.out.now _ _ o (gives-refused c.args.out.now _)
 
 pub returns-in-Made : goal.returns-in-Made
 returns-in-Made c =
     let f = module_of c.args.s.now in
-    let left = sym c.in-Made.is ∙ c.run_passes.ensures.0 in
+    let left = sym c.in-Made.is ∙ c.run_passes.ensures.value in
     let small = passes-small c.requires.0 c.requires.1 in
-    let body = c.run_passes.ensures.1.0 ∙ made-body f left _ in
-    let list = c.run_passes.ensures.1.1 ∙ made_list f left _ in
+    let body = c.run_passes.ensures.body_after ∙ made-body f left _ in
+    let list = c.run_passes.ensures.list_after ∙ made_list f left _ in
     let body-long = body-size c.no_body-body.ensures in
     let list-long = list-size c.no_list-list.ensures in
     let made = made_of small _ _ (made-numbers f left) body list body-long list-long in

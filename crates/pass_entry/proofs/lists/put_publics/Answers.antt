@@ -12,8 +12,7 @@ use Rattle.pass_entry.proofs.Turns.{row-turn, row-end}
 use Rattle.pass_entry.proofs.lists.put_publics.Goals as goal
 
 pub loop-k-init : goal.loop-k-init
-loop-k-init c =
-    (
+loop-k-init c = (
   (
     let z : c.args.n - 0 ≡ c.args.n = omega arith in
         ap (λ (m : ℕ). set_words c.args.body.now 0 (rows m 0 (public_at c.args.s.now))) z,
