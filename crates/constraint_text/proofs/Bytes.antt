@@ -1,10 +1,10 @@
 -- What holds of a text in bytes. Assumes nothing.
 use Prim.Native.Nat.{ℕ, suc, ◌+◌, ◌≤◌, ◌<◌}
-use mathlib.Core.Path.{◌≡◌, refl, sym, ap, ◌∙◌}
+use mathlib.Core.Path.{◌≡◌, refl, sym, ◌∙◌}
 use mathlib.Core.List.{List, [], ◌∷◌, ◌++◌}
 use native.Mathlib.Omega.{arith}
 use native.Mathlib.Numerals.{add-one}
-use lib.ListN.{length, get_or, set, take, length-set, length-append}
+use lib.ListN.{length, get_or, set, take, length-set}
 use lib.Seq.{take-suc, length-take-le, sets, sets-eq, take_at}
 use Rattle.constraint_text.specs.Text.{set_bytes}
 

@@ -1,7 +1,7 @@
 -- The texts of a number, a term and a right side, by the cases of the code. Assumes nothing.
 use Prim.Native.Nat.{ℕ, ◌+◌}
-use mathlib.Core.Path.{◌≡◌, refl, sym, ap, ◌∙◌}
-use mathlib.Core.List.{List, [], ◌∷◌, ◌++◌}
+use mathlib.Core.Path.{◌≡◌}
+use mathlib.Core.List.{◌∷◌, ◌++◌}
 use lib.IntN.{ℤ, pos, negsuc}
 use Rattle.field.specs.Prime.{P}
 use Rattle.field.specs.Element.{elem}

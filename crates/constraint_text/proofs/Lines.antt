@@ -11,7 +11,7 @@ use Rattle.flat.specs.Record.{pick}
 use Rattle.constraint.specs.declared.Equality.{Equality as Written}
 use Rattle.constraint.specs.declared.reading.Layout.{Layout}
 use Rattle.constraint.specs.Record.{EQUALITY-WORDS}
-use Rattle.constraint.specs.Reading.{HEADER, next, equalities, equalities_offset, layout_of, written_at}
+use Rattle.constraint.specs.Reading.{HEADER, equalities, layout_of, written_at}
 use Rattle.constraint.proofs.Read.{next-is, equalities-is, equalities-at-is}
 use Rattle.constraint_text.specs.Text.{set_bytes, line_text, next_text, equality_text, between}
 use Rattle.constraint_text.specs.Reading.{whole, lines, line_of, line_at}

@@ -3,7 +3,7 @@ use Rattle.std.specs.Prelude.{◌≡◌, refl, List, [], ◌∷◌, ◌++◌, �
 use Rattle.field.specs.Element.{res, centre, elem}
 use Rattle.field.specs.declared.InfixOp.{InfixOp}
 use Rattle.constraint.specs.declared.Term.{Term}
-use Rattle.constraint.specs.Trees.{Side, Equality, ConstraintModule, operation, first, second, written}
+use Rattle.constraint.specs.Trees.{Side, ConstraintModule, operation, first, second, written}
 use Rattle.constraint_text.specs.Text.{decimal_from, decimal, number_text, term_text, sign_of, between}
 use Rattle.constraint_text.specs.Text.{side_text, equality_text, line_text, next_text, equalities_text, listing}
 

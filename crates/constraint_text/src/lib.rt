@@ -1,19 +1,19 @@
 // The text of a constraint record, in ASCII: "next N", then an equality a line. A line is made in an array of the caller's
-// and written by one call. No contract can speak of standard output: what is proved is each line, and how many there are.
+// and written by one call. What is proved is each line, how many there are, and that a writer gets one after the other.
 #![tactic(auto)]
 
 mod line;
 
 ghost use Rattle.std.specs.Prelude.{◌≡◌, ◌≤◌, length};
-ghost use Rattle.io.specs.Counts.{IsPrefixLen};
 ghost use Rattle.constraint_text.specs.Text.{set_bytes, refused_text};
-ghost use Rattle.streams.specs.Streams.{Whole};
-ghost use Rattle.constraint_text.specs.Printing.{AllLines};
-ghost use Rattle.constraint_text.specs.Reading.{lines, line_at};
+ghost use Rattle.streams.specs.Streams.{IsPrefixLen, Whole, Added};
+ghost use Rattle.constraint_text.specs.Printing.{AllLines, AddedText};
+ghost use Rattle.constraint_text.specs.Reading.{lines, line_at, lines_text};
 
 use constraint::reading::{equality_at, layout_of};
 use constraint::{EQUALITY_WORDS, HEADER};
 pub use line::{LINE, equality_line, next_line, refused_line};
+use std::io::Write;
 use streams::{Output, write_output};
 
 const HEADER_BYTES: usize = 4 * HEADER;
@@ -61,21 +61,23 @@ pub enum Printed {
     Failed,
 }
 
-fn print_line(s: &[u8], k: usize) -> Output
-    ensures { Whole result (length (line_at s.now k)) }
+fn print_line<W: Write>(rt: &impl Eprint, out: &mut W, s: &[u8], k: usize) -> Output
+    ensures whole { Whole result (length (line_at s.now k)) }
+    ensures bytes { Added result (W.contents out.old) (W.contents out.new) (line_at s.now k) }
 {
     let mut line = [0u8; LINE];
     let n = line_at(s, k, &mut line);
-    write_output(&line[..n])
+    write_output(rt, out, &line[..n])
 }
 
 // The text of a record on standard output, line by line as `line_at` makes them. Every line has a byte, so one of none ends them.
-pub fn print_equalities(s: &[u8]) -> Printed
-    ensures { AllLines result (lines s.now) }
+pub fn print_equalities<W: Write>(rt: &impl Eprint, out: &mut W, s: &[u8]) -> Printed
+    ensures all { AllLines result (lines s.now) }
+    ensures bytes { AddedText result (W.contents out.old) (W.contents out.new) (lines_text s.now 0 (lines s.now)) }
 {
     let mut k = 0usize;
     let printed = loop {
-        let line = print_line(s, k);
+        let line = print_line(rt, out, s, k);
         let Output::All(n) = line else {
             break Printed::Failed;
         };
@@ -88,10 +90,11 @@ pub fn print_equalities(s: &[u8]) -> Printed
 }
 
 // "refused N", on standard output.
-pub fn print_refused(number: u32) -> Output
-    ensures { Whole result (length (refused_text number)) }
+pub fn print_refused<W: Write>(rt: &impl Eprint, out: &mut W, number: u32) -> Output
+    ensures whole { Whole result (length (refused_text number)) }
+    ensures bytes { Added result (W.contents out.old) (W.contents out.new) (refused_text number) }
 {
     let mut line = [0u8; LINE];
     let n = refused_line(number, &mut line);
-    write_output(&line[..n])
+    write_output(rt, out, &line[..n])
 }

@@ -1,17 +1,16 @@
 // The parts of a line, each put into the bytes from a place on; the answer is the place behind it.
 ghost use Rattle.std.specs.Prelude.{◌≡◌, ◌∷◌, [], ◌+◌, ◌≤◌, length};
 ghost use Rattle.std.specs.Int.Signed.{mag};
-ghost use Rattle.io.specs.Counts.{IsPrefixLen};
+ghost use Rattle.streams.specs.Streams.{IsPrefixLen};
 ghost use Rattle.constraint_text.specs.Text.{set_bytes, decimal, number_text, term_text, sign_of, between};
 ghost use Rattle.constraint_text.specs.Text.{side_text, equality_text, line_text, next_text, refused_text};
 
 use constraint::{Equality, Operation, Term};
 use field::InfixOp;
+use itoa::Buffer;
 
 // Room for every line, and for the digits of every 64-bit number.
 pub const LINE: usize = 80;
-
-const DIGITS: usize = 20;
 
 fn put_byte(out: &mut [u8], at: usize, byte: u8) -> usize
     requires { at + 1 ≤ length out.old }
@@ -38,9 +37,8 @@ fn put_decimal(out: &mut [u8], at: usize, n: u64) -> usize
     ensures value { (result ≡ at + length (decimal n)) × (out.new ≡ set_bytes out.old at (decimal n)) }
     ensures upper_bound { result ≤ at + 20 }
 {
-    let mut digits = [0u8; DIGITS];
-    let k = io::decimal(n, &mut digits);
-    put_text(out, at, &digits[..k])
+    let mut digits = Buffer::new();
+    put_text(out, at, digits.format(n).as_bytes())
 }
 
 // n for n and for -(n + 1).
