@@ -5,8 +5,8 @@ use mathlib.Core.Bool.{Bool, true, false}
 use mathlib.Core.List.{List, [], ◌∷◌, ◌++◌, append_assoc, append-nil}
 use native.Mathlib.Omega.{arith}
 use native.Mathlib.Numerals.{add-one}
-use lib.Dec.{ltb, eqb}
-use lib.ListN.{length, get_or, set, take, drop, length-append, length-set, length-take, drop_of_length-le, get_or-eq_default}
+use lib.Dec.{ltb}
+use lib.ListN.{length, get_or, set, take, drop, length-append, length-set, drop_of_length-le, get_or-eq_default}
 use lib.Seq.{take-suc-set, take_all, take-suc, take-append-le, set_out, drop-cons, drop-drop, get_or-drop}
 use borrow.Author.Tests.{ltb-true, ltb-false, lt-ltb, le-ltb, eq-eqb, ne_eqb}
 use Rattle.constraint_text.specs.Text.{decimal}
@@ -91,10 +91,6 @@ filled_more text ns t all k j n u h e f g = rw (e, f, append_assoc, ← filled_n
 pub filled-all : (m : ℕ) (line text ns t : List ℕ) (k j : ℕ) → length text ≤ k → Holds m line t → t ++ filled (drop k text) (drop j ns) ≡ filled text ns
     → Holds m line (filled text ns)
 filled-all m line text ns t k j h held e = subst (λ (l : List ℕ). Holds m line l) (sym (append-nil t) ∙ rw (← filled-end text ns k j h) e) held
-
--- a line that is written holds as many bytes as its text
-pub as_long : (n size : ℕ) (line t : List ℕ) → length line ≡ size → Holds n line t → n ≡ length (take size t)
-as_long n size line t e (f, h) = rw (← e, length-take) (omega arith)
 
 -- a count that is below the most, one that is not, and a place that is not there
 pub counted-more : (xs : List ℕ) (k : ℕ) → get_or xs k 0 < MANY → set xs k (get_or xs k 0 + 1) ≡ counted xs k

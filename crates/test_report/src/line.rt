@@ -1,11 +1,10 @@
 // A line of text, made at the front of a slice. Where it is longer than the slice it is cut.
 ghost use Rattle.std.specs.Prelude.{◌≡◌, List, ◌++◌, ℕ, ◌+◌, ◌≤◌, min, length, get_or, set};
-ghost use Rattle.io.specs.Counts.{IsPrefixLen};
+ghost use Rattle.streams.specs.Streams.{IsPrefixLen};
 ghost use Rattle.constraint_text.specs.Text.{decimal};
 ghost use Rattle.test_report.specs.Lines.{piece, takes, filled, Holds};
 
-// The digits of every 64-bit number.
-const DIGITS: usize = 20;
+use itoa::Buffer;
 
 // A count stands for it.
 const MARK: u8 = b'#';
@@ -36,9 +35,8 @@ fn put_text(line: &mut [u8], at: usize, text: &[u8]) -> usize
 fn put_decimal(line: &mut [u8], at: usize, n: u64) -> usize
     ensures { (t : List ℕ) → Holds at line.old t → Holds result line.new (t ++ decimal n) }
 {
-    let mut digits = [0u8; DIGITS];
-    let k = io::decimal(n, &mut digits);
-    put_text(line, at, &digits[..k])
+    let mut digits = Buffer::new();
+    put_text(line, at, digits.format(n).as_bytes())
 }
 
 // A byte of a text: the count in decimal for a mark, any other as it is.
