@@ -5,7 +5,8 @@ use Rattle.numbering.proofs.number_lists.Goals as goal
 
 pub number_publics-one-requires : goal.number_publics-one-requires
 number_publics-one-requires c =
-    let w = publics-asked _ c.requires.readable.0.0 _ c.requires.readable.0.1 in (w.0, (w.1, (c.requires.readable.1.0, (c.requires.readable.1.1.1, omega arith))))
+    let w = publics-asked _ c.requires.readable.0.0 _ c.requires.readable.0.1 in
+    (w.0, (w.1, (c.requires.readable.1.0, (c.requires.readable.1.1.1, omega arith))))
 
 pub number_definitions-two-requires : goal.number_definitions-two-requires
 number_definitions-two-requires c =

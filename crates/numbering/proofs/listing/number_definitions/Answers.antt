@@ -4,7 +4,9 @@ use Rattle.numbering.proofs.Listed.{definitions-all, definitions-start, definiti
 use Rattle.numbering.proofs.listing.number_definitions.Goals as goal
 
 pub loop-i-init : goal.loop-i-init
-loop-i-init c = ((omega arith, definitions-all _ _ _ _ _ c.requires.ready_definitions.0), (c.requires.ready_definitions.1, λ r l g u o d w. definitions-start _ _ _ _ _ w))
+loop-i-init c =
+    let ready = c.requires.ready_definitions in
+    ((omega arith, definitions-all _ _ _ _ _ ready.0), (ready.1, λ r l g u o d w. definitions-start _ _ _ _ _ w))
 
 pub number_def_variables-one-requires : goal.number_def_variables-one-requires
 number_def_variables-one-requires c =

@@ -7,7 +7,8 @@ use Rattle.source_check.proofs.reading.use_chain.Given as goal
 
 abbrev pub invariant-loop-link : goal.invariant-loop-link
 invariant-loop-link l =
-    ((chain_fits l.s l.at l.chain l.k l.first ≡ chain_fits l.s l.at l.chain l.above l.link) × Onward l.initial.marks l.marks (chain_uses l.s l.at l.chain l.k l.first) (chain_uses l.s l.at l.chain l.above l.link))
+    ((chain_fits l.s l.at l.chain l.k l.first ≡ chain_fits l.s l.at l.chain l.above l.link)
+    × Onward l.initial.marks l.marks (chain_uses l.s l.at l.chain l.k l.first) (chain_uses l.s l.at l.chain l.above l.link))
     × (l.above ≤ l.k)
 
 abbrev pub decreases-loop-link : goal.decreases-loop-link
