@@ -110,31 +110,31 @@ fn differing_counts(rows: &[u64]) -> u64 {
     wrong
 }
 
-fn main() {
-    let Opened::At(_) = open_standard(b"usage: test_field\n") else {
+fn main(rt: HostRuntime) {
+    let Opened::Standard = open_standard(&rt, "usage: test_field\n") else {
         return;
     };
     let vectors = VECTORS;
     let of_vectors = [ROWS as u64, differing_vectors(&vectors)];
-    let Part::Whole = tell(b"# vectors, # differ\n", &of_vectors) else {
+    let Part::Whole = tell(&rt, b"# vectors, # differ\n", &of_vectors) else {
         return;
     };
     let first = FIRST_COUNTS;
     let of_first = [FIRST as u64, differing_first(&first)];
-    let Part::Whole = tell(b"# power counts from 1 on, # differ\n", &of_first) else {
+    let Part::Whole = tell(&rt, b"# power counts from 1 on, # differ\n", &of_first) else {
         return;
     };
     let powers = POWERS;
     let of_powers = [COUNTS as u64, differing_counts(&powers)];
-    let Part::Whole = tell(b"# more power counts, # differ\n", &of_powers) else {
+    let Part::Whole = tell(&rt, b"# more power counts, # differ\n", &of_powers) else {
         return;
     };
     let edges = laws_at_edges();
     let of_edges = [edges.cases, edges.differ];
-    let Part::Whole = tell(b"# law cases at the edges, # differ\n", &of_edges) else {
+    let Part::Whole = tell(&rt, b"# law cases at the edges, # differ\n", &of_edges) else {
         return;
     };
     let law_vectors = LAW_VECTORS;
     let of_laws = [LAW_ROWS as u64, differing_laws(&law_vectors)];
-    tell_last(b"# law vectors, # differ\n", &of_laws);
+    tell_last(&rt, b"# law vectors, # differ\n", &of_laws);
 }

@@ -1,0 +1,8 @@
+use Prim.Native.Nat.{◌≤◌, ◌-◌}
+use Rattle.test_field.proofs.laws.differing_edges.Given as goal
+
+abbrev pub invariant-loop-k : goal.invariant-loop-k
+invariant-loop-k l = (l.wrong ≤ l.k) × (l.k ≤ l.cases)
+
+abbrev pub decreases-loop-k : goal.decreases-loop-k
+decreases-loop-k l = l.cases - l.k
