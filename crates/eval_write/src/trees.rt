@@ -28,7 +28,7 @@ fn add_node(out: &mut FlatBytes, at: usize, k: u32, kind: u32, x: u32, y: u32, z
 }
 
 // Of a node below n.
-#[cycle(write_below_write_tree)]
+#[cycle(write_tree)]
 fn write_below(
     fixed: &Fixed,
     store: &[u8],
@@ -49,7 +49,7 @@ fn write_below(
 }
 
 // The nodes of a number's tree, children first, behind k nodes: how many there are then.
-#[cycle(write_below_write_tree)]
+#[cycle(write_tree)]
 pub fn write_tree(
     fixed: &Fixed,
     store: &[u8],

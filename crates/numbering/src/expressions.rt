@@ -13,7 +13,7 @@ use records::source_record::{NAMES, NO_LINK, NODES};
 use source::{Entry, Form, Shape, node_at};
 
 // The expressions of nodes x and y, which stand before node k.
-#[cycle(number_arms_number_expr_variables_number_function_number_items_number_scope_number_sides)]
+#[cycle(number_expr_variables)]
 fn number_sides(
     s: &[u8],
     at: usize,
@@ -38,7 +38,7 @@ fn number_sides(
 }
 
 // The expression of node y in the scope of the pattern of node p; at its end the rows are as they were.
-#[cycle(number_arms_number_expr_variables_number_function_number_items_number_scope_number_sides)]
+#[cycle(number_expr_variables)]
 fn number_scope(
     s: &[u8],
     at: usize,
@@ -76,7 +76,7 @@ fn number_scope(
 }
 
 // The items from link l on.
-#[cycle(number_arms_number_expr_variables_number_function_number_items_number_scope_number_sides)]
+#[cycle(number_expr_variables)]
 fn number_items(
     s: &[u8],
     at: usize,
@@ -111,7 +111,7 @@ fn number_items(
 }
 
 // The arms from link l on, each with its own scope.
-#[cycle(number_arms_number_expr_variables_number_function_number_items_number_scope_number_sides)]
+#[cycle(number_expr_variables)]
 fn number_arms(
     s: &[u8],
     at: usize,
@@ -146,7 +146,7 @@ fn number_arms(
 }
 
 // A function: its parameters bind in its body.
-#[cycle(number_arms_number_expr_variables_number_function_number_items_number_scope_number_sides)]
+#[cycle(number_expr_variables)]
 fn number_function(
     s: &[u8],
     at: usize,
@@ -184,7 +184,7 @@ fn number_function(
 }
 
 // The expression of node k; the next free id. A let numbers its value before its pattern.
-#[cycle(number_arms_number_expr_variables_number_function_number_items_number_scope_number_sides)]
+#[cycle(number_expr_variables)]
 pub fn number_expr_variables(
     s: &[u8],
     at: usize,

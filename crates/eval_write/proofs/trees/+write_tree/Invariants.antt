@@ -1,5 +1,5 @@
 use Prim.Native.Nat.{◌+◌, ◌*◌}
-use Rattle.eval_write.proofs.trees.+write_below_write_tree.Given as goal
+use Rattle.eval_write.proofs.trees.+write_tree.Given as goal
 
 abbrev pub decreases-write_below : goal.decreases-write_below
 decreases-write_below l = 2 * l.n

@@ -1,7 +1,7 @@
 -- `eval_write::trees::write_below` and `eval_write::trees::write_tree` meet their contracts. Assumes nothing.
 use native.Mathlib.Omega.{arith}
 use Rattle.eval_write.proofs.Ways.{high, low, tree-negate, tree-leaf, tree-infix}
-use Rattle.eval_write.proofs.trees.+write_below_write_tree.Goals as goal
+use Rattle.eval_write.proofs.trees.+write_tree.Goals as goal
 
 pub write_below-returns-then-n-c : goal.write_below-returns-then-n-c
 write_below-returns-then-n-c t c = (high _ _ _ _ _ _ _ c.if-n-c.true, c.requires.1)

@@ -1,5 +1,5 @@
 use Prim.Native.Nat.{◌+◌, ◌*◌}
-use Rattle.numbering.proofs.expressions.+number_arms_number_expr_variables_number_function_number_items_number_scope_number_sides.Given as goal
+use Rattle.numbering.proofs.expressions.+number_expr_variables.Given as goal
 
 abbrev pub decreases-number_arms : goal.decreases-number_arms
 decreases-number_arms l = 2 * l.l + 1

@@ -7,7 +7,7 @@ use Rattle.numbering.proofs.Ways.{body-second, body_end, body-way, item-first, i
 use Rattle.numbering.proofs.Ways.{arm-last-way, arm-more-way, two_ready, product-way, cons-way, infix-way, application-way, negate-ready}
 use Rattle.numbering.proofs.Ways.{negate-way, variable-ready, variable-way, function-ready, function-way, let-first, let-second, let-way}
 use Rattle.numbering.proofs.Ways.{match-first, match-second, match-way, sequence-ready, sequence-way, constant-way, unit-way, nil-way}
-use Rattle.numbering.proofs.expressions.+number_arms_number_expr_variables_number_function_number_items_number_scope_number_sides.Goals as goal
+use Rattle.numbering.proofs.expressions.+number_expr_variables.Goals as goal
 
 pub number_arms-node_at-requires : goal.number_arms-node_at-requires
 number_arms-node_at-requires t c = omega (arith, c.requires.0.below, c.requires.0.walk.long)
