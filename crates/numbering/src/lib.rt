@@ -60,8 +60,8 @@ fn no_publics() -> [u32; PUBLICS]
 
 // fresh, iter and fold, as transform.rs registers them.
 fn register_intrinsics(s: &[u8], text: usize, count: usize, globals: &mut [u32; NAMES])
-    requires count_value { (names_fit s.now text count ≡ true) × (4 * (HEADER + NAME-WORDS * count) ≤ length s.now) }
-    requires count_bound { (count ≤ NAMES) × (length globals.old ≡ NAMES) }
+    requires fit { (names_fit s.now text count ≡ true) × (4 * (HEADER + NAME-WORDS * count) ≤ length s.now) }
+    requires sizes { (count ≤ NAMES) × (length globals.old ≡ NAMES) }
     ensures { (length globals.new ≡ NAMES)
         × (Holds globals.old [] → Holds globals.new (registered (rows count 0 (name_of s.now text))).globals) }
 {

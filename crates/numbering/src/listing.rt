@@ -46,8 +46,8 @@ pub fn number_definitions(
     ids: &mut [u32; NODES],
     next: u32,
 ) -> u32
-    requires count_in_bounds { (4 * (list + DEFINITION-WORDS * count) ≤ length s.now) × (definitions_fit s.now at n list count ≡ true) }
-    requires ready_definitions { ReadyDefinitions s.now at n list count 0 next × (Sizes locals.old undo.old old.old ids.old × (length globals.old ≡ NAMES)) }
+    requires fit { (4 * (list + DEFINITION-WORDS * count) ≤ length s.now) × (definitions_fit s.now at n list count ≡ true) }
+    requires ready { ReadyDefinitions s.now at n list count 0 next × (Sizes locals.old undo.old old.old ids.old × (length globals.old ≡ NAMES)) }
     ensures { DefinitionsWalk s.now at n list count 0 next locals.old globals.old ids.old result
         locals.new globals.new undo.new old.new ids.new }
 {

@@ -33,8 +33,8 @@ fn same_text(s: &[u8], from: usize, n: usize, t: &[u8]) -> bool
 
 // The name that is the text t, if there is one, has this id.
 pub fn register(s: &[u8], text: usize, count: usize, t: &[u8], id: u32, globals: &mut [u32; NAMES])
-    requires count_value { (names_fit s.now text count ≡ true) × (4 * (HEADER + NAME-WORDS * count) ≤ length s.now) }
-    requires count_bound { ((count ≤ NAMES) × (length globals.old ≡ NAMES)) × (id < IDS) }
+    requires fit { (names_fit s.now text count ≡ true) × (4 * (HEADER + NAME-WORDS * count) ≤ length s.now) }
+    requires sizes { ((count ≤ NAMES) × (length globals.old ≡ NAMES)) × (id < IDS) }
     ensures { Registered s.now t.now text count id globals.old globals.new }
 {
     let mut k = 0usize;

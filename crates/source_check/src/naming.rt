@@ -104,8 +104,8 @@ fn same_name(s: &[u8], text: usize, n: usize, j: usize, k: usize) -> bool
 
 // The same by fingerprints first: only where these are equal are bytes compared.
 fn same_found(s: &[u8], text: usize, n: usize, prints: &[u32; NAMES], j: usize, k: usize) -> bool
-    requires n_in_bounds { (4 * (HEADER + NAME-WORDS * n) ≤ length s.now) × (names_fit s.now text n ≡ true) }
-    requires j_lt_n { ((j < n) × (k < n)) × ((n ≤ NAMES) × Fingerprinted s.now text n prints.now) }
+    requires fit { (4 * (HEADER + NAME-WORDS * n) ≤ length s.now) × (names_fit s.now text n ≡ true) }
+    requires fingerprinted { ((j < n) × (k < n)) × ((n ≤ NAMES) × Fingerprinted s.now text n prints.now) }
     ensures { result ≡ same_name s.now text j k }
 {
     if prints[j] != prints[k] {
@@ -116,8 +116,8 @@ fn same_found(s: &[u8], text: usize, n: usize, prints: &[u32; NAMES], j: usize, 
 
 // Whether name k is none of those before it.
 fn name_new(s: &[u8], text: usize, n: usize, prints: &[u32; NAMES], k: usize) -> bool
-    requires n_in_bounds { (4 * (HEADER + NAME-WORDS * n) ≤ length s.now) × (names_fit s.now text n ≡ true) }
-    requires k_lt_n { (k < n) × ((n ≤ NAMES) × Fingerprinted s.now text n prints.now) }
+    requires fit { (4 * (HEADER + NAME-WORDS * n) ≤ length s.now) × (names_fit s.now text n ≡ true) }
+    requires fingerprinted { (k < n) × ((n ≤ NAMES) × Fingerprinted s.now text n prints.now) }
     ensures { result ≡ name_new s.now text k }
 {
     let mut j = 0usize;

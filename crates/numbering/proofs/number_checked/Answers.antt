@@ -5,7 +5,7 @@ use Rattle.numbering.proofs.number_checked.Goals as goal
 pub register_intrinsics-requires : goal.register_intrinsics-requires
 register_intrinsics-requires c =
     let w = names-asked _ c.requires.0 _ c.layout_of-l.ensures in
-    record { count_value = w.0; count_bound = (w.1, no-row-long c.no_row-globals.ensures) }
+    record { fit = w.0; sizes = (w.1, no-row-long c.no_row-globals.ensures) }
 
 pub number_lists-requires : goal.number_lists-requires
 number_lists-requires c =

@@ -12,8 +12,8 @@ pub number_definitions-two-requires : goal.number_definitions-two-requires
 number_definitions-two-requires c =
     let v = c.number_publics-one.ensures in
     let w = definitions-asked _ c.requires.readable.0.0 _ c.requires.readable.0.1 _ v.few in record {
-      count_in_bounds = w.0;
-      ready_definitions = (
+      fit = w.0;
+      ready = (
         w.1,
         (
           record {

@@ -5,14 +5,14 @@ use Rattle.numbering.proofs.listing.number_definitions.Goals as goal
 
 pub loop-i-init : goal.loop-i-init
 loop-i-init c =
-    let ready = c.requires.ready_definitions in
+    let ready = c.requires.ready in
     ((omega arith, definitions-all _ _ _ _ _ ready.0), (ready.1, λ r l g u o d w. definitions-start _ _ _ _ _ w))
 
 pub number_def_variables-one-requires : goal.number_def_variables-one-requires
 number_def_variables-one-requires c =
     let read = c.definition_at-d.ensures in
     let turn = c.loop-i in
-    let fit = c.requires.count_in_bounds.1 in
+    let fit = c.requires.fit.1 in
     let less = c.loop-i-test.true in
     (definitions-first _ _ _ _ _ _ (pattern-is read) (value-is read) fit less turn.invariant.0.1, turn.invariant.1.0)
 

@@ -20,7 +20,7 @@ name-inside : (c : After-name_at-name) →
     let name = c.name_at-name.result in
     args.text + name.offset + name.size ≤ length args.s.now
 name-inside c = let read = c.name_at-name.ensures in
-    text-fits _ _ _ _ c.requires.count_value.0 c.loop-k-test.true (offset-is read) (size_is read)
+    text-fits _ _ _ _ c.requires.fit.0 c.loop-k-test.true (offset-is read) (size_is read)
 
 pub overflow_add-text : goal.overflow_add-text
 overflow_add-text c = omega (arith, name-inside (goal.at.overflow_add-text c).After-name_at-name)
@@ -35,7 +35,7 @@ returns-then-same_text c =
     let less = c.loop-k-test.true in
     let read = c.name_at-name.ensures in
     let is = text_at _ _ _ _ (offset-is read) (size_is read) c.same_text.ensures in
-    let few = c.requires.count_bound.0 in
+    let few = c.requires.sizes.0 in
     rw turn.invariant.1.1
     (found-yes args.s.now args.t.now args.text args.count args.id _ less few.0 few.1 is c.if-same_text.true turn.invariant.0)
 
@@ -52,4 +52,4 @@ loop-k-preserved c =
 pub returns : goal.returns
 returns c =
     rw c.loop-k.invariant.1.1 (found_none c.args.s.now c.args.t.now c.args.text c.args.count c.args.id _
-    c.loop-k-test.false c.requires.count_bound.0.1 c.loop-k.invariant.0)
+    c.loop-k-test.false c.requires.sizes.0.1 c.loop-k.invariant.0)

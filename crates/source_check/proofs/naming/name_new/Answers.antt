@@ -10,8 +10,8 @@ loop-j-init c = (every-none _, omega arith)
 pub same_found-requires : goal.same_found-requires
 same_found-requires c =
     record {
-      n_in_bounds = c.requires.n_in_bounds;
-      j_lt_n = ((omega (arith, c.requires.k_lt_n.0), c.requires.k_lt_n.0), c.requires.k_lt_n.1);
+      fit = c.requires.fit;
+      fingerprinted = ((omega (arith, c.requires.fingerprinted.0), c.requires.fingerprinted.0), c.requires.fingerprinted.1);
     }
 
 pub returns-then-same_found : goal.returns-then-same_found

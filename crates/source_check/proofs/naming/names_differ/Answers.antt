@@ -13,8 +13,8 @@ loop-k-init c = (every-none _, omega arith)
 
 pub name_new-requires : goal.name_new-requires
 name_new-requires c = record {
-  n_in_bounds = c.requires.0;
-  k_lt_n = (c.loop-k-test.true, (c.requires.1, c.fingerprints-prints.ensures.1));
+  fit = c.requires.0;
+  fingerprinted = (c.loop-k-test.true, (c.requires.1, c.fingerprints-prints.ensures.1));
 }
 
 pub returns-then-not-name_new : goal.returns-then-not-name_new

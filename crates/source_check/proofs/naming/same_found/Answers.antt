@@ -4,4 +4,5 @@ use Rattle.source_check.proofs.naming.same_found.Goals as goal
 
 pub returns-then-prints-j : goal.returns-then-prints-j
 returns-then-prints-j c =
-    prints-differ c.args.s.now _ _ _ _ c.args.prints.now c.requires.j_lt_n.1.1 c.requires.j_lt_n.0.0 c.requires.j_lt_n.0.1 c.if-prints-j.true
+    let given = c.requires.fingerprinted in
+    prints-differ c.args.s.now _ _ _ _ c.args.prints.now given.1.1 given.0.0 given.0.1 c.if-prints-j.true
