@@ -1,18 +1,18 @@
--- The ways through the code, over plain variables. Assumes nothing.
-use Prim.Native.Nat.{ℕ, zero, suc, ◌+◌, ◌-◌, ◌*◌, ◌≤◌, ◌<◌}
+-- The ways through the code, over plain variables.
+use Prim.Native.Nat.{ℕ, suc, ◌+◌, ◌-◌, ◌*◌, ◌≤◌, ◌<◌}
 use mathlib.Core.Path.{◌≡◌, refl, sym, ap, ◌∙◌}
-use mathlib.Core.Bool.{Bool, true, false, cond}
 use mathlib.Core.List.{List, [], ◌∷◌}
 use native.Mathlib.Omega.{arith}
-use lib.Dec.{leb, ltb}
-use lib.ListN.{length, get_or, drop}
-use lib.Seq.{drop-cons, drop-length}
+use lib.ListN.{length, get_or, drop, take}
+use Rattle.std.specs.Prelude.{Option}
+use Rattle.std.proofs.KnownBytes.{Appends-nil}
+use lib.Seq.{drop-cons, drop-length, length-take-le}
 use borrow.Author.Tests.{lt-ltb, le-ltb, le-leb, lt-leb}
 use Rattle.pass_entry.specs.declared.Answer.{Answer}
 use Rattle.streams.specs.declared.Output.{Output}
-use Rattle.streams.specs.Streams.{Whole}
+use Rattle.streams.specs.Streams.{Added}
 use Rattle.answer_record.specs.declared.Lent.{Lent}
-use Rattle.answer_record.specs.Given.{at_most, number_from, number_of, Few, given_of}
+use Rattle.answer_record.specs.Given.{at_most, number_from, number_of, Few, given_of, bytes_of}
 
 pub at-most-cut : (n most : ℕ) → most < n → (most ≡ at_most n most) × (most ≤ most)
 unfolding at_most
@@ -76,24 +76,31 @@ module _ (text : List ℕ) (value k : ℕ) (so : number_from value (drop k text)
 
 -- ---- an answer
 
-pub given-all : (n len : ℕ) → n ≤ len → n ≡ given_of (Answer.Written n) len
+pub given-all : (a : Answer) (n : ℕ) (out : List ℕ) → a ≡ Answer.Written n → n ≤ length out → length (take n out) ≡ given_of a (length out)
 unfolding given_of
-given-all n len l = rw (le-leb n len l) refl
+given-all a n out e l = rw (e, le-leb n (length out) l) (length-take-le n out l)
 
-pub given-none : (n len : ℕ) → len < n → 0 ≡ given_of (Answer.Written n) len
+pub bytes-all : (a : Answer) (n : ℕ) (out : List ℕ) → a ≡ Answer.Written n → n ≤ length out → take n out ≡ bytes_of a out
+unfolding bytes_of
+bytes-all a n out e l = rw (e, le-leb n (length out) l) refl
+
+pub given-none : (a : Answer) (n : ℕ) (out : List ℕ) → a ≡ Answer.Written n → length out < n → 0 ≡ given_of a (length out)
 unfolding given_of
-given-none n len l = rw (lt-leb n len l) refl
+given-none a n out e l = rw (e, lt-leb n (length out) l) refl
 
-pub given-refused : (n len : ℕ) → 0 ≡ given_of (Answer.Refused n) len
+pub bytes-none : (a : Answer) (n : ℕ) (out : List ℕ) → a ≡ Answer.Written n → length out < n → [] ≡ bytes_of a out
+unfolding bytes_of
+bytes-none a n out e l = rw (e, lt-leb n (length out) l) refl
+
+pub given-refused : (a : Answer) (n : ℕ) (out : List ℕ) → a ≡ Answer.Refused n → 0 ≡ given_of a (length out)
 unfolding given_of
-given-refused n len = refl
+given-refused a n out e = rw e refl
 
--- what was written is what was closed behind
-pub whole-then : (r q : Output) (n len : ℕ) → r ≡ Output.All n → Whole r len → Whole q n → Whole q len
-whole-then r (Output.All k) n len e w v = v ∙ (rw e at w)
-whole-then r Output.Failed n len e w v = tt
+pub bytes-refused : (a : Answer) (n : ℕ) (out : List ℕ) → a ≡ Answer.Refused n → [] ≡ bytes_of a out
+unfolding bytes_of
+bytes-refused a n out e = rw e refl
 
--- what was given out of an answer that is known
-pub whole-as : (r : Output) (a b : Answer) (n len : ℕ) → a ≡ b → n ≡ given_of b len → Whole r n → Whole r (given_of a len)
-whole-as (Output.All k) a b n len q e w = w ∙ e ∙ sym (ap (λ (x : Answer). given_of x len) q)
-whole-as Output.Failed a b n len q e w = tt
+-- an output that was left alone
+pub added_none : (r : Output) (held : Option (List ℕ)) → Added r held held []
+added_none (Output.All n) held = Appends-nil held
+added_none Output.Failed held = tt

@@ -1,5 +1,5 @@
 -- What an argument says to lend, and how much of an answer is given out.
-use Rattle.std.specs.Prelude.{cond, List, [], ◌∷◌, ℕ, ◌+◌, ◌-◌, ◌*◌, ◌≤◌, leb, ltb}
+use Rattle.std.specs.Prelude.{cond, List, [], ◌∷◌, ℕ, ◌+◌, ◌-◌, ◌*◌, ◌≤◌, leb, ltb, length, take}
 use Rattle.pass_entry.specs.declared.Answer.{Answer}
 use Rattle.pass_entry.specs.declared.Answer.TheVariants.{Written, Refused}
 use Rattle.answer_record.specs.declared.Lent.{Lent}
@@ -39,3 +39,8 @@ Few NoNumber = Unit {0}
 unfoldable pub given_of : Answer → ℕ → ℕ
 given_of (Written n) len = cond (leb n len) n 0
 given_of (Refused k) len = 0
+
+-- and these bytes
+unfoldable pub bytes_of : Answer → List ℕ → List ℕ
+bytes_of (Written n) out = cond (leb n (length out)) (take n out) []
+bytes_of (Refused k) out = []

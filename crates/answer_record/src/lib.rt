@@ -3,16 +3,20 @@
 #![tactic(auto)]
 
 ghost use Rattle.std.specs.Prelude.{◌≡◌, ◌≤◌, length};
-ghost use Rattle.streams.specs.Streams.{Whole};
-ghost use Rattle.answer_record.specs.Given.{at_most, number_of, Few, given_of};
+ghost use Rattle.streams.specs.Streams.{Whole, Added};
+ghost use Rattle.answer_record.specs.Given.{at_most, number_of, Few, given_of, bytes_of};
 
-use constraint_text::LINE;
-use libc::STDERR_FILENO;
 use pass_entry::Answer;
-use streams::{Output, close_output, write_output};
+use std::env::FillError;
+use std::io::Write;
+use std::rt::Env;
+use streams::{Output, flush_output, write_output};
 
 // More than can matter to lend.
 pub const MANY: usize = 100000000;
+
+// The room for an argument.
+const ARGUMENT: usize = 4096;
 
 // The bytes that an argument says to lend.
 #[derive(Clone, Copy)]
@@ -51,48 +55,48 @@ fn number(text: &[u8]) -> Lent
     Lent::Bytes(value)
 }
 
-// What an argument says; one that is missing says MANY.
-pub fn lent_bytes(argument: usize) -> Lent
+// What an argument says; one that is missing says MANY, and one that is too long is no number.
+pub fn lent_bytes(rt: &impl Env, argument: usize) -> Lent
     ensures { Few result }
 {
-    if os::arg_count() <= argument {
-        return Lent::Bytes(MANY);
+    let mut text = [0u8; ARGUMENT];
+    match rt.arg(argument, &mut text) {
+        Ok(n) => number(&text[..n]),
+        Err(FillError::NotPresent) => Lent::Bytes(MANY),
+        Err(FillError::TooLong) => Lent::NoNumber,
     }
-    let mut text = io::buffer();
-    let n = os::arg(argument, &mut text);
-    number(&text[..n])
 }
 
-fn print_record(bytes: &[u8]) -> Output
-    ensures { Whole result (length bytes.now) }
+fn print_record<W: Write>(rt: &impl Eprint, to: &mut W, bytes: &[u8]) -> Output
+    ensures whole { Whole result (length bytes.now) }
+    ensures bytes { Added result (W.contents to.old) (W.contents to.new) bytes.now }
 {
-    let Output::All(n) = write_output(bytes) else {
+    let Output::All(n) = write_output(rt, to, bytes) else {
         return Output::Failed;
     };
-    close_output(n)
+    flush_output(rt, to, n)
 }
 
 // "refused" with the number on standard error, and nothing on standard output.
-fn print_refused(number: u32) -> Output
+fn print_refused(rt: &impl Eprint, number: u32) -> Output
     ensures { Whole result 0 }
 {
-    let mut line = [0u8; LINE];
-    let n = constraint_text::refused_line(number, &mut line);
-    io::write_all(STDERR_FILENO, &line[..n]);
+    let _ = eprintln!(rt; "refused {number}");
     Output::All(0)
 }
 
 // The record at the front of the output, or "refused" with the number: how many bytes went to standard output, or that a write failed.
-pub fn print_answer(answer: Answer, out: &[u8]) -> Output
-    ensures { Whole result (given_of answer (length out.now)) }
+pub fn print_answer<W: Write>(rt: &impl Eprint, to: &mut W, answer: Answer, out: &[u8]) -> Output
+    ensures whole { Whole result (given_of answer (length out.now)) }
+    ensures bytes { Added result (W.contents to.old) (W.contents to.new) (bytes_of answer out.now) }
 {
     match answer {
         Answer::Written(n) => {
             if n <= out.len() {
-                return print_record(&out[..n]);
+                return print_record(rt, to, &out[..n]);
             }
             Output::All(0)
         }
-        Answer::Refused(number) => print_refused(number),
+        Answer::Refused(number) => print_refused(rt, number),
     }
 }

@@ -1,35 +1,42 @@
 -- From what a printer answered to what is asked of the next one.
-use Prim.Native.Nat.{ℕ, ◌≤◌, ◌<◌}
-use mathlib.Core.Path.{◌≡◌, subst, sym, ap}
-use mathlib.Core.Bool.{Bool, cond, true, false}
-use mathlib.Core.List.{List}
-use lib.Dec.{ltb}
-use lib.ListN.{length, take}
+use Rattle.std.proofs.Common.{◌≡◌, ℕ, ◌≤◌, ◌<◌, cond, List, [], length, take, Option, sym, ap}
+use Rattle.std.specs.Io.KnownBytes.{Keeps}
+use Rattle.std.proofs.KnownBytes.{Appends-nil, Appends-kept}
 use borrow.Author.Tests.{lt-ltb, le-ltb}
 use Rattle.constraint_text.specs.declared.Printed.{Printed}
-use Rattle.constraint_text.specs.Printing.{AllLines}
-use Rattle.constraint_text.specs.Reading.{lines}
+use Rattle.constraint_text.specs.Printing.{AddedText}
+use Rattle.constraint_text.specs.Reading.{lines, lines_text}
+use Rattle.constraint_text.specs.Text.{refused_text}
 use Rattle.pass_entry.specs.declared.Answer.{Answer}
-use Rattle.answer_text.specs.Answered.{lines_of}
+use Rattle.answer_text.specs.Answered.{lines_of, printed_of}
 
-pub same_lines : (r : Printed) (a b : ℕ) → a ≡ b → AllLines r a → AllLines r b
-same_lines r a b e = subst (λ (n : ℕ). AllLines r n) e
-
-pub lines-of : (r : Printed) (k n : ℕ) → r ≡ Printed.Lines k → AllLines r n → k ≡ n
-lines-of r k n e = subst (λ (x : Printed). AllLines x n) e
+-- an output that was kept got no text
+pub added_none : (r : Printed) (old new : Option (List ℕ)) → Keeps old new → AddedText r old new []
+added_none (Printed.Lines k) old new h = Appends-kept old old new [] (Appends-nil old) h
+added_none Printed.Failed old new h = tt
 
 -- an answer of n bytes where there are not so many, and where there are
 pub lines_none : (out : List ℕ) (n : ℕ) → length out < n → 0 ≡ lines_of (Answer.Written n) out
 unfolding lines_of
-lines_none out n h = ap (λ (b : Bool). cond b 0 (lines (take n out))) (sym (lt-ltb (length out) n h))
+lines_none out n h = ap (λ b. cond b 0 (lines (take n out))) (sym (lt-ltb (length out) n h))
+
+pub printed_none : (out : List ℕ) (n : ℕ) → length out < n → [] ≡ printed_of (Answer.Written n) out
+unfolding printed_of
+printed_none out n h = ap (λ b. cond b [] (lines_text (take n out) 0 (lines (take n out)))) (sym (lt-ltb (length out) n h))
 
 pub lines-front : (out : List ℕ) (n : ℕ) → n ≤ length out → lines (take n out) ≡ lines_of (Answer.Written n) out
 unfolding lines_of
-lines-front out n h = ap (λ (b : Bool). cond b 0 (lines (take n out))) (sym (le-ltb (length out) n h))
+lines-front out n h = ap (λ b. cond b 0 (lines (take n out))) (sym (le-ltb (length out) n h))
 
-pub lines_same : (a b : Answer) (out : List ℕ) → a ≡ b → lines_of b out ≡ lines_of a out
-lines_same a b out e = ap (λ (x : Answer). lines_of x out) (sym e)
+pub printed-front : (out : List ℕ) (n : ℕ) → n ≤ length out → lines_text (take n out) 0 (lines (take n out)) ≡ printed_of (Answer.Written n) out
+unfolding printed_of
+printed-front out n h = ap (λ b. cond b [] (lines_text (take n out) 0 (lines (take n out)))) (sym (le-ltb (length out) n h))
 
+-- a refusal
 pub lines-one : (a : Answer) (number : ℕ) (out : List ℕ) → a ≡ Answer.Refused number → 1 ≡ lines_of a out
 unfolding lines_of
-lines-one a number out e = lines_same a (Answer.Refused number) out e
+lines-one a number out e = ap (λ x. lines_of x out) (sym e)
+
+pub printed-one : (a : Answer) (number : ℕ) (out : List ℕ) → a ≡ Answer.Refused number → refused_text number ≡ printed_of a out
+unfolding printed_of
+printed-one a number out e = ap (λ x. printed_of x out) (sym e)
