@@ -5,9 +5,9 @@
 
 use answer_record::{Lent, at_most, lent_bytes, print_answer};
 use flat::entries::BYTES;
-use libc::{STDERR_FILENO, STDIN_FILENO};
 use pass_entry::OUTPUT_BYTES;
-use streams::{Input, read_input};
+use std::io;
+use streams::{Input, has_argument, read_standard};
 
 // One byte more than the longest record has: a longer input is refused 20 as its first bytes are.
 const RECORD_BYTES: usize = BYTES + 1;
@@ -24,34 +24,34 @@ fn output_buffer() -> [u8; OUTPUT_BYTES] {
 }
 
 // The record that is read, with so many bytes of output. No store is needed.
-fn cut_input(out: &mut [u8]) {
+fn cut_input(rt: &(impl io::Input + Print + Eprint), out: &mut [u8]) {
     let mut record = record_buffer();
-    let Input::Bytes(n) = read_input(STDIN_FILENO, &mut record) else {
+    let Input::Bytes(n) = read_standard(rt, &mut record) else {
         return;
     };
     let mut store = [0u8; 0];
     let answer = pass_entry::cut(&record[..n], &mut store, out);
-    print_answer(answer, out);
+    print_answer(rt, &mut io::writer(rt), answer, out);
 }
 
-fn run(room: usize) {
+fn run(rt: &(impl io::Input + Print + Eprint), room: usize) {
     let mut out = output_buffer();
     let most = at_most(room, OUTPUT_BYTES);
-    cut_input(&mut out[..most]);
+    cut_input(rt, &mut out[..most]);
 }
 
-fn print_usage() {
-    io::write_all(STDERR_FILENO, b"usage: cut_flat [OUTPUT] < RECORD\n");
+fn print_usage(rt: &impl Eprint) {
+    let _ = rt.eprint("usage: cut_flat [OUTPUT] < RECORD\n");
 }
 
-fn main() {
-    if MOST_ARGUMENTS < os::arg_count() {
-        print_usage();
+fn main(rt: HostRuntime) {
+    if has_argument(&rt, MOST_ARGUMENTS) {
+        print_usage(&rt);
         return;
     }
-    let Lent::Bytes(room) = lent_bytes(1) else {
-        print_usage();
+    let Lent::Bytes(room) = lent_bytes(&rt, 1) else {
+        print_usage(&rt);
         return;
     };
-    run(room);
+    run(&rt, room);
 }

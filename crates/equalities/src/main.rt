@@ -4,7 +4,8 @@
 
 use answer_text::print_answer;
 use pass_entry::Answer;
-use streams::{Input, Opened, open_input, read_input};
+use std::io;
+use streams::{Input, open_input, read_opened};
 
 // "The program lends 65,536 bytes each for record, store and output."
 const LENT: usize = 65536;
@@ -12,25 +13,28 @@ const LENT: usize = 65536;
 // "A longer record is refused 20."
 const TOO_LONG: u32 = 20;
 
-fn cut_record(record: &[u8]) {
+fn cut_record(rt: &(impl Print + Eprint), record: &[u8]) {
     let mut store = [0u8; LENT];
     let mut out = [0u8; LENT];
     let answer = pass_entry::cut(record, &mut store, &mut out);
-    print_answer(answer, &out);
+    print_answer(rt, &mut io::writer(rt), answer, &out);
 }
 
-fn main() {
-    let Opened::At(fd) = open_input(b"usage: equalities [FILE]\n") else {
-        return;
-    };
+fn main(rt: HostRuntime) {
+    let opened = open_input(&rt, "usage: equalities [FILE]\n");
     // One byte more than is lent tells a longer record.
     let mut record = [0u8; LENT + 1];
-    let Input::Bytes(n) = read_input(fd, &mut record) else {
+    let Input::Bytes(n) = read_opened(&rt, opened, &mut record) else {
         return;
     };
     if LENT < n {
-        print_answer(Answer::Refused(TOO_LONG), &record[..0]);
+        print_answer(
+            &rt,
+            &mut io::writer(&rt),
+            Answer::Refused(TOO_LONG),
+            &record[..0],
+        );
         return;
     }
-    cut_record(&record[..n]);
+    cut_record(&rt, &record[..n]);
 }

@@ -4,22 +4,21 @@
 
 use answer_text::print_answer;
 use flatten_entry::buffers::{output_buffer, record_buffer, store_buffer};
-use streams::{Input, Opened, open_input, read_input};
+use std::io;
+use streams::{Input, open_input, read_opened};
 
-fn flatten_record(record: &[u8]) {
+fn flatten_record(rt: &(impl Print + Eprint), record: &[u8]) {
     let mut store = store_buffer();
     let mut out = output_buffer();
     let answer = flatten_entry::flatten(record, &mut store, &mut out);
-    print_answer(answer, &out);
+    print_answer(rt, &mut io::writer(rt), answer, &out);
 }
 
-fn main() {
-    let Opened::At(fd) = open_input(b"usage: flatten_equalities [FILE]\n") else {
-        return;
-    };
+fn main(rt: HostRuntime) {
+    let opened = open_input(&rt, "usage: flatten_equalities [FILE]\n");
     let mut record = record_buffer();
-    let Input::Bytes(n) = read_input(fd, &mut record) else {
+    let Input::Bytes(n) = read_opened(&rt, opened, &mut record) else {
         return;
     };
-    flatten_record(&record[..n]);
+    flatten_record(&rt, &record[..n]);
 }
