@@ -18,7 +18,7 @@ use Rattle.constraint.specs.Record.{constraint_bytes}
 use Rattle.constraint.proofs.Lengths.{length-bytes}
 use Rattle.pass_trees.specs.Passes.{keep_if, ids_from, member, those, is_never, is_witness, usage, classify_defs, Substitutions}
 use Rattle.pass_trees.specs.Passes.{copy_propagate_def, after_def, copy_propagate_defs, after_defs, copy_propagate, eliminate_dead_equalities, Cuts}
-use Rattle.pass_trees.specs.Passes.{cuts_of, joined, flatten_def_to_3ac, flatten_defs, flatten_lists, flatten_module_to_3ac, passes, cut, refused}
+use Rattle.pass_trees.specs.Passes.{cuts_of, joined, flatten_def_to_3ac, flatten_defs, flatten_lists, flatten_module_to_3ac, passes, cut}
 use Rattle.pass_trees.proofs.Agreement.{accepted}
 use Rattle.pass_3ac.specs.declared.Target.TheVariants.{Given}
 use Rattle.pass_3ac.specs.Cutting.{target_of, tree_cut, equations_cut}

@@ -18,10 +18,10 @@ pub returns-in-Flat : goal.returns-in-Flat
 returns-in-Flat c =
     let p = passable _ _ _ _ c.evaluate_source-flat.ensures.0 c.in-Flat.is in
     let g = gives_as c.args.out.now _ _ p.gives c.pass_on.ensures in
-    (g.0, (g.1, c.evaluate_source-flat.ensures.1))
+    record { value = g.0; out_after = g.1; store_after = c.evaluate_source-flat.ensures.1 }
 
 pub returns-in-Refused : goal.returns-in-Refused
 returns-in-Refused c =
     let e = refused-gives _ _ _ _ c.evaluate_source-flat.ensures.0 c.in-Refused.is in
     let g = gives_as c.args.out.now _ _ e (gives-refused c.args.out.now _) in
-    (g.0, (g.1, c.evaluate_source-flat.ensures.1))
+    record { value = g.0; out_after = g.1; store_after = c.evaluate_source-flat.ensures.1 }
