@@ -1,4 +1,5 @@
 -- `flat::operator` meets its contract. Assumes nothing.
+use native.Mathlib.Omega.{arith}
 use mathlib.Core.Path.{refl, ap, sym}
 use borrow.Author.Tests.{ne_eqb}
 use Rattle.flat.specs.Record.{operator_of, pick}
@@ -40,7 +41,7 @@ returns-in-7 c = ap operator_of (sym c.in-7.is)
 pub returns-in_default : goal.returns-in_default
 unfolding operator_of
 returns-in_default c =
-    let r = c.in_default.in_default-own.rest in
-    pick_no _ _ (ne_eqb _ _ r.0.0.0.0.0.0.0.1)
-    (pick_no _ _ (ne_eqb _ _ r.0.0.0.0.0.0.1) (pick_no _ _ (ne_eqb _ _ r.0.0.0.0.0.1) (pick_no _ _ (ne_eqb _ _ r.0.0.0.0.1) (pick_no _
-    _ (ne_eqb _ _ r.0.0.0.1) (pick_no _ _ (ne_eqb _ _ r.0.0.1) (pick_no _ _ (ne_eqb _ _ r.0.1) (pick_no _ _ (ne_eqb _ _ r.1) (refl))))))))
+    pick_no _ _ (ne_eqb _ _ (omega arith))
+    (pick_no _ _ (ne_eqb _ _ (omega arith)) (pick_no _ _ (ne_eqb _ _ (omega arith)) (pick_no _ _ (ne_eqb _ _ (omega arith))
+    (pick_no _ _ (ne_eqb _ _ (omega arith)) (pick_no _ _ (ne_eqb _ _ (omega arith)) (pick_no _ _ (ne_eqb _ _ (omega arith))
+    (pick_no _ _ (ne_eqb _ _ (omega arith)) refl)))))))
