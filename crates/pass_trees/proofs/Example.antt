@@ -1,14 +1,18 @@
 -- The theorem at case F: v0 and v1 are the inputs, and (v0 + 1) * v0 = v1 holds just if the three equalities have a solution with them.
-use Rattle.std.proofs.Common.{refl, arith}
+use Rattle.std.proofs.Common.{◌≡◌, refl, arith}
 use Rattle.flat.specs.Trees.{defines}
 use Rattle.flat.specs.Meaning.{update, Assignment, Elements, NoZeroInTurn}
 use Rattle.flat.specs.Rules.{WellFormed}
 use Rattle.pass_trees.specs.Passes.{member, keep_if, those, most, is_never, is_witness, mark_used, used_in}
-use Rattle.pass_trees.specs.Passes.{override, classify_def, classified, usage, ids_from, classify_defs, counted}
+use Rattle.pass_trees.specs.Passes.{override, classify_def, classified, usage, ids_from, classify_defs, counted, cut, cut_of}
 use Rattle.pass_trees.specs.Meaning.{worked, Given}
 use Rattle.pass_trees.specs.Statements.{KeepsMeaning}
-use Rattle.pass_trees.specs.Cases.{case_f, case_f-cut, case-F}
+use Rattle.pass_trees.specs.Cases.{case_f, case_f-cut, cases-hold}
 use Rattle.pass_trees.proofs.Agreement.{cut-keeps-meaning, inputs-given}
+
+-- the first of the table of cases
+pub case-F : cut_of case_f ≡ cut case_f-cut
+case-F = cc cases-hold
 
 well-formed-F : WellFormed case_f
 unfolding defines

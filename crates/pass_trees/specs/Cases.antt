@@ -105,6 +105,3 @@ unfolding update member keep_if those most is_never is_witness mark_used used_in
     eliminate_dead_equalities is_one is_zero when infix_op or_variable push_constraint_def copied flatten_expr_to_3ac cuts_of joined flatten_def_to_3ac flatten_defs sides
     flatten_sides flatten_equations flatten_lists flatten_module_to_3ac passes cuttable cuttable_expr cuttable_defs cuttable_equations counted unless fitting cut_of
 cases-hold = refl
-
-pub case-F : cut_of case_f ≡ cut case_f-cut
-case-F = cc cases-hold
