@@ -4,7 +4,7 @@
     python3 tools/compare_flat.py ORACLE SEED N [KIND] [--ops LIST]
 
 ORACLE is the oracle, built from the unchanged Rust by oracle/build.sh (tools/flat_records.py says what it has to answer). Run it at the top of
-the repository, after `rt check test_flat`. The records are those of the seeds from SEED on: random flat records, or with
+the repository, after `tools/build.sh test_flat`. The records are those of the seeds from SEED on: random flat records, or with
 KIND (mixed, plain, rich, big, deep) those that evaluation makes of N random modules of that kind; with --ops, as 7,8, rich in these operators. Each goes
 in once as it is and once with a word changed, and these are counted apart; every third output is just long enough, and every third a byte short. A record
 that differs is printed.

@@ -3,7 +3,7 @@
 
     python3 tools/compare_programs.py ORACLE TWIN BIN SEED N [KIND..] [--jobs J] [--timeout S]
 
-ORACLE and TWIN are built by oracle/build.sh, BIN is the folder of the proved programs (target/bin, after `rt check`). The records are those of N seeds from
+ORACLE and TWIN are built by oracle/build.sh, BIN is the folder of the proved programs (target/bin, after `tools/build.sh`). The records are those of N seeds from
 SEED on, for each KIND: source records of the oracle's generator (mixed, plain, rich, big, deep) and flat records (flat); all six by default.
 
 A source record goes through flatten_equalities, and through flatten without arguments, with a store that is just full, with one that is a node short (30), with an

@@ -4,7 +4,7 @@
     python3 tools/examples.py [PROGRAMS]
 
 For every examples/NAME.sx, tools/assemble.py has to make exactly examples/NAME.record of it, and the program flatten_equalities has to print exactly examples/NAME.equalities, for
-a refused one the line with its number. PROGRAMS is the folder of the program, by default target/bin; `rt check flatten_equalities` builds it. Each difference is a line, the last
+a refused one the line with its number. PROGRAMS is the folder of the program, by default target/bin; `tools/build.sh flatten_equalities` builds it. Each difference is a line, the last
 one counts the examples, and the exit status is 1 where anything differs.
 """
 import glob
