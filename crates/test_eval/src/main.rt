@@ -67,7 +67,7 @@ fn front_is(bytes: &[u8], n: usize, expected: &[u8]) -> bool {
     if bytes.len() < n {
         return false;
     }
-    check::same(&bytes[..n], expected)
+    &bytes[..n] == expected
 }
 
 // An accepted run gives the expected record.
@@ -120,9 +120,10 @@ fn place(seen: Seen) -> usize {
 }
 
 // A run that differs, by its group and its place there.
-fn tell_different(seen: Seen, group: u64, run: u64) -> Part {
+fn tell_different(rt: &(impl Print + Eprint), seen: Seen, group: u64, run: u64) -> Part {
     if let Seen::Differs(answered) = seen {
         return tell(
+            rt,
             b"group # run # differs: #\n",
             &[group, run, answered as u64],
         );
@@ -132,6 +133,7 @@ fn tell_different(seen: Seen, group: u64, run: u64) -> Part {
 
 // The runs of a group, two words each.
 fn replay_runs(
+    rt: &(impl Print + Eprint),
     image: &[u8],
     expected: &[u8],
     store: &mut [u8],
@@ -146,7 +148,7 @@ fn replay_runs(
         let wanted = word_at(runs, 2 * i + 1);
         let seen = replay_lent(image, expected, store, held, wanted);
         count(counts, place(seen));
-        let Part::Whole = tell_different(seen, group, i as u64) else {
+        let Part::Whole = tell_different(rt, seen, group, i as u64) else {
             return Part::Failed;
         };
         i += 1;
@@ -156,6 +158,7 @@ fn replay_runs(
 
 // A group whose lengths are those of the slices.
 fn replay_group(
+    rt: &(impl Input + Print + Eprint),
     image: &mut [u8],
     expected: &mut [u8],
     store: &mut [u8],
@@ -163,23 +166,24 @@ fn replay_group(
     group: u64,
     counts: &mut [u64],
 ) -> Part {
-    let lengths = read_rest(runs);
+    let lengths = read_rest(rt, runs);
     let Part::Whole = lengths else {
         return lengths;
     };
-    let record = read_rest(image);
+    let record = read_rest(rt, image);
     let Part::Whole = record else {
         return record;
     };
-    let bytes = read_rest(expected);
+    let bytes = read_rest(rt, expected);
     let Part::Whole = bytes else {
         return bytes;
     };
-    replay_runs(image, expected, store, runs, group, counts)
+    replay_runs(rt, image, expected, store, runs, group, counts)
 }
 
 // The next group of the input.
 fn replay(
+    rt: &(impl Input + Print + Eprint),
     image: &mut [u8],
     expected: &mut [u8],
     store: &mut [u8],
@@ -188,7 +192,7 @@ fn replay(
     counts: &mut [u64],
 ) -> Part {
     let mut head = [0u8; HEAD];
-    let part = read_part(&mut head);
+    let part = read_part(rt, &mut head);
     let Part::Whole = part else {
         return part;
     };
@@ -205,6 +209,7 @@ fn replay(
         return Part::Broken;
     }
     replay_group(
+        rt,
         &mut image[..length],
         &mut expected[..room],
         store,
@@ -216,6 +221,7 @@ fn replay(
 
 // Every group of the input, with what is lent to them.
 fn replay_all(
+    rt: &(impl Input + Print + Eprint),
     image: &mut [u8],
     expected: &mut [u8],
     store: &mut [u8],
@@ -224,17 +230,17 @@ fn replay_all(
 ) -> Part {
     let mut group = 0u64;
     while group < GROUPS {
-        let part = replay(image, expected, store, runs, group, counts);
+        let part = replay(rt, image, expected, store, runs, group, counts);
         let Part::Whole = part else {
-            return finish_cases(part, group, counts);
+            return finish_cases(rt, part, group, counts);
         };
         group += 1;
     }
-    finish_cases(Part::Whole, group, counts)
+    finish_cases(rt, Part::Whole, group, counts)
 }
 
-fn main() {
-    let Opened::At(_) = open_standard(b"usage: test_eval < CASES\n") else {
+fn main(rt: HostRuntime) {
+    let Opened::Standard = open_standard(&rt, "usage: test_eval < CASES\n") else {
         return;
     };
     let mut image = [0u8; BYTES];
@@ -243,6 +249,7 @@ fn main() {
     let mut runs = [0u8; RUNS];
     let mut counts = [0u64; KINDS_OF_CASES];
     replay_all(
+        &rt,
         &mut image,
         &mut expected,
         &mut store,

@@ -74,33 +74,33 @@ fn block_end(at: usize, n: usize) -> usize
 }
 
 // Reads as many bytes as `block` has; are they those of `s`?
-fn read_block(s: &[u8], block: &mut [u8]) -> Next {
-    let part = read_rest(block);
+fn read_block(rt: &(impl Input + Eprint), s: &[u8], block: &mut [u8]) -> Next {
+    let part = read_rest(rt, block);
     let Part::Whole = part else {
         return Next::Missing(part);
     };
-    if check::same(block, s) {
+    if &*block == s {
         Next::These
     } else {
         Next::Others
     }
 }
 
-fn block_is_next(s: &[u8]) -> Next
+fn block_is_next(rt: &(impl Input + Eprint), s: &[u8]) -> Next
     requires { length s.now ≤ 4096 }
 {
-    let mut block = io::buffer();
+    let mut block = [0u8; BLOCK];
     let n = s.len();
-    read_block(s, &mut block[..n])
+    read_block(rt, s, &mut block[..n])
 }
 
 // The same of any length. As many bytes as `s` has are read, whatever they are.
-fn is_next(s: &[u8]) -> Next {
+fn is_next(rt: &(impl Input + Eprint), s: &[u8]) -> Next {
     let mut same = true;
     let mut at = 0usize;
     while at < s.len() {
         let end = block_end(at, s.len());
-        let next = block_is_next(&s[at..end]);
+        let next = block_is_next(rt, &s[at..end]);
         match next {
             Next::These => {}
             Next::Others => same = false,
@@ -112,10 +112,10 @@ fn is_next(s: &[u8]) -> Next {
 }
 
 // The same of the first n bytes of `s`.
-fn front_is_next(s: &[u8], n: usize) -> Next
+fn front_is_next(rt: &(impl Input + Eprint), s: &[u8], n: usize) -> Next
     requires { n ≤ length s.now }
 {
-    is_next(&s[..n])
+    is_next(rt, &s[..n])
 }
 
 fn answer_number(answer: Answer) -> u64 {
@@ -152,18 +152,27 @@ fn answers(flat: &[u8], store: &mut [u8], out: &mut [u8], n: usize, answer: u32)
 }
 
 // A case whose answer was right or not, with the expected record next in the input.
-fn judge(out: &[u8], n: usize, answer: u32, right: bool, case: u64, counts: &mut [u64]) -> Part
+fn judge(
+    rt: &(impl Input + Print + Eprint),
+    out: &[u8],
+    n: usize,
+    answer: u32,
+    right: bool,
+    case: u64,
+    counts: &mut [u64],
+) -> Part
     requires { n ≤ length out.now }
 {
-    match front_is_next(out, n) {
-        Next::These => count_case(counts, verdict(answer, right), DIFFERENT, case),
-        Next::Others => count_case(counts, DIFFERENT, DIFFERENT, case),
+    match front_is_next(rt, out, n) {
+        Next::These => count_case(rt, counts, verdict(answer, right), DIFFERENT, case),
+        Next::Others => count_case(rt, counts, DIFFERENT, DIFFERENT, case),
         Next::Missing(part) => part,
     }
 }
 
 // A case whose lengths are those of the slices.
 fn replay_case(
+    rt: &(impl Input + Print + Eprint),
     flat: &mut [u8],
     store: &mut [u8],
     out: &mut [u8],
@@ -171,7 +180,7 @@ fn replay_case(
     case: u64,
     counts: &mut [u64],
 ) -> Part {
-    let record = read_rest(flat);
+    let record = read_rest(rt, flat);
     let Part::Whole = record else {
         return record;
     };
@@ -180,11 +189,12 @@ fn replay_case(
         return Part::Broken;
     }
     let right = answers(flat, store, out, n, answer);
-    judge(out, n, answer, right, case, counts)
+    judge(rt, out, n, answer, right, case, counts)
 }
 
 // The next case of the input.
 fn replay(
+    rt: &(impl Input + Print + Eprint),
     flat: &mut [u8],
     store: &mut [u8],
     out: &mut [u8],
@@ -192,7 +202,7 @@ fn replay(
     counts: &mut [u64],
 ) -> Part {
     let mut head = [0u8; HEAD];
-    let part = read_part(&mut head);
+    let part = read_part(rt, &mut head);
     let Part::Whole = part else {
         return part;
     };
@@ -210,6 +220,7 @@ fn replay(
         return Part::Broken;
     }
     replay_case(
+        rt,
         &mut flat[..length],
         &mut store[..held],
         &mut out[..room],
@@ -220,25 +231,31 @@ fn replay(
 }
 
 // Every case of the input, with what is lent to them.
-fn replay_all(flat: &mut [u8], store: &mut [u8], out: &mut [u8], counts: &mut [u64]) -> Part {
+fn replay_all(
+    rt: &(impl Input + Print + Eprint),
+    flat: &mut [u8],
+    store: &mut [u8],
+    out: &mut [u8],
+    counts: &mut [u64],
+) -> Part {
     let mut case = 0u64;
     while case < CASES {
-        let part = replay(flat, store, out, case, counts);
+        let part = replay(rt, flat, store, out, case, counts);
         let Part::Whole = part else {
-            return finish_cases(part, case, counts);
+            return finish_cases(rt, part, case, counts);
         };
         case += 1;
     }
-    finish_cases(Part::Whole, case, counts)
+    finish_cases(rt, Part::Whole, case, counts)
 }
 
-fn main() {
-    let Opened::At(_) = open_standard(b"usage: test_flat < CASES\n") else {
+fn main(rt: HostRuntime) {
+    let Opened::Standard = open_standard(&rt, "usage: test_flat < CASES\n") else {
         return;
     };
     let mut flat = [0u8; RECORD];
     let mut store = [0u8; STORE];
     let mut out = [0u8; OUTPUT];
     let mut counts = [0u64; KINDS_OF_CASES];
-    replay_all(&mut flat, &mut store, &mut out, &mut counts);
+    replay_all(&rt, &mut flat, &mut store, &mut out, &mut counts);
 }

@@ -70,7 +70,7 @@ fn front_is(bytes: &[u8], n: usize, expected: &[u8]) -> bool {
     if bytes.len() < n {
         return false;
     }
-    check::same(&bytes[..n], expected)
+    &bytes[..n] == expected
 }
 
 // An accepted run gives the expected record, and leaves what stands behind it.
@@ -147,9 +147,10 @@ fn place(seen: Seen) -> usize {
 }
 
 // A run that differs, by its group and its place there.
-fn tell_different(seen: Seen, group: u64, run: u64) -> Part {
+fn tell_different(rt: &(impl Print + Eprint), seen: Seen, group: u64, run: u64) -> Part {
     if let Seen::Differs(answered) = seen {
         return tell(
+            rt,
             b"group # run # differs: #\n",
             &[group, run, answered as u64],
         );
@@ -159,6 +160,7 @@ fn tell_different(seen: Seen, group: u64, run: u64) -> Part {
 
 // The runs of a group, three words each.
 fn replay_runs(
+    rt: &(impl Print + Eprint),
     image: &[u8],
     expected: &[u8],
     store: &mut [u8],
@@ -175,7 +177,7 @@ fn replay_runs(
         let wanted = word_at(runs, 3 * i + 2);
         let seen = replay_lent(image, expected, store, out, held, room, wanted);
         count(counts, place(seen));
-        let Part::Whole = tell_different(seen, group, i as u64) else {
+        let Part::Whole = tell_different(rt, seen, group, i as u64) else {
             return Part::Failed;
         };
         i += 1;
@@ -185,6 +187,7 @@ fn replay_runs(
 
 // A group whose lengths are those of the slices.
 fn replay_group(
+    rt: &(impl Input + Print + Eprint),
     image: &mut [u8],
     expected: &mut [u8],
     store: &mut [u8],
@@ -193,23 +196,24 @@ fn replay_group(
     group: u64,
     counts: &mut [u64],
 ) -> Part {
-    let lengths = read_rest(runs);
+    let lengths = read_rest(rt, runs);
     let Part::Whole = lengths else {
         return lengths;
     };
-    let record = read_rest(image);
+    let record = read_rest(rt, image);
     let Part::Whole = record else {
         return record;
     };
-    let bytes = read_rest(expected);
+    let bytes = read_rest(rt, expected);
     let Part::Whole = bytes else {
         return bytes;
     };
-    replay_runs(image, expected, store, out, runs, group, counts)
+    replay_runs(rt, image, expected, store, out, runs, group, counts)
 }
 
 // The next group of the input.
 fn replay(
+    rt: &(impl Input + Print + Eprint),
     image: &mut [u8],
     expected: &mut [u8],
     store: &mut [u8],
@@ -219,7 +223,7 @@ fn replay(
     counts: &mut [u64],
 ) -> Part {
     let mut head = [0u8; HEAD];
-    let part = read_part(&mut head);
+    let part = read_part(rt, &mut head);
     let Part::Whole = part else {
         return part;
     };
@@ -236,6 +240,7 @@ fn replay(
         return Part::Broken;
     }
     replay_group(
+        rt,
         &mut image[..length],
         &mut expected[..room],
         store,
@@ -248,6 +253,7 @@ fn replay(
 
 // Every group of the input, with what is lent to them.
 fn replay_all(
+    rt: &(impl Input + Print + Eprint),
     image: &mut [u8],
     expected: &mut [u8],
     store: &mut [u8],
@@ -257,17 +263,17 @@ fn replay_all(
 ) -> Part {
     let mut group = 0u64;
     while group < GROUPS {
-        let part = replay(image, expected, store, out, runs, group, counts);
+        let part = replay(rt, image, expected, store, out, runs, group, counts);
         let Part::Whole = part else {
-            return finish_cases(part, group, counts);
+            return finish_cases(rt, part, group, counts);
         };
         group += 1;
     }
-    finish_cases(Part::Whole, group, counts)
+    finish_cases(rt, Part::Whole, group, counts)
 }
 
-fn main() {
-    let Opened::At(_) = open_standard(b"usage: test_flatten < CASES\n") else {
+fn main(rt: HostRuntime) {
+    let Opened::Standard = open_standard(&rt, "usage: test_flatten < CASES\n") else {
         return;
     };
     let mut image = [0u8; BYTES];
@@ -277,6 +283,7 @@ fn main() {
     let mut runs = [0u8; RUNS];
     let mut counts = [0u64; KINDS_OF_CASES];
     replay_all(
+        &rt,
         &mut image,
         &mut expected,
         &mut store,

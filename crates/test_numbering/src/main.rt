@@ -94,6 +94,7 @@ fn judge(image: &[u8], s: &[u8], answer: u32, n: usize, p: usize) -> usize
 
 // A case whose lengths are those of the slices.
 fn replay_case(
+    rt: &(impl Input + Print + Eprint),
     image: &mut [u8],
     s: &mut [u8],
     answer: u32,
@@ -104,21 +105,27 @@ fn replay_case(
 ) -> Part
     requires { 4 * (n + p) ≤ length s.old }
 {
-    let record = read_rest(image);
+    let record = read_rest(rt, image);
     let Part::Whole = record else {
         return record;
     };
-    let entries = read_rest(s);
+    let entries = read_rest(rt, s);
     let Part::Whole = entries else {
         return entries;
     };
-    count_case(counts, judge(image, s, answer, n, p), DIFFERENT, case)
+    count_case(rt, counts, judge(image, s, answer, n, p), DIFFERENT, case)
 }
 
 // The next case of the input.
-fn replay(image: &mut [u8], s: &mut [u8], case: u64, counts: &mut [u64]) -> Part {
+fn replay(
+    rt: &(impl Input + Print + Eprint),
+    image: &mut [u8],
+    s: &mut [u8],
+    case: u64,
+    counts: &mut [u64],
+) -> Part {
     let mut head = [0u8; HEAD];
-    let part = read_part(&mut head);
+    let part = read_part(rt, &mut head);
     let Part::Whole = part else {
         return part;
     };
@@ -134,6 +141,7 @@ fn replay(image: &mut [u8], s: &mut [u8], case: u64, counts: &mut [u64]) -> Part
         return Part::Broken;
     }
     replay_case(
+        rt,
         &mut image[..length],
         &mut s[..size],
         answer,
@@ -145,24 +153,29 @@ fn replay(image: &mut [u8], s: &mut [u8], case: u64, counts: &mut [u64]) -> Part
 }
 
 // Every case of the input, with what is lent to them.
-fn replay_all(image: &mut [u8], s: &mut [u8], counts: &mut [u64]) -> Part {
+fn replay_all(
+    rt: &(impl Input + Print + Eprint),
+    image: &mut [u8],
+    s: &mut [u8],
+    counts: &mut [u64],
+) -> Part {
     let mut case = 0u64;
     while case < CASES {
-        let part = replay(image, s, case, counts);
+        let part = replay(rt, image, s, case, counts);
         let Part::Whole = part else {
-            return finish_cases(part, case, counts);
+            return finish_cases(rt, part, case, counts);
         };
         case += 1;
     }
-    finish_cases(Part::Whole, case, counts)
+    finish_cases(rt, Part::Whole, case, counts)
 }
 
-fn main() {
-    let Opened::At(_) = open_standard(b"usage: test_numbering < CASES\n") else {
+fn main(rt: HostRuntime) {
+    let Opened::Standard = open_standard(&rt, "usage: test_numbering < CASES\n") else {
         return;
     };
     let mut image = [0u8; 80000];
     let mut s = [0u8; 8448];
     let mut counts = [0u64; KINDS_OF_CASES];
-    replay_all(&mut image, &mut s, &mut counts);
+    replay_all(&rt, &mut image, &mut s, &mut counts);
 }

@@ -110,15 +110,16 @@ fn damage(image: &mut [u8], i: usize, w: u32) {
 }
 
 // A new base: its bytes go to the front of the buffer.
-fn read_base(base: &mut [u8], n: usize) -> Part {
+fn read_base(rt: &(impl Input + Eprint), base: &mut [u8], n: usize) -> Part {
     if base.len() < n {
         return Part::Broken;
     }
-    read_rest(&mut base[..n])
+    read_rest(rt, &mut base[..n])
 }
 
 // A case, by its six words.
 fn replay_case(
+    rt: &(impl Print + Eprint),
     base: &[u8],
     image: &mut [u8],
     head: &[u8; HEAD],
@@ -136,24 +137,31 @@ fn replay_case(
     damage(image, word_at(head, 2) as usize, word_at(head, 3));
     damage(image, word_at(head, 4) as usize, word_at(head, 5));
     let k = judge_front(image, n, word_at(head, 1));
-    count_case(counts, k, DIFFERENT, case)
+    count_case(rt, counts, k, DIFFERENT, case)
 }
 
 // The next case or base of the input; both have a number.
-fn replay(base: &mut [u8], image: &mut [u8], case: u64, counts: &mut [u64]) -> Part {
+fn replay(
+    rt: &(impl Input + Print + Eprint),
+    base: &mut [u8],
+    image: &mut [u8],
+    case: u64,
+    counts: &mut [u64],
+) -> Part {
     let mut head = [0u8; HEAD];
-    let part = read_part(&mut head);
+    let part = read_part(rt, &mut head);
     let Part::Whole = part else {
         return part;
     };
     if word_at(&head, 0) == BASE {
-        return read_base(base, word_at(&head, 1) as usize);
+        return read_base(rt, base, word_at(&head, 1) as usize);
     }
-    replay_case(base, image, &head, case, counts)
+    replay_case(rt, base, image, &head, case, counts)
 }
 
-fn finish_counts(last: Part, at: u64, counts: &mut [u64]) -> Part {
+fn finish_counts(rt: &(impl Print + Eprint), last: Part, at: u64, counts: &mut [u64]) -> Part {
     finish(
+        rt,
         last,
         at,
         counts,
@@ -163,24 +171,29 @@ fn finish_counts(last: Part, at: u64, counts: &mut [u64]) -> Part {
 }
 
 // Every case of the input, with what is lent to them.
-fn replay_all(base: &mut [u8], image: &mut [u8], counts: &mut [u64]) -> Part {
+fn replay_all(
+    rt: &(impl Input + Print + Eprint),
+    base: &mut [u8],
+    image: &mut [u8],
+    counts: &mut [u64],
+) -> Part {
     let mut case = 0u64;
     while case < PARTS {
-        let part = replay(base, image, case, counts);
+        let part = replay(rt, base, image, case, counts);
         let Part::Whole = part else {
-            return finish_counts(part, case, counts);
+            return finish_counts(rt, part, case, counts);
         };
         case += 1;
     }
-    finish_counts(Part::Whole, case, counts)
+    finish_counts(rt, Part::Whole, case, counts)
 }
 
-fn main() {
-    let Opened::At(_) = open_standard(b"usage: test_source < CASES\n") else {
+fn main(rt: HostRuntime) {
+    let Opened::Standard = open_standard(&rt, "usage: test_source < CASES\n") else {
         return;
     };
     let mut base = [0u8; 80000];
     let mut image = [0u8; 80000];
     let mut counts = [0u64; KINDS_OF_CASES];
-    replay_all(&mut base, &mut image, &mut counts);
+    replay_all(&rt, &mut base, &mut image, &mut counts);
 }
