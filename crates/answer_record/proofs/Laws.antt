@@ -103,4 +103,4 @@ bytes-refused a n out e = rw e refl
 -- an output that was left alone
 pub added_none : (r : Output) (held : Option (List ℕ)) → Added r held held []
 added_none (Output.All n) held = Appends-nil held
-added_none Output.Failed held = tt
+added_none Output.Failed held = (0, Appends-nil held)

@@ -1,8 +1,9 @@
 -- What a writer gets of a line, and of one line after the other.
-use Rattle.std.proofs.Common.{◌≡◌, ℕ, zero, suc, ◌+◌, arith, List, ◌++◌, length, take, append_assoc, append-nil, Option, refl, sym, ap, ◌∙◌, subst}
+use Rattle.std.proofs.Common.{◌≡◌, ℕ, zero, suc, ◌+◌, ◌-◌, ◌≤◌, arith, List, [], ◌++◌, length, take, drop, take-append-drop, append_assoc, append-nil, Option, refl, sym, ap, ◌∙◌, subst}
 use Rattle.streams.specs.declared.Output.{Output}
 use Rattle.streams.specs.Streams.{IsPrefixLen, Added}
 use Rattle.constraint_text.specs.Reading.{lines, line_at, lines_text}
+use lib.Seq.{take_at}
 use Rattle.constraint_text.proofs.Bytes.{length-set_bytes, written-text}
 use Rattle.constraint_text.proofs.Lines.{Front, line-behind}
 
@@ -14,18 +15,47 @@ pub added-front : (r : Output) (old new : Option (List ℕ)) (b t b' : List ℕ)
     → Added r old new t
 added-front r old new b t b' n f p = subst (Added r old new) (text-front b t b' n f p)
 
--- one line more
-one-line-more : (b : List ℕ) (n k : ℕ) → lines_text b k (suc n) ≡ lines_text b k n ++ line_at b (k + n)
+-- n lines and m more
+more-lines : (b : List ℕ) (n m k : ℕ) → lines_text b k (n + m) ≡ lines_text b k n ++ lines_text b (k + n) m
 unfolding lines_text
-one-line-more b zero k = let e : k + 0 ≡ k = omega arith in rw e (append-nil (line_at b k))
-one-line-more b (suc n) k =
+more-lines b zero m k = let z : zero + m ≡ m = omega arith in let e : k + zero ≡ k = omega arith in rw (z, e) refl
+more-lines b (suc n) m k =
+    let z : suc n + m ≡ suc (n + m) = omega arith in
     let e : suc k + n ≡ k + suc n = omega arith in
-    ap (λ t. line_at b k ++ t) (rw e at (one-line-more b n (suc k))) ∙ sym (append_assoc (line_at b k) (lines_text b (suc k) n) (line_at b (k + suc n)))
+    rw z (ap (λ t. line_at b k ++ t) (rw e at (more-lines b n m (suc k))) ∙ sym (append_assoc (line_at b k) (lines_text b (suc k) n) (lines_text b (k + suc n) m)))
 
 pub line-added : (b : List ℕ) (k : ℕ) → lines_text b 0 k ++ line_at b k ≡ lines_text b 0 (k + 1)
-line-added b k = let e : k + 1 ≡ suc k = omega arith in let z : 0 + k ≡ k = omega arith in rw e (sym (rw z at (one-line-more b k 0)))
+unfolding lines_text
+line-added b k =
+    let z : 0 + k ≡ k = omega arith in
+    sym (more-lines b k 1 0 ∙ ap (λ t. lines_text b 0 k ++ t) (append-nil (line_at b (0 + k)) ∙ ap (line_at b) z))
 
 -- no line more
 pub lines-all : (b : List ℕ) (k : ℕ) → k ≡ lines b → lines_text b 0 k ++ line_at b k ≡ lines_text b 0 (lines b)
 lines-all b k e =
     ap (λ t. lines_text b 0 k ++ t) (sym (line-behind b k (lines b) refl (omega arith))) ∙ append-nil (lines_text b 0 k) ∙ ap (lines_text b 0) e
+
+-- some lines and a front of the next are a front of all
+front-cut : (xs ys zs : List ℕ) (j : ℕ) → xs ++ take j ys ≡ take (length (xs ++ take j ys)) (xs ++ (ys ++ zs))
+front-cut xs ys zs j =
+    let split : xs ++ (ys ++ zs) ≡ (xs ++ take j ys) ++ (drop j ys ++ zs) =
+    ap (λ l. xs ++ (l ++ zs)) (sym (take-append-drop j ys)) ∙ ap (λ l. xs ++ l) (append_assoc (take j ys) (drop j ys) zs)
+    ∙ sym (append_assoc xs (take j ys) (drop j ys ++ zs)) in
+    sym (ap (take (length (xs ++ take j ys))) split ∙ take_at (xs ++ take j ys) (drop j ys ++ zs) (length (xs ++ take j ys)) refl)
+
+pub lines-cut : (b : List ℕ) (k j : ℕ) → k ≤ lines b → (m : ℕ) × (lines_text b 0 k ++ take j (line_at b k) ≡ take m (lines_text b 0 (lines b)))
+unfolding lines_text
+lines-cut b k j h = (length front, front-cut (lines_text b 0 k) (line_at b k) (rest (lines b - k)) j ∙ ap (take (length front)) (whole (lines b - k) (omega arith)))
+  where
+    front : List ℕ
+    front = lines_text b 0 k ++ take j (line_at b k)
+
+    rest : ℕ → List ℕ
+    rest zero = []
+    rest (suc n) = lines_text b (suc k) n
+
+    whole : (n : ℕ) → k + n ≡ lines b → lines_text b 0 k ++ (line_at b k ++ rest n) ≡ lines_text b 0 (lines b)
+    whole zero e = ap (λ t. lines_text b 0 k ++ t) (append-nil (line_at b k)) ∙ lines-all b k (omega (arith, e))
+    whole (suc n) e =
+        let z : 0 + k ≡ k = omega arith in
+        sym (rw z at (more-lines b k (suc n) 0)) ∙ ap (lines_text b 0) e

@@ -1,6 +1,6 @@
 -- What the answers about streams say.
 use Rattle.std.specs.Prelude.{ℕ, ◌≤◌, ◌<◌, ◌≡◌, List, [], length, take, Option}
-use Rattle.std.specs.Io.KnownBytes.{Appends, Consumes, IsAtEnd}
+use Rattle.std.specs.Io.KnownBytes.{Keeps, Appends, Consumes, IsAtEnd}
 use Rattle.streams.specs.declared.Input.{Input}
 use Rattle.streams.specs.declared.Output.{Output}
 use Rattle.streams.specs.declared.Step.{Step}
@@ -25,10 +25,20 @@ abbrev pub Whole : Output → ℕ → Type 0
 Whole (Output.All n) size = n ≡ size
 Whole Output.Failed size = Unit {0}
 
--- what was written stands behind what the output held
+-- what was written stands behind what the output held: all of it, or a front where a write failed
 abbrev pub Added : Output → Option (List ℕ) → Option (List ℕ) → List ℕ → Type 0
 Added (Output.All n) old new bytes = Appends old new bytes
-Added Output.Failed old new bytes = Unit {0}
+Added Output.Failed old new bytes = (k : ℕ) × Appends old new (take k bytes)
+
+-- what one write takes of so many bytes
+abbrev pub Put : Output → ℕ → Type 0
+Put (Output.All n) size = (0 < n) × (n ≤ size)
+Put Output.Failed size = Unit {0}
+
+-- and what it adds to the output
+abbrev pub PutBytes : Output → Option (List ℕ) → Option (List ℕ) → List ℕ → Type 0
+PutBytes (Output.All n) old new bytes = Appends old new (take n bytes)
+PutBytes Output.Failed old new bytes = Keeps old new
 
 -- what one read gives of so many bytes
 abbrev pub Stepped : Step → ℕ → Type 0

@@ -3,11 +3,11 @@
 
 ghost use Rattle.std.specs.Prelude.{length};
 ghost use Rattle.std.specs.Io.KnownBytes.{Keeps};
-ghost use Rattle.streams.specs.Streams.{Within, Given, Whole, Added, Stepped, Taken, Standard};
+ghost use Rattle.streams.specs.Streams.{Within, Given, Whole, Added, Put, PutBytes, Stepped, Taken, Standard};
 
 use std::convert::Infallible;
 use std::env::FillError;
-use std::io::{Error, Read, Write};
+use std::io::{Error, ErrorKind, Read, Write};
 use std::rt::{Env, Files};
 use std::{fs, io, str};
 
@@ -123,16 +123,32 @@ pub fn read_opened<F: Read + Drop>(
     }
 }
 
-// Writes all of the bytes to standard output.
+// One write from the front of the bytes. One that takes none has failed.
+fn write_more<W: Write>(rt: &impl Eprint, out: &mut W, bytes: &[u8]) -> Output
+    ensures count { Put result (length bytes.now) }
+    ensures bytes { PutBytes result (W.contents out.old) (W.contents out.new) bytes.now }
+{
+    match out.write(bytes) {
+        Ok(0) => say_failed(rt, "standard output", Error::from(ErrorKind::WriteZero)),
+        Ok(n) => return Output::All(n),
+        Err(error) => say_failed(rt, "standard output", error),
+    }
+    Output::Failed
+}
+
+// Writes all of the bytes to standard output. Nothing is written behind a write that failed.
 pub fn write_output<W: Write>(rt: &impl Eprint, out: &mut W, bytes: &[u8]) -> Output
     ensures whole { Whole result (length bytes.now) }
     ensures bytes { Added result (W.contents out.old) (W.contents out.new) bytes.now }
 {
-    if let Err(error) = out.write_all(bytes) {
-        say_failed(rt, "standard output", error);
-        return Output::Failed;
+    let mut done = 0usize;
+    while done < bytes.len() {
+        let Output::All(n) = write_more(rt, out, &bytes[done..]) else {
+            return Output::Failed;
+        };
+        done += n;
     }
-    Output::All(bytes.len())
+    Output::All(done)
 }
 
 // Flushes standard output after all of it was written, so many bytes.

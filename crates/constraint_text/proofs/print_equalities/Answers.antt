@@ -3,7 +3,7 @@ use Rattle.std.specs.Io.KnownBytes.{Appends}
 use Rattle.std.proofs.KnownBytes.{Appends-nil, Appends-trans}
 use Rattle.constraint_text.specs.Reading.{lines, lines_text}
 use Rattle.constraint_text.proofs.Lines.{line-few, line-more, line-end}
-use Rattle.constraint_text.proofs.Printing.{line-added, lines-all}
+use Rattle.constraint_text.proofs.Printing.{line-added, lines-all, lines-cut}
 use Rattle.constraint_text.proofs.print_equalities.Given.{Over}
 use Rattle.constraint_text.proofs.print_equalities.Goals as goal
 use Rattle.constraint_text.proofs.print_equalities.Goals.{Else-n-eq0, Then-n-eq0}
@@ -34,3 +34,9 @@ returns-then-n-eq0-clause-all g c = all g c
 pub returns-then-n-eq0-clause-bytes : goal.returns-then-n-eq0-clause-bytes
 returns-then-n-eq0-clause-bytes g c =
     subst (Appends _ _) (lines-all _ _ (all g c)) (Appends-trans _ _ _ _ _ c.loop-n.invariant.1 c.in-All.ensures.bytes)
+
+pub returns-in_default-clause-bytes : goal.returns-in_default-clause-bytes
+returns-in_default-clause-bytes g c =
+    let cut = c.in_default.ensures.bytes in
+    let front = lines-cut _ _ cut.0 c.loop-n.invariant.0 in
+    (front.0, subst (Appends _ _) front.1 (Appends-trans _ _ _ _ _ c.loop-n.invariant.1 cut.1))
