@@ -79,6 +79,8 @@ def read():
     """Each file of code, definitions and proofs with its module and lines."""
     for path in sorted(glob.glob(ROOT + "/**/*.antt", recursive=True) + glob.glob(ROOT + "/**/*.rt", recursive=True)):
         name = os.path.relpath(path, ROOT)
+        if "/out/" in name:
+            continue
         module = os.path.splitext(name)[0].replace("/", ".")
         yield name, module, open(path, encoding="utf-8").read().split("\n")
 

@@ -10,7 +10,7 @@ use pass_entry::Answer;
 use std::env::FillError;
 use std::io::Write;
 use std::rt::Env;
-use streams::{Output, flush_output, write_output};
+use streams::{Output, close_output, write_output};
 
 // More than can matter to lend.
 pub const MANY: usize = 100000000;
@@ -74,7 +74,7 @@ fn print_record<W: Write>(rt: &impl Eprint, to: &mut W, bytes: &[u8]) -> Output
     let Output::All(n) = write_output(rt, to, bytes) else {
         return Output::Failed;
     };
-    flush_output(rt, to, n)
+    close_output(rt, to, n)
 }
 
 // "refused" with the number on standard error, and nothing on standard output.

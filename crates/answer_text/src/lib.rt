@@ -10,14 +10,14 @@ ghost use Rattle.answer_text.specs.Answered.{lines_of, printed_of};
 use constraint_text::{Printed, print_equalities, print_refused};
 use pass_entry::Answer;
 use std::io::Write;
-use streams::{Output, flush_output};
+use streams::{Output, close_output};
 
-// The same, once standard output was flushed without a fault.
-fn flushed<W: Write>(rt: &impl Eprint, to: &mut W, lines: usize) -> Printed
+// The same, once standard output was ended without a fault.
+fn closed<W: Write>(rt: &impl Eprint, to: &mut W, lines: usize) -> Printed
     ensures all { AllLines result lines }
     ensures bytes { Keeps (W.contents to.old) (W.contents to.new) }
 {
-    let Output::All(k) = flush_output(rt, to, lines) else {
+    let Output::All(k) = close_output(rt, to, lines) else {
         return Printed::Failed;
     };
     Printed::Lines(k)
@@ -30,7 +30,7 @@ fn print_record<W: Write>(rt: &impl Eprint, to: &mut W, s: &[u8]) -> Printed
     let Printed::Lines(k) = print_equalities(rt, to, s) else {
         return Printed::Failed;
     };
-    flushed(rt, to, k)
+    closed(rt, to, k)
 }
 
 fn print_number<W: Write>(rt: &impl Eprint, to: &mut W, number: u32) -> Printed
@@ -40,7 +40,7 @@ fn print_number<W: Write>(rt: &impl Eprint, to: &mut W, number: u32) -> Printed
     let Output::All(_) = print_refused(rt, to, number) else {
         return Printed::Failed;
     };
-    flushed(rt, to, 1)
+    closed(rt, to, 1)
 }
 
 // The record of n bytes at the front of out; nothing, where it has not so many.
@@ -49,12 +49,12 @@ fn print_front<W: Write>(rt: &impl Eprint, to: &mut W, out: &[u8], n: usize) -> 
     ensures bytes { AddedText result (W.contents to.old) (W.contents to.new) (printed_of (Answer.Written n) out.now) }
 {
     if out.len() < n {
-        return flushed(rt, to, 0);
+        return closed(rt, to, 0);
     }
     print_record(rt, to, &out[..n])
 }
 
-// Prints an answer whose record stands at the front of out, and flushes standard output.
+// Prints an answer whose record stands at the front of out, and ends standard output.
 pub fn print_answer<W: Write>(rt: &impl Eprint, to: &mut W, answer: Answer, out: &[u8]) -> Printed
     ensures all { AllLines result (lines_of answer out.now) }
     ensures bytes { AddedText result (W.contents to.old) (W.contents to.new) (printed_of answer out.now) }

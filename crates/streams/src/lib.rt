@@ -151,8 +151,8 @@ pub fn write_output<W: Write>(rt: &impl Eprint, out: &mut W, bytes: &[u8]) -> Ou
     Output::All(done)
 }
 
-// Flushes standard output after all of it was written, so many bytes.
-pub fn flush_output<W: Write>(rt: &impl Eprint, out: &mut W, written: usize) -> Output
+// Ends standard output after all of it was written, so many bytes: what is still held on its way is written out. No call closes it.
+pub fn close_output<W: Write>(rt: &impl Eprint, out: &mut W, written: usize) -> Output
     ensures whole { Whole result written }
     ensures bytes { Keeps (W.contents out.old) (W.contents out.new) }
 {

@@ -11,7 +11,7 @@ ghost use Rattle.test_report.specs.Lines.{filled, LINE};
 
 use line::fill_line;
 use std::io;
-use streams::{Input, Output, flush_output, read_standard, write_output};
+use streams::{Input, Output, close_output, read_standard, write_output};
 
 // A part of the input: a case, or some bytes of it. Whole: it was there, and what there was to say of it was said. End: the input had
 // ended before it. Broken: the input ends within it, or it does not fit here, so that no next one can be found. Failed: a read or a
@@ -84,14 +84,14 @@ pub fn tell(rt: &(impl Print + Eprint), text: &[u8], counts: &[u64]) -> Part
     Part::Whole
 }
 
-// The same for the last text: standard output is flushed behind it.
+// The same for the last text: standard output is ended behind it.
 pub fn tell_last(rt: &(impl Print + Eprint), text: &[u8], counts: &[u64]) -> Part
     ensures { Told result }
 {
     let Output::All(n) = print_line(rt, text, counts) else {
         return Part::Failed;
     };
-    let Output::All(_) = flush_output(rt, &mut io::writer(rt), n) else {
+    let Output::All(_) = close_output(rt, &mut io::writer(rt), n) else {
         return Part::Failed;
     };
     Part::Whole
