@@ -5,7 +5,7 @@ usage: respell.py [--check] ROOT
 
 It turns the .antt files, the clauses and ghost items of the .rt files, and the must-fail edits below ROOT/crates. A name is turned where it begins
 with a small letter and a part of it between dashes has a capital behind a small letter or digit; types, facts, modules and constants keep theirs, and so do
-the library's names. A new name that stands somewhere already is shown on a line that begins 'meets:', and its old name stays.
+the library's names. It turns the code spans of README.md and docs/ too. A new name that stands somewhere already is shown on a line that begins 'meets:'.
 """
 
 import os
