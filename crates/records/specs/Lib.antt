@@ -3,4 +3,5 @@ pub mod FlatRecord
 pub mod Intrinsics
 pub mod Kinds
 pub mod Operators
+pub mod Refusals
 pub mod SourceRecord

@@ -7,6 +7,7 @@ pub mod flat_record;
 pub mod intrinsics;
 pub mod kinds;
 pub mod operators;
+pub mod refusals;
 pub mod source_record;
 
 // A node is four words: kind, a, b, c.

@@ -1,0 +1,30 @@
+-- The refusals and their numbers, by the place of the check: 1 to 6 of a source record, in the order of its parts; 10 to 19 of evaluation, as first met;
+-- 20 to 22 of a flat record; 30 to 32 of the stores, as met; 33 of the output.
+use Rattle.std.specs.Prelude.{ℕ}
+use Rattle.records.specs.declared.refusals.Refusal.{Refusal}
+
+-- the number that stands for a refusal
+abbrev pub refusal_number : Refusal → ℕ
+refusal_number Refusal.Length = 1
+refusal_number Refusal.Count = 2
+refusal_number Refusal.Name = 3
+refusal_number Refusal.EqualNames = 4
+refusal_number Refusal.Entry = 5
+refusal_number Refusal.Uses = 6
+refusal_number Refusal.Application = 10
+refusal_number Refusal.Exponent = 11
+refusal_number Refusal.StaticMatch = 12
+refusal_number Refusal.NoArm = 13
+refusal_number Refusal.IterCount = 14
+refusal_number Refusal.FoldList = 15
+refusal_number Refusal.Sides = 16
+refusal_number Refusal.NoValue = 17
+refusal_number Refusal.NoNumber = 18
+refusal_number Refusal.Depth = 19
+refusal_number Refusal.FlatLength = 20
+refusal_number Refusal.FlatRule = 21
+refusal_number Refusal.Uncuttable = 22
+refusal_number Refusal.MadeNodes = 30
+refusal_number Refusal.FlatList = 31
+refusal_number Refusal.Ids = 32
+refusal_number Refusal.Output = 33

@@ -1,0 +1,64 @@
+// Why a record is refused. The answer that a program prints is the number alone.
+ghost use Rattle.std.specs.Prelude.{◌≡◌};
+ghost use Rattle.records.specs.Refusals.{refusal_number};
+
+// The refusals in the order of their numbers: 1 to 6 of a source record, 10 to 19 of evaluation, 20 to 22 of a flat record, 30 to 32 of the stores, 33 of the output.
+#[derive(Clone, Copy, Debug, PartialEq, Eq, Hash)]
+pub enum Refusal {
+    Length,
+    Count,
+    Name,
+    EqualNames,
+    Entry,
+    Uses,
+    Application,
+    Exponent,
+    StaticMatch,
+    NoArm,
+    IterCount,
+    FoldList,
+    Sides,
+    NoValue,
+    NoNumber,
+    Depth,
+    FlatLength,
+    FlatRule,
+    Uncuttable,
+    MadeNodes,
+    FlatList,
+    Ids,
+    Output,
+}
+
+impl Refusal {
+    // The number of the refusal.
+    pub fn number(self) -> u32
+        ensures { result ≡ refusal_number self }
+    {
+        match self {
+            Refusal::Length => 1,
+            Refusal::Count => 2,
+            Refusal::Name => 3,
+            Refusal::EqualNames => 4,
+            Refusal::Entry => 5,
+            Refusal::Uses => 6,
+            Refusal::Application => 10,
+            Refusal::Exponent => 11,
+            Refusal::StaticMatch => 12,
+            Refusal::NoArm => 13,
+            Refusal::IterCount => 14,
+            Refusal::FoldList => 15,
+            Refusal::Sides => 16,
+            Refusal::NoValue => 17,
+            Refusal::NoNumber => 18,
+            Refusal::Depth => 19,
+            Refusal::FlatLength => 20,
+            Refusal::FlatRule => 21,
+            Refusal::Uncuttable => 22,
+            Refusal::MadeNodes => 30,
+            Refusal::FlatList => 31,
+            Refusal::Ids => 32,
+            Refusal::Output => 33,
+        }
+    }
+}
