@@ -1,13 +1,22 @@
 -- Tests and sums over the indices below a count, as a loop meets them; tests joined by "and"; choices whose test is known. Assumes nothing.
-use Prim.Native.Nat.{ℕ, zero, suc, ◌+◌, ◌≤◌, ◌<◌}
+use Prim.Native.Nat.{ℕ, zero, suc, ◌+◌, ◌-◌, ◌≤◌, ◌<◌}
 use mathlib.Core.Path.{◌≡◌, refl, sym, ap, ◌∙◌}
-use mathlib.Core.Bool.{Bool, true, false, ◌&&◌, and-false}
+use mathlib.Core.Bool.{Bool, true, false, ◌&&◌, and-false, and-true, and_assoc}
 use mathlib.Core.List.{List}
 use mathlib.Core.Logic.{⊎_elim}
 use native.Mathlib.Numerals.{add-one}
 use native.Mathlib.Omega.{arith}
 use lib.ListN.{length, get_or, take}
-use Rattle.std.specs.List.{list_all}
+use denote.Param.Members.{Mut}
+use Rattle.std.proofs.Common.{Option}
+use Rattle.std.specs.declared.ops.Range.{Range}
+use Rattle.std.specs.Fn.{Called}
+use Rattle.std.specs.Iterator.{YieldsThen}
+use Rattle.std.specs.Option.{MatchOption}
+use Rattle.std.specs.List.{list_all, range_with_len, FoldsTo}
+use Rattle.std.proofs.iter.Yields.{nat_range_steps}
+use Rattle.std.proofs.lemmas.Iterator.{YieldsList-from_range}
+use Rattle.std.proofs.lemmas.Iterator.Search.{all_from_yields_List}
 use Rattle.std.proofs.lemmas.Bool.{cases_lt, and_parts, eq-eqb, ne_eqb}
 use Rattle.std.proofs.lemmas.List.Folds.{list_all_more}
 use Rattle.marks.specs.Indices.{every, total, pick, same}
@@ -85,6 +94,30 @@ every-front p xs d (suc n) l =
     let h : n < length xs = omega arith in
     let e = rw add-one at (list_all_more p xs n d h) in
     e ∙ rw (every-front p xs d n (omega arith))
+
+-- the first index, and the rest
+every-first : (n : ℕ) (p : ℕ → Bool) → every (suc n) p ≡ (p 0 && every n (λ k. p (suc k)))
+unfolding every
+every-first zero p = sym (and-true (p 0))
+every-first (suc n) p = rw (every-first n p, and_assoc)
+
+-- every number of a range, tested by `all`
+range-all : (n a : ℕ) (p : ℕ → Bool) → list_all p (range_with_len a n) ≡ every n (λ k. p (a + k))
+unfolding every
+range-all zero a p = refl
+range-all (suc n) a p =
+    let e : a + 0 ≡ a = omega arith in
+    let t : every n (λ k. p (a + 1 + k)) ≡ every n (λ k. p (a + suc k)) = every-same n _ _ (λ k l. let g : a + 1 + k ≡ a + suc k = omega arith in ap p g) in
+    rw (range-all n (a + 1) p, t, every-first, e)
+
+module _ {F : Type 0} (g : Mut F (ℕ × Unit {0}) Bool) (s u : Range ℕ) (f : F) (r : Bool) where
+  pub every-from_all : (p q : ℕ → Bool) (a b n : ℕ)
+      → (xs : List ℕ) × (o : Option ℕ) × (j : F) × YieldsThen nat_range_steps s xs o u × FoldsTo (λ p x q. Called g p (x, tt) true q) f xs j
+      × MatchOption o (r ≡ true) (λ x. (r ≡ false) × ((h : F) × Called g j (x, tt) false h))
+      → ((x : ℕ) (t : Bool) (h : F) → Called g f (x, tt) t h → (h ≡ f) × (t ≡ p x))
+      → s ≡ record { start = a; end = b } → b - a ≡ n → ((k : ℕ) → k < n → p (a + k) ≡ q k) → r ≡ every n q
+  every-from_all p q a b n ran test e l same =
+      all_from_yields_List p u f r ran (YieldsList-from_range a b n e l) test ∙ range-all n a p ∙ every-same n _ _ same
 
 -- ---- a sum over one index more
 
