@@ -4,7 +4,7 @@ use mathlib.Core.Path.{◌≡◌, refl}
 use mathlib.Core.List.{[], ◌∷◌}
 use Prim.Native.Nat.{ℕ}
 use lib.IntN.{ℤ, pos}
-use Rattle.field.specs.declared.Answer.TheVariants.{Value}
+use Rattle.std.specs.Prelude.{Some}
 use Rattle.field.specs.declared.InfixOp.TheVariants.{Multiply, Add}
 use Rattle.field.specs.Prime.{P}
 use Rattle.field.specs.Element.{elem}
@@ -47,9 +47,9 @@ unfolding answer_of flattened_of passed update Passes.member Passes.keep_if Pass
 is_cut = refl
 
 -- the one divisor is x
-not-zero : (ρ : ℕ → ℤ) → (Value (ρ 0) ≡ Value (pos 0) → ⊥) → NoDivisorZero source ρ
+not-zero : (ρ : ℕ → ℤ) → (Some (ρ 0) ≡ Some (pos 0) → ⊥) → NoDivisorZero source ρ
 unfolding value_of
 not-zero ρ h = (((tt, tt, h), ((tt, ((tt, tt, tt), (tt, tt, tt)), tt), tt)), ((tt, tt, tt), tt))
 
-pub example : (ρ : ℕ → ℤ) → ((x : ℕ) → elem P (ρ x) ≡ ρ x) → (Value (ρ 0) ≡ Value (pos 0) → ⊥) → Agrees source equalities ρ
+pub example : (ρ : ℕ → ℤ) → ((x : ℕ) → elem P (ρ x) ≡ ρ x) → (Some (ρ 0) ≡ Some (pos 0) → ⊥) → Agrees source equalities ρ
 example ρ elements h = agreement source (plain-has-plain-body source is-plain) 65535 equalities is_cut ρ elements (not-zero ρ h)

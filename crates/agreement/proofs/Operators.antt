@@ -8,8 +8,8 @@ use Prim.Native.Nat.{ℕ, suc}
 use native.Mathlib.Omega.{arith}
 use lib.IntN.{ℤ, pos, negsuc}
 use lib.Dec.{eqb}
-use Rattle.field.specs.declared.Answer.{Answer}
-use Rattle.field.specs.declared.Answer.TheVariants.{Value}
+use Rattle.field.specs.Operations.{Answer}
+use Rattle.std.specs.Prelude.{Some}
 use Rattle.field.specs.declared.InfixOp.TheVariants.{Divide, DivideZ, Multiply, Add, Subtract, Equal, Exponentiate, IntDivide, Modulo}
 use Rattle.source.specs.Trees.{variable_p, Expr, binary, negate, constant, variable, letting, Module}
 use Rattle.flat.specs.Meaning.{update, on_values, negated}
@@ -87,7 +87,7 @@ abbrev worked : ℤ → List (Answer × Answer)
 worked x = sides (Meaning.defined (start (inputs x)) operators.definitions) operators.expressions
 
 abbrev twice : ℤ → Answer × Answer
-twice x = (Value x, Value x)
+twice x = (Some x, Some x)
 
 sides-at-seven : worked (pos 7) ≡ twice (pos 7) ∷ twice (pos 0) ∷ twice (pos 14) ∷ twice (pos 9) ∷ twice (pos 5) ∷ twice (pos 49) ∷ twice (pos 1)
     ∷ twice (pos 4) ∷ twice (negsuc 0) ∷ twice (pos 4) ∷ twice (pos 25) ∷ twice (negsuc 6) ∷ []
@@ -124,13 +124,13 @@ pub not-fulfilled : Holds operators (inputs (pos 8)) → ⊥
 unfolding answer_of inputs update on_values negated write through value_of Meaning.defined sides_of sides
 not-fulfilled h =
     let w = h.1.1.0 in
-    let p : Value (pos 16) ≡ Value w.0 = w.1 in
-    let q : Value (pos 14) ≡ Value w.0 = w.2 in
+    let p : Some (pos 16) ≡ Some w.0 = w.1 in
+    let q : Some (pos 14) ≡ Some w.0 = w.2 in
     let k : ◌≡◌ {A = ℕ} 16 14 = cc in
     omega arith
 
 -- and where a is 7 no divisor is zero: `|` by 0 is none
-not-0 : (x : ℕ) → Value (pos (suc x)) ≡ Value (pos 0) → ⊥
+not-0 : (x : ℕ) → Some (pos (suc x)) ≡ Some (pos 0) → ⊥
 not-0 x e = let k : ◌≡◌ {A = ℕ} (suc x) 0 = cc in omega arith
 
 -- the parts of a list's fact, one after the other

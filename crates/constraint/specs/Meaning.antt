@@ -1,10 +1,8 @@
 -- What a constraint list means: the value of a term, when an equality holds, and what a solution is.
-use Rattle.std.specs.Prelude.{◌≡◌, ℕ, ℤ}
-use Rattle.field.specs.declared.Answer.{Answer}
-use Rattle.field.specs.declared.Answer.TheVariants.{Value}
+use Rattle.std.specs.Prelude.{◌≡◌, ℕ, ℤ, Some}
 use Rattle.field.specs.Prime.{P}
 use Rattle.field.specs.Element.{elem}
-use Rattle.field.specs.Operations.{opposite, infix_of}
+use Rattle.field.specs.Operations.{opposite, infix_of, Answer}
 use Rattle.flat.specs.Rules.{All}
 use Rattle.flat.specs.Meaning.{Assignment, Elements}
 use Rattle.constraint.specs.declared.Term.{Term}
@@ -30,12 +28,12 @@ term_value σ (Term.Constant c) = elem P c
 
 unfoldable pub side_value : Assignment → Side → Answer
 side_value σ (Side.infixed o a b) = infix_of P o (term_value σ a) (term_value σ b)
-side_value σ (Side.negate a) = Value (opposite P (term_value σ a))
-side_value σ (Side.copy a) = Value (term_value σ a)
+side_value σ (Side.negate a) = Some (opposite P (term_value σ a))
+side_value σ (Side.copy a) = Some (term_value σ a)
 
 -- "an equality [holds], when its operation on the right terms has a value and the left term equals it"
 abbrev pub EqualityHolds : Assignment → Equality → Type 0
-EqualityHolds σ q = side_value σ q.right ≡ Value (term_value σ q.left)
+EqualityHolds σ q = side_value σ q.right ≡ Some (term_value σ q.left)
 
 -- σ gives the inputs ρ's values and fulfils every equality
 pub record Solution (I : ℕ → Type 0) (c : ConstraintModule) (ρ σ : Assignment) : Type 0 where

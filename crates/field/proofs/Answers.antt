@@ -7,23 +7,22 @@ use native.Mathlib.Nat.{mod-lt}
 use native.Mathlib.Omega.{arith}
 use lib.Dec.{eqb}
 use lib.IntN.{ℤ, pos, negsuc}
-use Rattle.field.specs.declared.Answer.{Answer}
-use Rattle.field.specs.declared.Answer.TheVariants.{Value, Nothing}
+use Rattle.std.specs.Prelude.{Some, None}
 use Rattle.field.specs.declared.InfixOp.{InfixOp}
 use Rattle.field.specs.declared.InfixOp.TheVariants.{Divide, DivideZ, Multiply, Add, Subtract, Equal, Exponentiate, IntDivide, Modulo}
 use Rattle.field.specs.Prime.{Prime}
 use Rattle.field.specs.Element.{res, centre, elem, inv}
-use Rattle.field.specs.Operations.{pick, sum, difference, product, opposite, inverse, quotient, power, whole_quotient}
+use Rattle.field.specs.Operations.{pick, sum, difference, product, opposite, inverse, quotient, power, whole_quotient, Answer}
 use Rattle.field.specs.Operations.{divide_of, divide_z_of, int_divide_of, modulo_of, raised, exponentiate_of, infix_of}
 use Rattle.field.proofs.Modular.{inv-lt}
 use Rattle.field.proofs.Elements.{res-lt, res-centre, res-elem, elem-elem, elem-zero, res-zero}
 use Rattle.field.proofs.ByResidues.{sum-res, difference-res, product-res, quotient-res}
 
 -- a value is one number, and is not nothing
-pub value-path : (x z : ℤ) → Value x ≡ Value z → x ≡ z
+pub value-path : (x z : ℤ) → Some x ≡ Some z → x ≡ z
 value-path x z e = cc
 
-pub nothing-value : (z : ℤ) → Nothing ≡ Value z → ⊥
+pub nothing-value : (z : ℤ) → None ≡ Some z → ⊥
 nothing-value z e = let o : ◌≡◌ {A = ℕ} 0 1 = cc in omega arith
 
 module _ (p : ℕ) (prime : Prime p) where
@@ -55,34 +54,34 @@ module _ (p : ℕ) (prime : Prime p) where
   opposite-element a = elem-elem p above _
 
   -- an answer by its case
-  given : (x z : ℤ) → elem p x ≡ x → Value x ≡ Value z → elem p z ≡ z
+  given : (x z : ℤ) → elem p x ≡ x → Some x ≡ Some z → elem p z ≡ z
   given x z h e = subst (λ (w : ℤ). elem p w ≡ w) (value-path x z e) h
 
-  none-given : (z : ℤ) → Nothing ≡ Value z → elem p z ≡ z
+  none-given : (z : ℤ) → None ≡ Some z → elem p z ≡ z
   none-given z e = absurd (nothing-value z e)
 
-  picked : (t : Bool) (x y : Answer) (z : ℤ) → ((w : ℤ) → x ≡ Value w → elem p w ≡ w) → ((w : ℤ) → y ≡ Value w → elem p w ≡ w)
-      → pick t x y ≡ Value z → elem p z ≡ z
+  picked : (t : Bool) (x y : Answer) (z : ℤ) → ((w : ℤ) → x ≡ Some w → elem p w ≡ w) → ((w : ℤ) → y ≡ Some w → elem p w ≡ w)
+      → pick t x y ≡ Some z → elem p z ≡ z
   picked true x y z f g e = f z e
   picked false x y z f g e = g z e
 
-  raised-element : (a n z : ℤ) → raised p a n ≡ Value z → elem p z ≡ z
+  raised-element : (a n z : ℤ) → raised p a n ≡ Some z → elem p z ≡ z
   unfolding raised
   raised-element a (pos n) z e = given (power p a n) z (power-element a n) e
-  raised-element a (negsuc n) z e = picked (eqb (res p a) 0) Nothing _ z none-given (λ w. given _ w (inverse-element _)) e
+  raised-element a (negsuc n) z e = picked (eqb (res p a) 0) None _ z none-given (λ w. given _ w (inverse-element _)) e
 
   -- a value is an element
-  pub infix-element : (op : InfixOp) (a b z : ℤ) → infix_of p op a b ≡ Value z → elem p z ≡ z
+  pub infix-element : (op : InfixOp) (a b z : ℤ) → infix_of p op a b ≡ Some z → elem p z ≡ z
   unfolding infix_of divide_of divide_z_of int_divide_of modulo_of exponentiate_of product sum difference
-  infix-element Divide a b z e = picked (eqb (res p b) 0) Nothing _ z none-given (λ w. given _ w (quotient-element a b)) e
-  infix-element DivideZ a b z e = picked (eqb (res p b) 0) (Value (pos 0)) _ z (λ w. given (pos 0) w zero-element) (λ w. given _ w (quotient-element a b)) e
+  infix-element Divide a b z e = picked (eqb (res p b) 0) None _ z none-given (λ w. given _ w (quotient-element a b)) e
+  infix-element DivideZ a b z e = picked (eqb (res p b) 0) (Some (pos 0)) _ z (λ w. given (pos 0) w zero-element) (λ w. given _ w (quotient-element a b)) e
   infix-element Multiply a b z e = given _ z (elem-elem p above _) e
   infix-element Add a b z e = given _ z (elem-elem p above _) e
   infix-element Subtract a b z e = given _ z (elem-elem p above _) e
   infix-element Equal a b z e = none-given z e
   infix-element Exponentiate a b z e = raised-element a (elem p b) z e
-  infix-element IntDivide a b z e = picked (eqb (res p b) 0) Nothing _ z none-given (λ w. given _ w (elem-elem p above _)) e
-  infix-element Modulo a b z e = picked (eqb (res p b) 0) Nothing _ z none-given (λ w. given _ w (elem-elem p above _)) e
+  infix-element IntDivide a b z e = picked (eqb (res p b) 0) None _ z none-given (λ w. given _ w (elem-elem p above _)) e
+  infix-element Modulo a b z e = picked (eqb (res p b) 0) None _ z none-given (λ w. given _ w (elem-elem p above _)) e
 
   -- the element of an operand in its place, by residues
   quotient-of : (a b : ℤ) → quotient p (elem p a) (elem p b) ≡ quotient p a b
@@ -97,9 +96,9 @@ module _ (p : ℕ) (prime : Prime p) where
 
   raised_of : (a n : ℤ) → raised p (elem p a) n ≡ raised p a n
   unfolding raised
-  raised_of a (pos n) = ap Value (power-of a n)
+  raised_of a (pos n) = ap Some (power-of a n)
   raised_of a (negsuc n) =
-      ap₂ (λ (x : ℕ) (y : ℤ). pick (eqb x 0) Nothing (Value (inverse p y))) (res-elem p above a) (power-of a (suc n))
+      ap₂ (λ (x : ℕ) (y : ℤ). pick (eqb x 0) None (Some (inverse p y))) (res-elem p above a) (power-of a (suc n))
 
   whole_of : (a b : ℤ) → whole_quotient (elem p (elem p a)) (elem p (elem p b)) ≡ whole_quotient (elem p a) (elem p b)
   whole_of a b = ap₂ whole_quotient (elem-elem p above a) (elem-elem p above b)
@@ -107,27 +106,27 @@ module _ (p : ℕ) (prime : Prime p) where
   -- operands stand for their elements
   pub infix-elements : (op : InfixOp) (a b : ℤ) → infix_of p op (elem p a) (elem p b) ≡ infix_of p op a b
   unfolding infix_of divide_of divide_z_of int_divide_of modulo_of exponentiate_of
-  infix-elements Divide a b = ap₂ (λ (x : ℕ) (y : ℤ). pick (eqb x 0) Nothing (Value y)) (res-elem p above b) (quotient-of a b)
-  infix-elements DivideZ a b = ap₂ (λ (x : ℕ) (y : ℤ). pick (eqb x 0) (Value (pos 0)) (Value y)) (res-elem p above b) (quotient-of a b)
+  infix-elements Divide a b = ap₂ (λ (x : ℕ) (y : ℤ). pick (eqb x 0) None (Some y)) (res-elem p above b) (quotient-of a b)
+  infix-elements DivideZ a b = ap₂ (λ (x : ℕ) (y : ℤ). pick (eqb x 0) (Some (pos 0)) (Some y)) (res-elem p above b) (quotient-of a b)
   infix-elements Multiply a b =
-      ap Value
+      ap Some
       (product-res p above (elem p a) (elem p b)
       ∙ ap₂ (λ (x y : ℕ). centre p ((x * y) % p)) (res-elem p above a) (res-elem p above b)
       ∙ sym (product-res p above a b))
   infix-elements Add a b =
-      ap Value
+      ap Some
       (sum-res p above (elem p a) (elem p b) ∙ ap₂ (λ (x y : ℕ). centre p ((x + y) % p)) (res-elem p above a) (res-elem p above b) ∙ sym (sum-res p above a b))
   infix-elements Subtract a b =
-      ap Value
+      ap Some
       (difference-res p above (elem p a) (elem p b)
       ∙ ap₂ (λ (x y : ℕ). centre p ((x + (p - y)) % p)) (res-elem p above a) (res-elem p above b)
       ∙ sym (difference-res p above a b))
   infix-elements Equal a b = refl
   infix-elements Exponentiate a b = raised_of a (elem p (elem p b)) ∙ ap (raised p a) (elem-elem p above b)
-  infix-elements IntDivide a b = ap₂ (λ (x : ℕ) (y : ℤ). pick (eqb x 0) Nothing (Value (elem p y))) (res-elem p above b) (whole_of a b)
+  infix-elements IntDivide a b = ap₂ (λ (x : ℕ) (y : ℤ). pick (eqb x 0) None (Some (elem p y))) (res-elem p above b) (whole_of a b)
   infix-elements Modulo a b =
-      ap (λ (x : ℕ). pick (eqb x 0) Nothing
-      (Value (difference p (elem p (elem p a)) (product p (elem p (elem p b)) (whole_quotient (elem p (elem p a)) (elem p (elem p b)))))))
+      ap (λ (x : ℕ). pick (eqb x 0) None
+      (Some (difference p (elem p (elem p a)) (product p (elem p (elem p b)) (whole_quotient (elem p (elem p a)) (elem p (elem p b)))))))
       (res-elem p above b)
-      ∙ ap₂ (λ (x y : ℤ). pick (eqb (res p b) 0) Nothing (Value (difference p x (product p y (whole_quotient x y)))))
+      ∙ ap₂ (λ (x y : ℤ). pick (eqb (res p b) 0) None (Some (difference p x (product p y (whole_quotient x y)))))
       (elem-elem p above a) (elem-elem p above b)

@@ -7,11 +7,10 @@ use native.Mathlib.Omega.{arith}
 use lib.Dec.{eqb}
 use borrow.Author.Tests.{eq-eqb, ne_eqb}
 use lib.IntN.{ℤ, pos, negsuc}
-use Rattle.field.specs.declared.Answer.{Answer}
-use Rattle.field.specs.declared.Answer.TheVariants.{Value, Nothing}
+use Rattle.std.specs.Prelude.{Some, None}
 use Rattle.field.specs.Prime.{Prime}
 use Rattle.field.specs.Element.{res, centre, inv}
-use Rattle.field.specs.Operations.{pick, sum, difference, product, opposite, inverse, quotient, power, raised}
+use Rattle.field.specs.Operations.{pick, sum, difference, product, opposite, inverse, quotient, power, raised, Answer}
 use Rattle.field.proofs.Modular.{inv-lt}
 use Rattle.field.proofs.Elements.{res-lt, res-centre, elem-add, elem-sub, elem-mul, elem-opp}
 
@@ -41,11 +40,11 @@ pub pick-else : (r : ℕ) (x y : Answer) → (r ≡ 0 → ⊥) → pick (eqb r 0
 pick-else r x y h = ap (λ (t : Bool). pick t x y) (ne_eqb r 0 h)
 
 -- a power by the sign of its exponent
-pub power-above : (p : ℕ) (a n : ℤ) (m : ℕ) → n ≡ pos m → raised p a n ≡ Value (power p a m)
+pub power-above : (p : ℕ) (a n : ℤ) (m : ℕ) → n ≡ pos m → raised p a n ≡ Some (power p a m)
 unfolding raised
 power-above p a n m e = ap (raised p a) e
 
-pub power_below : (p : ℕ) (a n : ℤ) (m : ℕ) → n ≡ negsuc m → raised p a n ≡ pick (eqb (res p a) 0) Nothing (Value (inverse p (power p a (suc m))))
+pub power_below : (p : ℕ) (a n : ℤ) (m : ℕ) → n ≡ negsuc m → raised p a n ≡ pick (eqb (res p a) 0) None (Some (inverse p (power p a (suc m))))
 unfolding raised
 power_below p a n m e = ap (raised p a) e
 

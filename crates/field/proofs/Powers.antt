@@ -8,7 +8,7 @@ use native.Mathlib.Decide.{ℕ_discrete}
 use lib.Pow.{pow-add}
 use lib.Dec.{eqb}
 use lib.IntN.{ℤ, pos, negsuc}
-use Rattle.field.specs.declared.Answer.TheVariants.{Value, Nothing}
+use Rattle.std.specs.Prelude.{Some, None}
 use Rattle.field.specs.declared.InfixOp.TheVariants.{Divide, Multiply, Exponentiate}
 use Rattle.field.specs.Prime.{Prime}
 use Rattle.field.specs.Element.{res, centre, elem}
@@ -51,13 +51,13 @@ module _ (p : ℕ) (prime : Prime p) where
   power_zero a = ap (λ (k : ℕ). centre p (k % p)) (pow-zero (res p a)) ∙ elem-one p above prime.above
 
   -- as `*` answers
-  pub multiply-powers : (a : ℤ) (m n : ℕ) → infix_of p Multiply (power p a m) (power p a n) ≡ Value (power p a (m + n))
-  multiply-powers a m n = multiply-answer p _ _ ∙ ap Value (power-sum a m n)
+  pub multiply-powers : (a : ℤ) (m n : ℕ) → infix_of p Multiply (power p a m) (power p a n) ≡ Some (power p a (m + n))
+  multiply-powers a m n = multiply-answer p _ _ ∙ ap Some (power-sum a m n)
 
-  pub multiply-base : (a : ℤ) (n : ℕ) → infix_of p Multiply (power p a n) a ≡ Value (power p a (n + 1))
+  pub multiply-base : (a : ℤ) (n : ℕ) → infix_of p Multiply (power p a n) a ≡ Some (power p a (n + 1))
   multiply-base a n =
       multiply-answer p _ _
-      ∙ ap Value
+      ∙ ap Some
       (product-commutes p prime (power p a n) a
       ∙ sym (product-left p prime a (power p a n))
       ∙ product-commutes p prime (elem p a) (power p a n)
@@ -82,7 +82,7 @@ module _ (p : ℕ) (prime : Prime p) where
 
   module _ (a b : ℤ) (n : ℕ) where
     -- `^` with an exponent from 0 on
-    pub power-natural : elem p b ≡ pos n → infix_of p Exponentiate a b ≡ Value (power p a n)
+    pub power-natural : elem p b ≡ pos n → infix_of p Exponentiate a b ≡ Some (power p a n)
     unfolding infix_of exponentiate_of
     power-natural e = power-above p a (elem p b) n e
 
@@ -93,9 +93,9 @@ module _ (p : ℕ) (prime : Prime p) where
       where
         go :
             Dec (res p a ≡ 0) →
-            pick (eqb (res p a) 0) Nothing (Value (inverse p (power p a (suc n)))) ≡ divide_of p (pos 1) (power p a (suc n))
+            pick (eqb (res p a) 0) None (Some (inverse p (power p a (suc n)))) ≡ divide_of p (pos 1) (power p a (suc n))
         go (yes z) = pick-zero (res p a) _ _ z ∙ sym (pick-zero (res p (power p a (suc n))) _ _ (zero-power a n z))
         go (no z) =
             pick-else (res p a) _ _ z
-            ∙ ap Value (sym (one-over (power p a (suc n))))
+            ∙ ap Some (sym (one-over (power p a (suc n))))
             ∙ sym (pick-else (res p (power p a (suc n))) _ _ (power-counts a (suc n) z))

@@ -8,7 +8,7 @@ use native.Mathlib.Omega.{arith}
 use native.Mathlib.Decide.{dec_lt}
 use lib.IntN.{ℤ, pos, negsuc, neg_ℤ, nat_abs, sub_ℕ, ◌+ℤ◌, ◌-ℤ◌, ◌*ℤ◌, *ℤ_comm, *ℤ-zero, *ℤ-negsuc, neg_ℤ-neg_ℤ, neg_ℤ-+ℤ}
 use borrow.Author.Tests.{lt-ltb, le-ltb}
-use Rattle.field.specs.declared.Answer.TheVariants.{Value}
+use Rattle.std.specs.Prelude.{Some}
 use Rattle.field.specs.declared.InfixOp.TheVariants.{IntDivide, Modulo}
 use Rattle.field.specs.Element.{res, elem}
 use Rattle.field.specs.Operations.{nearest, signed_by, whole_quotient, difference, product, int_divide_of, modulo_of, infix_of}
@@ -236,10 +236,10 @@ module _ (p : ℕ) (h : 0 < p) (odd : p % 2 ≡ 1) (a b : ℤ) (k : elem p b ≡
   counted : res p b ≡ 0 → ⊥
   counted e = k (elem-zero p h b e)
 
-  pub int-divide-answer : infix_of p IntDivide a b ≡ Value (whole_quotient (elem p a) (elem p b))
+  pub int-divide-answer : infix_of p IntDivide a b ≡ Some (whole_quotient (elem p a) (elem p b))
   unfolding infix_of int_divide_of
-  int-divide-answer = pick-else (res p b) _ _ counted ∙ ap Value whole-element
+  int-divide-answer = pick-else (res p b) _ _ counted ∙ ap Some whole-element
 
-  pub modulo-answer : infix_of p Modulo a b ≡ Value (elem p a -ℤ elem p b *ℤ whole_quotient (elem p a) (elem p b))
+  pub modulo-answer : infix_of p Modulo a b ≡ Some (elem p a -ℤ elem p b *ℤ whole_quotient (elem p a) (elem p b))
   unfolding infix_of modulo_of
-  modulo-answer = pick-else (res p b) _ _ counted ∙ ap Value rest-element
+  modulo-answer = pick-else (res p b) _ _ counted ∙ ap Some rest-element

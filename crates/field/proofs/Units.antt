@@ -7,12 +7,11 @@ use native.Mathlib.Omega.{arith}
 use native.Mathlib.Decide.{ℕ_discrete}
 use lib.Dec.{eqb}
 use lib.IntN.{ℤ, pos, negsuc, neg_ℤ, +ℤ_idr, +ℤ_invr}
-use Rattle.field.specs.declared.Answer.{Answer}
-use Rattle.field.specs.declared.Answer.TheVariants.{Value}
+use Rattle.std.specs.Prelude.{Some}
 use Rattle.field.specs.declared.InfixOp.TheVariants.{Divide, DivideZ, Multiply, Add, Subtract, IntDivide, Modulo}
 use Rattle.field.specs.Prime.{Prime, P}
 use Rattle.field.specs.Element.{res, centre, elem}
-use Rattle.field.specs.Operations.{pick, difference, product, quotient, nearest, signed_by, whole_quotient}
+use Rattle.field.specs.Operations.{pick, difference, product, quotient, nearest, signed_by, whole_quotient, Answer}
 use Rattle.field.specs.Operations.{divide_of, divide_z_of, int_divide_of, modulo_of, infix_of}
 use Rattle.field.proofs.Elements.{res-zero, elem-zero, elem-one, elem-elem}
 use Rattle.field.proofs.ByResidues.{pick-zero, pick-else}
@@ -67,66 +66,66 @@ module _ (p : ℕ) (prime : Prime p) where
   over-by-one x = sym (quotient-only p prime (pos 1) one-counts x x (product-one p prime x))
 
   -- 1 * e, e * 1, 0 * e, e * 0
-  pub one-multiply : (x : ℤ) → infix_of p Multiply (pos 1) x ≡ Value (elem p x)
+  pub one-multiply : (x : ℤ) → infix_of p Multiply (pos 1) x ≡ Some (elem p x)
   unfolding infix_of
-  one-multiply x = ap Value (product-commutes p prime (pos 1) x ∙ product-one p prime x)
+  one-multiply x = ap Some (product-commutes p prime (pos 1) x ∙ product-one p prime x)
 
-  pub multiply-one : (x : ℤ) → infix_of p Multiply x (pos 1) ≡ Value (elem p x)
+  pub multiply-one : (x : ℤ) → infix_of p Multiply x (pos 1) ≡ Some (elem p x)
   unfolding infix_of
-  multiply-one x = ap Value (product-one p prime x)
+  multiply-one x = ap Some (product-one p prime x)
 
-  pub zero-multiply : (x : ℤ) → infix_of p Multiply (pos 0) x ≡ Value (pos 0)
+  pub zero-multiply : (x : ℤ) → infix_of p Multiply (pos 0) x ≡ Some (pos 0)
   unfolding infix_of
-  zero-multiply x = ap Value (zero-times x)
+  zero-multiply x = ap Some (zero-times x)
 
-  pub multiply-zero : (x : ℤ) → infix_of p Multiply x (pos 0) ≡ Value (pos 0)
+  pub multiply-zero : (x : ℤ) → infix_of p Multiply x (pos 0) ≡ Some (pos 0)
   unfolding infix_of
-  multiply-zero x = ap Value (product-commutes p prime x (pos 0) ∙ zero-times x)
+  multiply-zero x = ap Some (product-commutes p prime x (pos 0) ∙ zero-times x)
 
   -- e / 1, e | 1, 0 | e, e \ 1, e % 1
-  pub divide-one : (x : ℤ) → infix_of p Divide x (pos 1) ≡ Value (elem p x)
+  pub divide-one : (x : ℤ) → infix_of p Divide x (pos 1) ≡ Some (elem p x)
   unfolding infix_of divide_of
-  divide-one x = by_one _ _ ∙ ap Value (over-by-one x)
+  divide-one x = by_one _ _ ∙ ap Some (over-by-one x)
 
-  pub divide-z-one : (x : ℤ) → infix_of p DivideZ x (pos 1) ≡ Value (elem p x)
+  pub divide-z-one : (x : ℤ) → infix_of p DivideZ x (pos 1) ≡ Some (elem p x)
   unfolding infix_of divide_z_of
-  divide-z-one x = by_one _ _ ∙ ap Value (over-by-one x)
+  divide-z-one x = by_one _ _ ∙ ap Some (over-by-one x)
 
-  pub zero-divide-z : (y : ℤ) → infix_of p DivideZ (pos 0) y ≡ Value (pos 0)
+  pub zero-divide-z : (y : ℤ) → infix_of p DivideZ (pos 0) y ≡ Some (pos 0)
   unfolding infix_of divide_z_of
   zero-divide-z y = go (ℕ_discrete (res p y) 0)
     where
-      go : Dec (res p y ≡ 0) → divide_z_of p (pos 0) y ≡ Value (pos 0)
+      go : Dec (res p y ≡ 0) → divide_z_of p (pos 0) y ≡ Some (pos 0)
       go (yes k) = pick-zero (res p y) _ _ k
-      go (no k) = pick-else (res p y) _ _ k ∙ ap Value (zero-over y k)
+      go (no k) = pick-else (res p y) _ _ k ∙ ap Some (zero-over y k)
 
-  pub int-divide-one : (x : ℤ) → infix_of p IntDivide x (pos 1) ≡ Value (elem p x)
+  pub int-divide-one : (x : ℤ) → infix_of p IntDivide x (pos 1) ≡ Some (elem p x)
   unfolding infix_of int_divide_of
   int-divide-one x =
       by_one _ _
-      ∙ ap (λ (y : ℤ). Value (elem p (whole_quotient (elem p x) y))) (elem-one p above prime.above)
-      ∙ ap (λ (y : ℤ). Value (elem p y)) (whole-one (elem p x))
-      ∙ ap Value (elem-elem p above x)
+      ∙ ap (λ (y : ℤ). Some (elem p (whole_quotient (elem p x) y))) (elem-one p above prime.above)
+      ∙ ap (λ (y : ℤ). Some (elem p y)) (whole-one (elem p x))
+      ∙ ap Some (elem-elem p above x)
 
-  pub modulo-one : (x : ℤ) → infix_of p Modulo x (pos 1) ≡ Value (pos 0)
+  pub modulo-one : (x : ℤ) → infix_of p Modulo x (pos 1) ≡ Some (pos 0)
   unfolding infix_of modulo_of
   modulo-one x =
       by_one _ _
-      ∙ ap Value
+      ∙ ap Some
       (ap (λ (y : ℤ). difference p (elem p x) (product p y (whole_quotient (elem p x) y))) (elem-one p above prime.above)
       ∙ ap (λ (y : ℤ). difference p (elem p x) (product p (pos 1) y)) (whole-one (elem p x))
       ∙ ap (difference p (elem p x)) (product-commutes p prime (pos 1) (elem p x) ∙ product-one p prime (elem p x) ∙ elem-elem p above x)
       ∙ less-self (elem p x))
 
   -- 0 + e, e + 0, e - 0
-  pub zero-add : (x : ℤ) → infix_of p Add (pos 0) x ≡ Value (elem p x)
+  pub zero-add : (x : ℤ) → infix_of p Add (pos 0) x ≡ Some (elem p x)
   unfolding infix_of
-  zero-add x = ap Value (sum-commutes p prime (pos 0) x ∙ sum-zero p prime x)
+  zero-add x = ap Some (sum-commutes p prime (pos 0) x ∙ sum-zero p prime x)
 
-  pub add-zero : (x : ℤ) → infix_of p Add x (pos 0) ≡ Value (elem p x)
+  pub add-zero : (x : ℤ) → infix_of p Add x (pos 0) ≡ Some (elem p x)
   unfolding infix_of
-  add-zero x = ap Value (sum-zero p prime x)
+  add-zero x = ap Some (sum-zero p prime x)
 
-  pub subtract-zero : (x : ℤ) → infix_of p Subtract x (pos 0) ≡ Value (elem p x)
+  pub subtract-zero : (x : ℤ) → infix_of p Subtract x (pos 0) ≡ Some (elem p x)
   unfolding infix_of difference
-  subtract-zero x = ap (λ (y : ℤ). Value (elem p y)) (+ℤ_idr x)
+  subtract-zero x = ap (λ (y : ℤ). Some (elem p y)) (+ℤ_idr x)

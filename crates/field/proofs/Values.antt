@@ -8,35 +8,34 @@ use native.Mathlib.Omega.{arith}
 use native.Mathlib.Decide.{ℕ_discrete}
 use lib.Dec.{eqb}
 use lib.IntN.{ℤ, pos, negsuc}
-use Rattle.field.specs.declared.Answer.{Answer}
-use Rattle.field.specs.declared.Answer.TheVariants.{Value, Nothing}
+use Rattle.std.specs.Prelude.{Some, None}
 use Rattle.field.specs.declared.InfixOp.TheVariants.{Divide, DivideZ, Multiply, Add, Subtract, Equal, Exponentiate, IntDivide, Modulo}
 use Rattle.field.specs.Prime.{Prime}
 use Rattle.field.specs.Element.{res, elem}
-use Rattle.field.specs.Operations.{pick, sum, difference, product, raised, divide_of, divide_z_of, int_divide_of, modulo_of, exponentiate_of, infix_of}
+use Rattle.field.specs.Operations.{pick, sum, difference, product, raised, divide_of, divide_z_of, int_divide_of, modulo_of, exponentiate_of, infix_of, Answer}
 use Rattle.field.proofs.Elements.{elem-zero, zero-elem, res-zero}
 use Rattle.field.proofs.ByResidues.{pick-zero, pick-else}
 use Rattle.field.proofs.Answers.{value-path, nothing-value}
 
 -- an answer that is a value
 abbrev pub HasValue : Answer → Type 0
-HasValue r = (z : ℤ) × (r ≡ Value z)
+HasValue r = (z : ℤ) × (r ≡ Some z)
 
 -- products, sums and differences have one always, `=` never
 module _ (p : ℕ) (a b : ℤ) where
-  pub multiply-answer : infix_of p Multiply a b ≡ Value (product p a b)
+  pub multiply-answer : infix_of p Multiply a b ≡ Some (product p a b)
   unfolding infix_of
   multiply-answer = refl
 
-  pub add-answer : infix_of p Add a b ≡ Value (sum p a b)
+  pub add-answer : infix_of p Add a b ≡ Some (sum p a b)
   unfolding infix_of
   add-answer = refl
 
-  pub subtract-answer : infix_of p Subtract a b ≡ Value (difference p a b)
+  pub subtract-answer : infix_of p Subtract a b ≡ Some (difference p a b)
   unfolding infix_of
   subtract-answer = refl
 
-  pub equal-answer : infix_of p Equal a b ≡ Nothing
+  pub equal-answer : infix_of p Equal a b ≡ None
   unfolding infix_of
   equal-answer = refl
 
@@ -45,14 +44,14 @@ module _ (p : ℕ) (prime : Prime p) where
   above = omega (arith, prime.above)
 
   -- a value that is 0, and one that is not
-  pub zero-value : (b : ℤ) → Value b ≡ Value (pos 0) → elem p b ≡ pos 0
+  pub zero-value : (b : ℤ) → Some b ≡ Some (pos 0) → elem p b ≡ pos 0
   zero-value b e = ap (elem p) (value-path b (pos 0) e) ∙ elem-zero p above (pos 0) (res-zero p above)
 
-  pub not-zero-value : (b : ℤ) → elem p b ≡ b → (Value b ≡ Value (pos 0) → ⊥) → elem p b ≡ pos 0 → ⊥
-  not-zero-value b c h e = h (ap Value (sym c ∙ e))
+  pub not-zero-value : (b : ℤ) → elem p b ≡ b → (Some b ≡ Some (pos 0) → ⊥) → elem p b ≡ pos 0 → ⊥
+  not-zero-value b c h e = h (ap Some (sym c ∙ e))
 
   -- an answer that is none at 0
-  none_at_zero : (b w : ℤ) → HasValue (pick (eqb (res p b) 0) Nothing (Value w)) ↔ (elem p b ≡ pos 0 → ⊥)
+  none_at_zero : (b w : ℤ) → HasValue (pick (eqb (res p b) 0) None (Some w)) ↔ (elem p b ≡ pos 0 → ⊥)
   none_at_zero b w = (
     (λ v e. nothing-value v.0 (sym (pick-zero (res p b) _ _ (zero-elem p above b e)) ∙ v.1)),
     (λ h. (w, pick-else (res p b) _ _ (λ r. h (elem-zero p above b r)))),

@@ -1,11 +1,9 @@
 -- The proved cases of document 01 that belong to the field, as document 02 changes them: one table, and one fact about it.
-use Rattle.std.specs.Prelude.{◌≡◌, refl, List, [], ◌∷◌, pos, negsuc}
-use Rattle.field.specs.declared.Answer.{Answer}
-use Rattle.field.specs.declared.Answer.TheVariants.{Value, Nothing}
+use Rattle.std.specs.Prelude.{◌≡◌, refl, List, [], ◌∷◌, pos, negsuc, Some, None}
 use Rattle.field.specs.declared.InfixOp.TheVariants.{Divide, DivideZ, Exponentiate, IntDivide, Modulo}
 use Rattle.field.specs.Prime.{P}
 use Rattle.field.specs.Element.{res, centre, elem, inv, inv_from}
-use Rattle.field.specs.Operations.{difference, product, inverse, quotient, power, nearest, signed_by, whole_quotient}
+use Rattle.field.specs.Operations.{difference, product, inverse, quotient, power, nearest, signed_by, whole_quotient, Answer}
 use Rattle.field.specs.Operations.{divide_of, divide_z_of, int_divide_of, modulo_of, raised, exponentiate_of, infix_of}
 
 -- a case: what is worked out, and its answer
@@ -21,26 +19,26 @@ infix 70 ◌gives◌
 -- then the operations without value beside them
 abbrev pub cases : List Case
 cases =
-    Value (elem P (pos 1073741824)) gives Value (negsuc 1073741822)
-    ∷ Value (elem P (negsuc 1073741823)) gives Value (pos 1073741823)
-    ∷ infix_of P Divide (pos 1) (pos 2) gives Value (negsuc 1073741822)
-    ∷ infix_of P IntDivide (pos 7) (pos 2) gives Value (pos 4)
-    ∷ infix_of P IntDivide (negsuc 6) (pos 2) gives Value (negsuc 3)
-    ∷ infix_of P Modulo (negsuc 6) (pos 2) gives Value (pos 1)
-    ∷ infix_of P IntDivide (pos 7) (negsuc 1) gives Value (negsuc 3)
-    ∷ infix_of P DivideZ (pos 5) (pos 0) gives Value (pos 0)
-    ∷ infix_of P Exponentiate (pos 0) (pos 0) gives Value (pos 1)
-    ∷ infix_of P IntDivide (pos 5) (pos 3) gives Value (pos 2)
-    ∷ infix_of P IntDivide (pos 4) (pos 3) gives Value (pos 1)
-    ∷ infix_of P Modulo (pos 7) (pos 2) gives Value (negsuc 0)
-    ∷ infix_of P IntDivide (pos 5) (pos 2) gives Value (pos 3)
-    ∷ infix_of P IntDivide (negsuc 6) (negsuc 1) gives Value (pos 4)
-    ∷ infix_of P Modulo (negsuc 6) (negsuc 1) gives Value (pos 1)
-    ∷ infix_of P Modulo (pos 6) (pos 4) gives Value (negsuc 1)
-    ∷ infix_of P Divide (pos 1) (pos 0) gives Nothing
-    ∷ infix_of P IntDivide (pos 7) (pos 0) gives Nothing
-    ∷ infix_of P Modulo (pos 7) (pos 0) gives Nothing
-    ∷ infix_of P Exponentiate (pos 0) (negsuc 0) gives Nothing
+    Some (elem P (pos 1073741824)) gives Some (negsuc 1073741822)
+    ∷ Some (elem P (negsuc 1073741823)) gives Some (pos 1073741823)
+    ∷ infix_of P Divide (pos 1) (pos 2) gives Some (negsuc 1073741822)
+    ∷ infix_of P IntDivide (pos 7) (pos 2) gives Some (pos 4)
+    ∷ infix_of P IntDivide (negsuc 6) (pos 2) gives Some (negsuc 3)
+    ∷ infix_of P Modulo (negsuc 6) (pos 2) gives Some (pos 1)
+    ∷ infix_of P IntDivide (pos 7) (negsuc 1) gives Some (negsuc 3)
+    ∷ infix_of P DivideZ (pos 5) (pos 0) gives Some (pos 0)
+    ∷ infix_of P Exponentiate (pos 0) (pos 0) gives Some (pos 1)
+    ∷ infix_of P IntDivide (pos 5) (pos 3) gives Some (pos 2)
+    ∷ infix_of P IntDivide (pos 4) (pos 3) gives Some (pos 1)
+    ∷ infix_of P Modulo (pos 7) (pos 2) gives Some (negsuc 0)
+    ∷ infix_of P IntDivide (pos 5) (pos 2) gives Some (pos 3)
+    ∷ infix_of P IntDivide (negsuc 6) (negsuc 1) gives Some (pos 4)
+    ∷ infix_of P Modulo (negsuc 6) (negsuc 1) gives Some (pos 1)
+    ∷ infix_of P Modulo (pos 6) (pos 4) gives Some (negsuc 1)
+    ∷ infix_of P Divide (pos 1) (pos 0) gives None
+    ∷ infix_of P IntDivide (pos 7) (pos 0) gives None
+    ∷ infix_of P Modulo (pos 7) (pos 0) gives None
+    ∷ infix_of P Exponentiate (pos 0) (negsuc 0) gives None
     ∷ []
 
 abbrev pub worked-out : List Case → List Answer

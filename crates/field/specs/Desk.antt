@@ -1,26 +1,24 @@
 -- "Laws the desk may use" (request viii of document 02), for any prime p. The desk calls `infix`, `negate` and `canonical`: by their contracts (src/lib.rt)
 -- these are `infix_of P`, `opposite P` and `elem P` of every i64, so what it may use is `DeskLaws P`. Proved: `desk-laws`, `desk-laws-P`, proofs/Desk.antt.
 -- `\` and `%` are not included, and no law here speaks of `^` or `=`.
-use Rattle.std.specs.Prelude.{◌≡◌, ℕ, ℤ, pos, ◌+ℤ◌, ◌*ℤ◌}
+use Rattle.std.specs.Prelude.{◌≡◌, ℕ, ℤ, pos, ◌+ℤ◌, ◌*ℤ◌, Some, None}
 use Rattle.std.specs.Int.{w64}
 use Rattle.std.proofs.Common.{SFits}
-use Rattle.field.specs.declared.Answer.{Answer}
-use Rattle.field.specs.declared.Answer.TheVariants.{Value, Nothing}
 use Rattle.field.specs.declared.InfixOp.{InfixOp}
 use Rattle.field.specs.declared.InfixOp.TheVariants.{Divide, DivideZ, Multiply, Add, Subtract}
 use Rattle.field.specs.Element.{elem}
-use Rattle.field.specs.Operations.{opposite, infix_of}
+use Rattle.field.specs.Operations.{opposite, infix_of, Answer}
 
 -- a signed 64-bit number: from -2 ^ 63 to 2 ^ 63 - 1
 abbrev pub I64 : ℤ → Type 0
 I64 z = SFits w64 z
 
 module _ (p : ℕ) where
-  -- an operation on two answers: on their values, and nothing where one has none. Of two numbers, `Value a` and `Value b`, it is `infix_of p op a b`
+  -- an operation on two answers: on their values, and nothing where one has none. Of two numbers, `Some a` and `Some b`, it is `infix_of p op a b`
   abbrev pub chained : InfixOp → Answer → Answer → Answer
-  chained op (Value a) (Value b) = infix_of p op a b
-  chained op (Value a) Nothing = Nothing
-  chained op Nothing y = Nothing
+  chained op (Some a) (Some b) = infix_of p op a b
+  chained op (Some a) None = None
+  chained op None y = None
 
   infixl 60 ◌⊕◌
   infixl 60 ◌⊖◌
@@ -63,22 +61,22 @@ module _ (p : ℕ) where
     pub products-distribute-right : (x y z : Answer) → (x ⊕ y) ⊗ z ≡ (x ⊗ z) ⊕ (y ⊗ z)
     -- "each element has its opposite": an element, whose sum with it is 0, as no other's is
     pub opposite-element : (a : ℤ) → Element (opposite p a)
-    pub opposite-sum : (a : ℤ) → Value a ⊕ Value (opposite p a) ≡ Value (pos 0)
-    pub opposite-only : (a b : ℤ) → Value a ⊕ Value b ≡ Value (pos 0) → elem p b ≡ opposite p a
+    pub opposite-sum : (a : ℤ) → Some a ⊕ Some (opposite p a) ≡ Some (pos 0)
+    pub opposite-only : (a b : ℤ) → Some a ⊕ Some b ≡ Some (pos 0) → elem p b ≡ opposite p a
     -- so a difference is a sum, and regroups as one
-    pub difference-sum : (a b : ℤ) → Value a ⊖ Value b ≡ Value a ⊕ Value (opposite p b)
+    pub difference-sum : (a b : ℤ) → Some a ⊖ Some b ≡ Some a ⊕ Some (opposite p b)
     -- "dividing a product by its non-zero factor gives the other back": the second factor or the first, by `/` and by `|`
-    pub divide-by-second : (a b : ℤ) → NonZero b → (Value a ⊗ Value b) ⊘ Value b ≡ Value (elem p a)
-    pub divide-by-first : (a b : ℤ) → NonZero a → (Value a ⊗ Value b) ⊘ Value a ≡ Value (elem p b)
-    pub divide-z-by-second : (a b : ℤ) → NonZero b → (Value a ⊗ Value b) ⦸ Value b ≡ Value (elem p a)
-    pub divide-z-by-first : (a b : ℤ) → NonZero a → (Value a ⊗ Value b) ⦸ Value a ≡ Value (elem p b)
+    pub divide-by-second : (a b : ℤ) → NonZero b → (Some a ⊗ Some b) ⊘ Some b ≡ Some (elem p a)
+    pub divide-by-first : (a b : ℤ) → NonZero a → (Some a ⊗ Some b) ⊘ Some a ≡ Some (elem p b)
+    pub divide-z-by-second : (a b : ℤ) → NonZero b → (Some a ⊗ Some b) ⦸ Some b ≡ Some (elem p a)
+    pub divide-z-by-first : (a b : ℤ) → NonZero a → (Some a ⊗ Some b) ⦸ Some a ≡ Some (elem p b)
     -- the other is given back as it is where it is an element
-    pub divide-element : (a b : ℤ) → Element a → NonZero b → (Value a ⊗ Value b) ⊘ Value b ≡ Value a
-    pub divide-z-element : (a b : ℤ) → Element a → NonZero b → (Value a ⊗ Value b) ⦸ Value b ≡ Value a
+    pub divide-element : (a b : ℤ) → Element a → NonZero b → (Some a ⊗ Some b) ⊘ Some b ≡ Some a
+    pub divide-z-element : (a b : ℤ) → Element a → NonZero b → (Some a ⊗ Some b) ⦸ Some b ≡ Some a
     -- "non-zero" cannot be left out: divided by 0, a number gives no value by `/`, and 0 by `|`
-    pub divide-by-zero : (a b : ℤ) → elem p b ≡ pos 0 → Value a ⊘ Value b ≡ Nothing
-    pub divide-z-by-zero : (a b : ℤ) → elem p b ≡ pos 0 → Value a ⦸ Value b ≡ Value (pos 0)
+    pub divide-by-zero : (a b : ℤ) → elem p b ≡ pos 0 → Some a ⊘ Some b ≡ None
+    pub divide-z-by-zero : (a b : ℤ) → elem p b ≡ pos 0 → Some a ⦸ Some b ≡ Some (pos 0)
     -- "`canonical` of a sum or product that is itself a signed 64-bit number is the operation on the two `canonical` values".
     -- It is so of all integers; `canonical` takes signed 64-bit numbers, hence the conditions
-    pub canonical-sum : (x y : ℤ) → I64 x → I64 y → I64 (x +ℤ y) → Value (elem p (x +ℤ y)) ≡ Value (elem p x) ⊕ Value (elem p y)
-    pub canonical-product : (x y : ℤ) → I64 x → I64 y → I64 (x *ℤ y) → Value (elem p (x *ℤ y)) ≡ Value (elem p x) ⊗ Value (elem p y)
+    pub canonical-sum : (x y : ℤ) → I64 x → I64 y → I64 (x +ℤ y) → Some (elem p (x +ℤ y)) ≡ Some (elem p x) ⊕ Some (elem p y)
+    pub canonical-product : (x y : ℤ) → I64 x → I64 y → I64 (x *ℤ y) → Some (elem p (x *ℤ y)) ≡ Some (elem p x) ⊗ Some (elem p y)

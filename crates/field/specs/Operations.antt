@@ -1,11 +1,13 @@
 -- The operations, for any p: what the contracts cite. An operand is any integer and stands for its element.
 -- The laws are in proofs/Laws.antt (for any prime). What pins the rounded quotient is stated in specs/Rounded.antt and proved in proofs/Rounding.antt.
-use Rattle.std.specs.Prelude.{Bool, true, false, ℕ, suc, ◌+◌, ◌*◌, ◌^◌, ◌/◌, ◌%◌, eqb, ℤ, pos, negsuc, neg_ℤ, nat_abs, ◌+ℤ◌, ◌-ℤ◌, ◌*ℤ◌}
-use Rattle.field.specs.declared.Answer.{Answer}
-use Rattle.field.specs.declared.Answer.TheVariants.{Value, Nothing}
+use Rattle.std.specs.Prelude.{Option, Bool, true, false, ℕ, suc, ◌+◌, ◌*◌, ◌^◌, ◌/◌, ◌%◌, eqb, ℤ, pos, negsuc, neg_ℤ, nat_abs, ◌+ℤ◌, ◌-ℤ◌, ◌*ℤ◌, Some, None}
 use Rattle.field.specs.declared.InfixOp.{InfixOp}
 use Rattle.field.specs.declared.InfixOp.TheVariants.{Divide, DivideZ, Multiply, Add, Subtract, Equal, Exponentiate, IntDivide, Modulo}
 use Rattle.field.specs.Element.{res, centre, elem, inv}
+
+-- what an operation answers: an element, or None where it has no value
+abbrev pub Answer : Type 0
+Answer = Option ℤ
 
 abbrev pub pick : Bool → Answer → Answer → Answer
 pick true a b = a
@@ -50,28 +52,28 @@ whole_quotient x y = signed_by x (signed_by y (pos (nearest (nat_abs x) (nat_abs
 
 -- the inverse has no value at 0
 unfoldable pub inverse_of : ℕ → ℤ → Answer
-inverse_of p b = pick (eqb (res p b) 0) Nothing (Value (inverse p b))
+inverse_of p b = pick (eqb (res p b) 0) None (Some (inverse p b))
 
 -- "Divide: multiply by the inverse; no value at divisor 0"
 unfoldable pub divide_of : ℕ → ℤ → ℤ → Answer
-divide_of p a b = pick (eqb (res p b) 0) Nothing (Value (quotient p a b))
+divide_of p a b = pick (eqb (res p b) 0) None (Some (quotient p a b))
 
 -- "DivideZ: the same, but 0 at divisor 0"
 unfoldable pub divide_z_of : ℕ → ℤ → ℤ → Answer
-divide_z_of p a b = pick (eqb (res p b) 0) (Value (pos 0)) (Value (quotient p a b))
+divide_z_of p a b = pick (eqb (res p b) 0) (Some (pos 0)) (Some (quotient p a b))
 
 -- IntDivide: of the elements. "No value at divisor 0"
 unfoldable pub int_divide_of : ℕ → ℤ → ℤ → Answer
-int_divide_of p a b = pick (eqb (res p b) 0) Nothing (Value (elem p (whole_quotient (elem p a) (elem p b))))
+int_divide_of p a b = pick (eqb (res p b) 0) None (Some (elem p (whole_quotient (elem p a) (elem p b))))
 
 -- "Modulo: dividend minus divisor times quotient"
 unfoldable pub modulo_of : ℕ → ℤ → ℤ → Answer
-modulo_of p a b = pick (eqb (res p b) 0) Nothing (Value (difference p (elem p a) (product p (elem p b) (whole_quotient (elem p a) (elem p b)))))
+modulo_of p a b = pick (eqb (res p b) 0) None (Some (difference p (elem p a) (product p (elem p b) (whole_quotient (elem p a) (elem p b)))))
 
 -- a raised to a number: "power 0 gives 1, also for 0; a negative power is the inverse of the positive one, without value for 0"
 unfoldable pub raised : ℕ → ℤ → ℤ → Answer
-raised p a (pos n) = Value (power p a n)
-raised p a (negsuc n) = pick (eqb (res p a) 0) Nothing (Value (inverse p (power p a (suc n))))
+raised p a (pos n) = Some (power p a n)
+raised p a (negsuc n) = pick (eqb (res p a) 0) None (Some (inverse p (power p a (suc n))))
 
 -- Exponentiate: the exponent too is an element
 unfoldable pub exponentiate_of : ℕ → ℤ → ℤ → Answer
@@ -81,10 +83,10 @@ exponentiate_of p a b = raised p a (elem p b)
 unfoldable pub infix_of : ℕ → InfixOp → ℤ → ℤ → Answer
 infix_of p Divide a b = divide_of p a b
 infix_of p DivideZ a b = divide_z_of p a b
-infix_of p Multiply a b = Value (product p a b)
-infix_of p Add a b = Value (sum p a b)
-infix_of p Subtract a b = Value (difference p a b)
-infix_of p Equal a b = Nothing
+infix_of p Multiply a b = Some (product p a b)
+infix_of p Add a b = Some (sum p a b)
+infix_of p Subtract a b = Some (difference p a b)
+infix_of p Equal a b = None
 infix_of p Exponentiate a b = exponentiate_of p a b
 infix_of p IntDivide a b = int_divide_of p a b
 infix_of p Modulo a b = modulo_of p a b

@@ -17,13 +17,6 @@ use inverses::inverse_of;
 use residues::{P, centred, magnitude, power_of, residue};
 use whole::whole_quotient;
 
-// What an operation answers: an element, or nothing where it has no value.
-#[derive(Clone, Copy)]
-pub enum Answer {
-    Value(i64),
-    Nothing,
-}
-
 // The operations on two elements, in the order of their numbers: / | * + - = ^ \ %
 #[derive(Clone, Copy)]
 pub enum InfixOp {
@@ -71,15 +64,15 @@ fn subtract(a: i64, b: i64) -> i64
 }
 
 // The inverse, which 0 has not.
-pub fn inverse(b: i64) -> Answer
+pub fn inverse(b: i64) -> Option<i64>
     ensures { result ≡ inverse_of P b }
 {
     let d = residue(b);
     if d == 0 {
-        return Answer::Nothing;
+        return None;
     }
     let z = centred(inverse_of(d));
-    Answer::Value(z)
+    Some(z)
 }
 
 // a over b, where b counts: the product with its inverse.
@@ -90,82 +83,82 @@ fn over(a: i64, b: i64) -> i64
     centred(residue(a) * inverse_of(residue(b)) % P)
 }
 
-fn divide(a: i64, b: i64) -> Answer
+fn divide(a: i64, b: i64) -> Option<i64>
     ensures { result ≡ divide_of P a b }
 {
     if residue(b) == 0 {
-        return Answer::Nothing;
+        return None;
     }
     let z = over(a, b);
-    Answer::Value(z)
+    Some(z)
 }
 
-fn divide_z(a: i64, b: i64) -> Answer
+fn divide_z(a: i64, b: i64) -> Option<i64>
     ensures { result ≡ divide_z_of P a b }
 {
     if residue(b) == 0 {
-        return Answer::Value(0);
+        return Some(0);
     }
     let z = over(a, b);
-    Answer::Value(z)
+    Some(z)
 }
 
-fn int_divide(a: i64, b: i64) -> Answer
+fn int_divide(a: i64, b: i64) -> Option<i64>
     ensures { result ≡ int_divide_of P a b }
 {
     if residue(b) == 0 {
-        return Answer::Nothing;
+        return None;
     }
     let q = canonical(whole_quotient(canonical(a), canonical(b)));
-    Answer::Value(q)
+    Some(q)
 }
 
-fn modulo(a: i64, b: i64) -> Answer
+fn modulo(a: i64, b: i64) -> Option<i64>
     ensures { result ≡ modulo_of P a b }
 {
     if residue(b) == 0 {
-        return Answer::Nothing;
+        return None;
     }
     let x = canonical(a);
     let y = canonical(b);
     let z = subtract(x, multiply(y, whole_quotient(x, y)));
-    Answer::Value(z)
+    Some(z)
 }
 
 // a raised to the number n.
-fn raise(a: i64, n: i64) -> Answer
+fn raise(a: i64, n: i64) -> Option<i64>
     ensures { result ≡ raised P a n }
 {
     let b = residue(a);
     let m = magnitude(n);
     if n < 0 {
         if b == 0 {
-            return Answer::Nothing;
+            return None;
         }
         let y = centred(inverse_of(power_of(b, m + 1)));
-        return Answer::Value(y);
+        return Some(y);
     }
     let z = centred(power_of(b, m));
-    Answer::Value(z)
+    Some(z)
 }
 
-fn exponentiate(a: i64, b: i64) -> Answer
+fn exponentiate(a: i64, b: i64) -> Option<i64>
     ensures { result ≡ exponentiate_of P a b }
 {
     raise(a, canonical(b))
 }
 
 // What an operation answers on two operands.
-pub fn infix(op: InfixOp, a: i64, b: i64) -> Answer
+pub fn infix(op: InfixOp, a: i64, b: i64) -> Option<i64>
     ensures { result ≡ infix_of P op a b }
 {
     match op {
         InfixOp::Divide => divide(a, b),
         InfixOp::DivideZ => divide_z(a, b),
-        InfixOp::Multiply => Answer::Value(multiply(a, b)),
-        InfixOp::Add => Answer::Value(add(a, b)),
-        InfixOp::Subtract => Answer::Value(subtract(a, b)),
-        InfixOp::Equal => Answer::Nothing,
+        InfixOp::Multiply => Some(multiply(a, b)),
+        InfixOp::Add => Some(add(a, b)),
+        InfixOp::Subtract => Some(subtract(a, b)),
+        InfixOp::Equal => None,
         InfixOp::Exponentiate => exponentiate(a, b),
         InfixOp::IntDivide => int_divide(a, b),
         InfixOp::Modulo => modulo(a, b),

@@ -17,7 +17,7 @@ use Rattle.flat.specs.Record.{nodes_fit, ordered, definition_at, used_once, tree
 use Rattle.flat.specs.Marks.{capped, Marked, Adds, no_marks}
 use Rattle.flat.specs.declared.Layout.{Layout}
 use Rattle.flat.specs.declared.Checked.TheVariants.{Accepted, Refused}
-use Rattle.flat.proofs.Laws.{and_left, and_right, every-same}
+use Rattle.marks.proofs.Indices.{and_left, and_right, every-same}
 use Rattle.flat.proofs.Marks.{marks-once}
 
 none-marked : (n : ℕ) → Marked (replicate n 0) (λ k. 0)

@@ -14,7 +14,8 @@ use Rattle.flat.specs.Marks.{capped, bump, Marked, Adds}
 use Rattle.flat.specs.Layout.{node_at, definition_entry, equation_entry}
 use Rattle.flat.specs.Record.{pick, same, every, total, used_by, node_fits, nodes_fit, by_nodes, by_definitions, by_equations, definitions_fit, equations_fit}
 use Rattle.flat.proofs.Nodes.{fits-4, fits-5, node-is}
-use Rattle.flat.proofs.Laws.{alike, and_left, and_right, every-fails, every_more, every-same, total-more}
+use Rattle.std.proofs.lemmas.Bool.{cases_eq}
+use Rattle.marks.proofs.Indices.{and_left, and_right, every-fails, every_more, every-same, total-more}
 
 pub same-yes : (x k : ℕ) → x ≡ k → same x k ≡ 1
 unfolding same pick
@@ -46,7 +47,7 @@ adds_one m x = record {
       rw (q, e) (get_or-set_same {A = ℕ} m k (bump (get_or m k 0)) 0 l' ∙ ap bump (h k l') ∙ bumped (f k)))
       (λ (n : x ≡ k → ⊥). let q : f k + same x k ≡ f k = omega (arith, same-no x k n) in
       rw q (get_or-set_other {A = ℕ} m x k (bump (get_or m x 0)) 0 (λ e. n (sym e)) ∙ h k l'))
-      (alike x k);
+      (cases_eq x k);
 }
 
 -- none, and one after the other

@@ -20,7 +20,8 @@ use Rattle.flat.specs.Trees.{Flat}
 use Rattle.flat.specs.Rules.{Every}
 use Rattle.flat.specs.Layout.{node_at}
 use Rattle.flat.specs.Record.{pick, node_fits, nodes_fit, operator_of, node_for, node_of, grown, tree}
-use Rattle.flat.proofs.Laws.{split, alike, and_left, and_right, every-at}
+use Rattle.std.proofs.lemmas.Bool.{cases_lt, cases_eq}
+use Rattle.marks.proofs.Indices.{and_left, and_right, every-at}
 
 last : (t a c : Bool) → pick t (a && c) false ≡ true → a ≡ true
 unfolding pick
@@ -50,7 +51,7 @@ module _ (kind x y z : ℕ) where
   pub by_kind : {A : Type 0} → (kind ≡ 4 → A) → (kind ≡ 5 → A) → (kind ≡ 7 → A) → ((kind ≡ 4 → ⊥) → (kind ≡ 5 → ⊥) → (kind ≡ 7 → ⊥) → A) → A
   by_kind f4 f5 f7 f8 =
       ⊎_elim f4
-      (λ (n4 : kind ≡ 4 → ⊥). ⊎_elim f5 (λ (n5 : kind ≡ 5 → ⊥). ⊎_elim f7 (λ (n7 : kind ≡ 7 → ⊥). f8 n4 n5 n7) (alike kind 7)) (alike kind 5)) (alike kind 4)
+      (λ (n4 : kind ≡ 4 → ⊥). ⊎_elim f5 (λ (n5 : kind ≡ 5 → ⊥). ⊎_elim f7 (λ (n7 : kind ≡ 7 → ⊥). f8 n4 n5 n7) (cases_eq kind 7)) (cases_eq kind 5)) (cases_eq kind 4)
 
   -- the kind by its node
   is-4 : {o : InfixOp} {a b : ℕ} → node_for kind x y z ≡ Infix o a b → (kind ≡ 4) × (a ≡ x) × (b ≡ y)
@@ -161,7 +162,7 @@ pub settled : (b : List ℕ) (at n k : ℕ) → k < n → tree b at n k ≡ tree
 settled b at zero k l = absurd (omega arith)
 settled b at (suc n) k l =
     ⊎_elim (λ (g : k < n). tree-else b at n k (λ e. omega arith) ∙ settled b at n k g)
-    (λ (g : n ≤ k). let e : suc n ≡ k + 1 = omega arith in ap (λ (m : ℕ). tree b at m k) e) (split k n)
+    (λ (g : n ≤ k). let e : suc n ≡ k + 1 = omega arith in ap (λ (m : ℕ). tree b at m k) e) (cases_lt k n)
 
 -- the tree of a node, by those of its children
 module _ (b : List ℕ) (at k : ℕ) where
@@ -212,4 +213,4 @@ module _ (b : List ℕ) (at n limit : ℕ) (h : nodes_fit b at n limit ≡ true)
   tree-below (suc m) l k g = ⊎_elim
       (λ (e : k ≡ m). rw (tree-last b at m k e) (grown-below m (omega arith) (tree-below m (omega arith)) (node_of b at m) refl))
       (λ (f : k ≡ m → ⊥). rw (tree-else b at m k f) (tree-below m (omega arith) k (omega arith)))
-      (alike k m)
+      (cases_eq k m)

@@ -15,7 +15,8 @@ use Rattle.flat.specs.Marks.{Later, no_later}
 use Rattle.flat.specs.declared.Node.TheVariants.{Infix, Negate, Constant, Variable}
 use Rattle.flat.specs.Layout.{definition_entry}
 use Rattle.flat.specs.Record.{rows, node_of, tree, ordered, definition_at, definitions_fit}
-use Rattle.flat.proofs.Laws.{alike, and_left, and_right, every-at}
+use Rattle.std.proofs.lemmas.Bool.{cases_eq}
+use Rattle.marks.proofs.Indices.{and_left, and_right, every-at}
 use Rattle.flat.proofs.Nodes.{settled, tree-infix, tree-negate, tree-constant, tree-variable}
 use Rattle.field.specs.declared.InfixOp.{InfixOp}
 use lib.IntN.{ℤ}
@@ -34,7 +35,7 @@ later-set m ds d h l v =
     ⊎_elim
     (λ (e : v ≡ d.id). rw (eq-eqb v d.id e, e, get_or-set_same {A = ℕ} m d.id 1 0 l))
     (λ (n : v ≡ d.id → ⊥). rw (ne_eqb v d.id n, get_or-set_other {A = ℕ} m d.id v 1 0 n) (h v))
-    (alike v d.id)
+    (cases_eq v d.id)
 
 -- the definitions from k - 1 on are the one there and those from k on
 rows_step : {A : Type 0} (n k : ℕ) (f : ℕ → A) → 0 < k → k ≤ n → rows (n - (k - 1)) (k - 1) f ≡ f (k - 1) ∷ rows (n - k) k f

@@ -16,7 +16,7 @@ use Rattle.flat.specs.Record.{pick, measured, module_of, all_below, rising, defi
 use Rattle.flat.specs.Record.{trees_hold, ordered, definition_at, equation_at, tree, rows, rules, Read, flat_of, checked}
 use Rattle.flat.specs.Readable.{Readable}
 use Rattle.flat.specs.declared.Checked.TheVariants.{Accepted, Refused}
-use Rattle.flat.proofs.Laws.{and_left, and_right, every-at, every-from}
+use Rattle.marks.proofs.Indices.{and_left, and_right, every-at, every-from}
 use Rattle.flat.proofs.Nodes.{settled}
 use Rattle.flat.proofs.Answers.{measured-has, hold-definitions, hold-equations, hold-nodes}
 

@@ -16,7 +16,8 @@ use Rattle.flat.specs.Layout.{definitions_offset, equations_offset, nodes_offset
 use Rattle.flat.specs.Record.{pick, total, rows, all_below, rising, definitions_fit, equations_fit, same, used_by, node_of, nodes_fit, tree, by_nodes}
 use Rattle.flat.specs.Record.{by_definitions, by_equations, used_once, trees_hold, ordered, definition_at, equation_at, module_of, rules, Read, flat_of}
 use Rattle.flat.specs.Readable.{Readable}
-use Rattle.flat.proofs.Laws.{alike, every-at, and_left, and_right}
+use Rattle.std.proofs.lemmas.Bool.{cases_eq}
+use Rattle.marks.proofs.Indices.{every-at, and_left, and_right}
 use Rattle.flat.proofs.Nodes.{by_kind, for-4, for-5, for-7, for-8, at-infix, at-negate, at_constant, at-variable, settled}
 use Rattle.flat.proofs.Reading.{accepted-rules, accepted-readable, definition-below, equation-below}
 
@@ -82,7 +83,7 @@ once (suc n) x w h =
     ⊎_elim
     (λ (e : x ≡ n). omega (arith, nowhere n x w (omega arith), same_here x n (w n) e, ap w e))
     (λ (f : x ≡ n → ⊥). omega (arith, once n x w (omega arith), same-else x n (w n) f))
-    (alike x n)
+    (cases_eq x n)
 
 -- ---- the nodes of trees
 

@@ -10,7 +10,7 @@ use Rattle.flat.specs.Trees.{Flat, Definition, FlatModule, defines, every_id}
 use Rattle.flat.specs.Layout.{next, publics, provers, definitions, equations, nodes, provers_offset, definitions_offset, equations_offset, nodes_offset}
 use Rattle.flat.specs.Record.{Read, flat_of, measured, rows, all_below, rising, trees_hold, tree, definition_at, equation_at, module_of, ordered, rules}
 use Rattle.flat.specs.Rules.{All, Every, Ordered, Rising, WellFormed}
-use Rattle.flat.proofs.Laws.{and_left, and_right}
+use Rattle.marks.proofs.Indices.{and_left, and_right}
 use Rattle.flat.proofs.Nodes.{tree-below}
 use Rattle.flat.specs.Readable.{Readable}
 use Rattle.flat.proofs.Reading.{public-below, prover-below, prover-rises, definition-below, equation-below}

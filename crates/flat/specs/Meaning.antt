@@ -1,11 +1,9 @@
 -- What a flat list means: assignments of elements to ids, the value of an expression, and when a definition or an equation holds.
-use Rattle.std.specs.Prelude.{◌≡◌, List, [], ◌∷◌, cond, ℕ, eqb, ℤ, pos}
-use Rattle.field.specs.declared.Answer.{Answer}
-use Rattle.field.specs.declared.Answer.TheVariants.{Value, Nothing}
+use Rattle.std.specs.Prelude.{◌≡◌, List, [], ◌∷◌, cond, ℕ, eqb, ℤ, pos, Some, None}
 use Rattle.field.specs.declared.InfixOp.{InfixOp}
 use Rattle.field.specs.Prime.{P}
 use Rattle.field.specs.Element.{elem}
-use Rattle.field.specs.Operations.{opposite, infix_of}
+use Rattle.field.specs.Operations.{opposite, infix_of, Answer}
 use Rattle.flat.specs.Trees.{Flat, Definition, Equation}
 
 -- a map from ids, changed at one of them
@@ -21,40 +19,40 @@ Elements σ = (v : ℕ) → elem P (σ v) ≡ σ v
 
 -- an operation on sides that may have no value
 unfoldable pub on_values : InfixOp → Answer → Answer → Answer
-on_values o (Value a) (Value b) = infix_of P o a b
-on_values o (Value a) Nothing = Nothing
-on_values o Nothing b = Nothing
+on_values o (Some a) (Some b) = infix_of P o a b
+on_values o (Some a) None = None
+on_values o None b = None
 
 unfoldable pub negated : Answer → Answer
-negated (Value a) = Value (opposite P a)
-negated Nothing = Nothing
+negated (Some a) = Some (opposite P a)
+negated None = None
 
 -- "a constant is its element, a variable what the table says; negation and infix are the field's, on their sides' values"
 unfoldable pub value : Assignment → Flat → Answer
 value σ (Flat.infixed o a b) = on_values o (value σ a) (value σ b)
 value σ (Flat.negate a) = negated (value σ a)
-value σ (Flat.constant c) = Value (elem P c)
-value σ (Flat.variable v) = Value (σ v)
+value σ (Flat.constant c) = Some (elem P c)
+value σ (Flat.variable v) = Some (σ v)
 
 -- a definition holds when its right side has a value and its variable is that
 abbrev pub DefinitionHolds : Assignment → Definition → Type 0
-DefinitionHolds σ d = value σ d.right ≡ Value (σ d.id)
+DefinitionHolds σ d = value σ d.right ≡ Some (σ d.id)
 
 -- "an equation holds when its sides' values are equal"
 abbrev pub EquationHolds : Assignment → Equation → Type 0
-EquationHolds σ e = (z : ℤ) × (value σ e.left ≡ Value z) × (value σ e.right ≡ Value z)
+EquationHolds σ e = (z : ℤ) × (value σ e.left ≡ Some z) × (value σ e.right ≡ Some z)
 
 -- "divisors are the right sides of `/`, `\`, `%`"; "`|` at 0 does not" count as a zero divisor
 abbrev pub DivisorNotZero : InfixOp → Answer → Type 0
-DivisorNotZero InfixOp.Divide y = y ≡ Value (pos 0) → ⊥
+DivisorNotZero InfixOp.Divide y = y ≡ Some (pos 0) → ⊥
 DivisorNotZero InfixOp.DivideZ y = Unit {0}
 DivisorNotZero InfixOp.Multiply y = Unit {0}
 DivisorNotZero InfixOp.Add y = Unit {0}
 DivisorNotZero InfixOp.Subtract y = Unit {0}
 DivisorNotZero InfixOp.Equal y = Unit {0}
 DivisorNotZero InfixOp.Exponentiate y = Unit {0}
-DivisorNotZero InfixOp.IntDivide y = y ≡ Value (pos 0) → ⊥
-DivisorNotZero InfixOp.Modulo y = y ≡ Value (pos 0) → ⊥
+DivisorNotZero InfixOp.IntDivide y = y ≡ Some (pos 0) → ⊥
+DivisorNotZero InfixOp.Modulo y = y ≡ Some (pos 0) → ⊥
 
 -- no division of an expression has a zero divisor
 abbrev pub NoZeroDivisor : Assignment → Flat → Type 0
@@ -65,8 +63,8 @@ NoZeroDivisor σ (Flat.variable v) = Unit {0}
 
 -- 0 where there is no value
 unfoldable pub or_zero : Answer → ℤ
-or_zero (Value z) = z
-or_zero Nothing = pos 0
+or_zero (Some z) = z
+or_zero None = pos 0
 
 -- "each definition in order has its value read, then written for its name"
 unfoldable pub worked_out : List Definition → Assignment → Assignment

@@ -7,6 +7,7 @@ use Rattle.std.specs.Int.{w32}
 use Rattle.words.specs.Words.{word_at}
 use Rattle.field.specs.declared.InfixOp.{InfixOp}
 use Rattle.field.specs.declared.InfixOp.TheVariants.{Divide, DivideZ, Multiply, Add, Subtract, Equal, Exponentiate, IntDivide, Modulo}
+unfoldable pub use Rattle.marks.specs.Indices.{every, total, rows, pick, same}
 use Rattle.flat.specs.Trees.{Flat, Definition, Equation, FlatModule, defines, every_id}
 use Rattle.flat.specs.declared.Node.{Node}
 use Rattle.flat.specs.declared.Node.TheVariants.{Infix, Negate, Constant, Variable}
@@ -17,24 +18,6 @@ use Rattle.flat.specs.declared.Checked.TheVariants.{Accepted, Refused}
 use Rattle.records.specs.FlatRecord.{HEADER, IDS, LISTED, NODES, PUBLICS}
 use Rattle.records.specs.Kinds.{CONSTANT, INFIX, NEGATE, VARIABLE}
 use Rattle.records.specs.Operators.{ADD, DIVIDE, DIVIDE-Z, EQUAL, EXPONENTIATE, INT-DIVIDE, MODULO, MULTIPLY, SUBTRACT}
-
--- ---- for all indices below a count: a test, a sum; and the values at n indices from one on
-
-unfoldable pub every : ℕ → (ℕ → Bool) → Bool
-every zero p = true
-every (suc n) p = every n p && p n
-
-unfoldable pub total : ℕ → (ℕ → ℕ) → ℕ
-total zero f = 0
-total (suc n) f = total n f + f n
-
-unfoldable pub rows : {A : Type 0} → ℕ → ℕ → (ℕ → A) → List A
-rows zero at f = []
-rows (suc n) at f = f at ∷ rows n (suc at) f
-
-unfoldable pub pick : {A : Type 0} → Bool → A → A → A
-pick true a b = a
-pick false a b = b
 
 -- ---- 20
 
@@ -133,10 +116,7 @@ node_fits limit k kind x y z =
 unfoldable pub nodes_fit : List ℕ → ℕ → ℕ → ℕ → Bool
 nodes_fit b at n limit = every n (λ k. node_at b at k (node_fits limit k))
 
--- how often node k is used: by one index, by a node's children, by all nodes, by the definitions, by the equations
-unfoldable pub same : ℕ → ℕ → ℕ
-same x k = pick (eqb x k) 1 0
-
+-- how often node k is used: by a node's children, by all nodes, by the definitions, by the equations
 unfoldable pub used_by : ℕ → ℕ → ℕ → ℕ → ℕ → ℕ
 used_by k kind x y z = pick (eqb kind INFIX) (same x k + same y k) (pick (eqb kind NEGATE) (same x k) 0)
 

@@ -6,10 +6,9 @@ ghost use Rattle.flat.specs.Layout.{header_words, definition_words, equation_wor
 ghost use Rattle.records.specs.FlatRecord.{HEADER};
 ghost use Rattle.records.specs.Kinds.{NODE-WORDS};
 
-use super::lists::count;
 use records::NODE_WORDS;
 use records::flat_record::{HEADER, LISTED, NODES, PUBLICS};
-use words::{put_word, word_at};
+use words::{count, put_word, word_at};
 
 // The words of a definition and of an equation.
 pub const DEFINITION_WORDS: usize = 2;

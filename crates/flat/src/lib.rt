@@ -14,7 +14,7 @@ ghost use Rattle.records.specs.Kinds.{NODE-WORDS};
 
 use entries::{DEFINITION_WORDS, EQUATION_WORDS};
 use field::InfixOp;
-use lists::{all_below, count, rises};
+use lists::{all_below, rises};
 use ordering::in_order;
 use records::NODE_WORDS;
 use records::flat_record::{HEADER, ID_COUNT, LISTED, NODES, PUBLICS};
@@ -23,6 +23,7 @@ use records::operators::{
     ADD, DIVIDE, DIVIDE_Z, EQUAL, EXPONENTIATE, INT_DIVIDE, MULTIPLY, SUBTRACT,
 };
 use uses::trees_hold;
+use words::count;
 
 const HEADER_BYTES: usize = 4 * HEADER;
 

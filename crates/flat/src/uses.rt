@@ -7,11 +7,11 @@ ghost use Rattle.records.specs.FlatRecord.{NODES};
 ghost use Rattle.records.specs.Kinds.{INFIX, NEGATE};
 
 use super::entries::{definition_at, equation_at};
-use super::lists::count;
 use records::NODE_WORDS;
 use records::flat_record::NODES;
 use records::kinds::{CONSTANT, INFIX, NEGATE, VARIABLE};
 use records::operators::MODULO;
+use words::count;
 
 const INFIX_KIND: usize = INFIX as usize;
 

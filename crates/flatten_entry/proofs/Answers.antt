@@ -60,7 +60,7 @@ evaluated-small b len f e = go (source_of b) refl e
   where
     go : (r : Read) → source_of b ≡ r → evaluated_read (capacity_of len) r ≡ flat f → module_nodes f ≤ 16384
     go (Read.module-of m) r q = module-small b m (capacity_of len) f r q
-    go (Read.refused n) r q = absurd (flat-refusal f n (sym q))
+    go (Read.refused n) r q = absurd (flat-refusal f _ (sym q))
 
 -- ---- the answer
 

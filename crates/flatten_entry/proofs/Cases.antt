@@ -4,12 +4,11 @@ use mathlib.Core.List.{List, [], ◌∷◌, ◌++◌}
 use Prim.Native.Nat.{ℕ}
 use lib.IntN.{pos, negsuc}
 use Rattle.words.specs.Words.{word_at, bytes_of}
-use Rattle.field.specs.declared.Answer.{Answer}
-use Rattle.field.specs.declared.Answer.TheVariants.{Value}
+use Rattle.std.specs.Prelude.{Some}
 use Rattle.field.specs.declared.InfixOp.TheVariants.{Divide, DivideZ, Multiply, Add, Exponentiate, IntDivide, Modulo}
 use Rattle.field.specs.Prime.{P}
 use Rattle.field.specs.Element.{elem}
-use Rattle.field.specs.Operations.{infix_of}
+use Rattle.field.specs.Operations.{infix_of, Answer}
 use Rattle.source.specs.Trees.{variable_p, binary, constant, variable, Module}
 use Rattle.source.specs.Indices.{every, total, rows, pick}
 use Rattle.source.specs.Layout.{listed, names}
@@ -103,21 +102,21 @@ product-cut = cut product-list
 abbrev pub cases : List Case
 cases =
     list (cut_of case_f) gives list (cut case_f-cut)
-    ∷ element (Value (elem P (pos 1073741824))) gives element (Value (negsuc 1073741822))
-    ∷ element (Value (elem P (negsuc 1073741823))) gives element (Value (pos 1073741823))
-    ∷ element (infix_of P Divide (pos 1) (pos 2)) gives element (Value (negsuc 1073741822))
-    ∷ element (infix_of P IntDivide (pos 7) (pos 2)) gives element (Value (pos 4))
-    ∷ element (infix_of P IntDivide (negsuc 6) (pos 2)) gives element (Value (negsuc 3))
-    ∷ element (infix_of P Modulo (negsuc 6) (pos 2)) gives element (Value (pos 1))
-    ∷ element (infix_of P IntDivide (pos 7) (negsuc 1)) gives element (Value (negsuc 3))
-    ∷ element (infix_of P DivideZ (pos 5) (pos 0)) gives element (Value (pos 0))
-    ∷ element (infix_of P Exponentiate (pos 0) (pos 0)) gives element (Value (pos 1))
+    ∷ element (Some (elem P (pos 1073741824))) gives element (Some (negsuc 1073741822))
+    ∷ element (Some (elem P (negsuc 1073741823))) gives element (Some (pos 1073741823))
+    ∷ element (infix_of P Divide (pos 1) (pos 2)) gives element (Some (negsuc 1073741822))
+    ∷ element (infix_of P IntDivide (pos 7) (pos 2)) gives element (Some (pos 4))
+    ∷ element (infix_of P IntDivide (negsuc 6) (pos 2)) gives element (Some (negsuc 3))
+    ∷ element (infix_of P Modulo (negsuc 6) (pos 2)) gives element (Some (pos 1))
+    ∷ element (infix_of P IntDivide (pos 7) (negsuc 1)) gives element (Some (negsuc 3))
+    ∷ element (infix_of P DivideZ (pos 5) (pos 0)) gives element (Some (pos 0))
+    ∷ element (infix_of P Exponentiate (pos 0) (pos 0)) gives element (Some (pos 1))
     ∷ list (flattened_of 65535 unused) gives list (cut (record { next = 12; publics = []; provers = []; equalities = []; kept = [] }))
     ∷ list (flattened product 1048560) gives list product-cut
-    ∷ element (infix_of P IntDivide (negsuc 6) (negsuc 1)) gives element (Value (pos 4))
-    ∷ element (infix_of P IntDivide (pos 5) (pos 3)) gives element (Value (pos 2))
-    ∷ element (infix_of P IntDivide (pos 4) (pos 3)) gives element (Value (pos 1))
-    ∷ element (infix_of P Modulo (pos 7) (pos 2)) gives element (Value (negsuc 0))
+    ∷ element (infix_of P IntDivide (negsuc 6) (negsuc 1)) gives element (Some (pos 4))
+    ∷ element (infix_of P IntDivide (pos 5) (pos 3)) gives element (Some (pos 2))
+    ∷ element (infix_of P IntDivide (pos 4) (pos 3)) gives element (Some (pos 1))
+    ∷ element (infix_of P Modulo (pos 7) (pos 2)) gives element (Some (negsuc 0))
     ∷ []
 
 abbrev pub worked-out : List Case → List Worked

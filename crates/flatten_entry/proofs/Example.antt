@@ -8,7 +8,7 @@ use native.Mathlib.Omega.{arith}
 use lib.IntN.{ℤ, pos}
 use lib.ListN.{length, take, get_or}
 use borrow.Author.Tests.{le-leb}
-use Rattle.field.specs.declared.Answer.TheVariants.{Value}
+use Rattle.std.specs.Prelude.{Some}
 use Rattle.field.specs.declared.InfixOp.TheVariants.{Divide, Multiply, Add, Equal}
 use Rattle.field.specs.Prime.{P}
 use Rattle.field.specs.Element.{elem}
@@ -84,11 +84,11 @@ is-written out l =
     ap (answer_for (length out)) is_cut ∙ rw (le-leb (length (constraint_bytes product-list)) (length out) (omega (arith, is-long))) (ap Written is-long)
 
 -- the divisors: x
-not-zero : (ρ : ℕ → ℤ) → (Value (ρ 2) ≡ Value (pos 0) → ⊥) → NoDivisorZero module-text ρ
+not-zero : (ρ : ℕ → ℤ) → (Some (ρ 2) ≡ Some (pos 0) → ⊥) → NoDivisorZero module-text ρ
 unfolding value_of write update
 not-zero ρ h = ((((tt, tt, tt), tt, tt), ((tt, tt, h), tt)), ((tt, tt, tt), tt))
 
-pub example : (out : List ℕ) → 112 ≤ length out → (ρ : ℕ → ℤ) → ((x : ℕ) → elem P (ρ x) ≡ ρ x) → (Value (ρ 2) ≡ Value (pos 0) → ⊥)
+pub example : (out : List ℕ) → 112 ≤ length out → (ρ : ℕ → ℤ) → ((x : ℕ) → elem P (ρ x) ≡ ρ x) → (Some (ρ 2) ≡ Some (pos 0) → ⊥)
     → Agrees module-text (constraint_of (take 112 (output_for out (flattened product 1048560)))) ρ
 example out l ρ elements h =
     (flatten-agrees product out 1048560 112 module-text (is-written out l) is_read (plain-has-plain-body module-text is-plain)).1 ρ elements (not-zero ρ h)

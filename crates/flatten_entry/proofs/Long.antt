@@ -12,6 +12,7 @@ use Rattle.words.specs.Words.{word_at}
 use Rattle.source.specs.Indices.{every}
 use Rattle.source.specs.Layout.{BYTES, names, publics, definitions, expressions, nodes, text_offset, counted, listed}
 use Rattle.source.specs.Names.{offset_of, length_of, end_of, name_fits, names_fit}
+use Rattle.records.specs.declared.refusals.Refusal.{Refusal}
 use Rattle.source.specs.Record.{Read, source_of, unless}
 use Rattle.pass_trees.proofs.Lists.{both_true}
 use Rattle.eval_simulation.proofs.Representation.Written.{Way, on, off, way}
@@ -60,7 +61,7 @@ module _ (b : List ℕ) where
 
   -- so a longer byte string fails with the header's numbers, or with 3
   abbrev early : Read
-  early = unless (counted b) 2 (unless (ltb 0 (names b)) 1 (Read.refused 3))
+  early = unless (counted b) Refusal.Count (unless (ltb 0 (names b)) Refusal.Length (Read.refused Refusal.Name))
 
   module _ (long : BYTES < length b) where
     is-listed : counted b ≡ true → listed b ≡ ltb 0 (names b)

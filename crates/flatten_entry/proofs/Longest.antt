@@ -184,4 +184,4 @@ longest-record b len c e = go (source_of b) refl e
 
     go : (r : Read) → source_of b ≡ r → flattened_read (capacity_of len) r ≡ cut c → length (constraint_bytes c) ≤ OUTPUT-BYTES
     go (Read.module-of m) r q = at m (evaluated (capacity_of len) (numbered m)) r refl q
-    go (Read.refused n) r q = absurd (refused-cut n c q)
+    go (Read.refused n) r q = absurd (refused-cut _ c q)

@@ -16,7 +16,8 @@ use Rattle.source.specs.Nodes.{pattern_fits, publics_fit, definitions_fit, expre
 use Rattle.source.specs.Uses.{same, by_nodes, by_definitions, by_expressions}
 use Rattle.source.specs.Record.{Read, module_of, used_once}
 use Rattle.source.specs.Readable.{Readable}
-use Rattle.source_check.specs.declared.Checked.{Checked}
+use Rattle.std.specs.Prelude.{Err}
+use Rattle.records.specs.declared.refusals.Refusal.{Refusal}
 use Rattle.source_check.specs.Answer.{checked}
 use Rattle.numbering.specs.Numbering.{Ids, Names, Numbered, ◌>>=◌, return, found, named, fresh_text, iter_text}
 use Rattle.numbering.specs.Numbering.{fold_text, registered, number_module_variables, names_of, numbered}
@@ -252,10 +253,10 @@ module _ (b : List ℕ) (Q : Readable b) (l : Layout) (e : l ≡ layout_of b) wh
   entire-at = rw e (λ p d x hl hg li lp. entire b Q p d x hl hg li lp)
 
 -- a refused record
-pub refused-is : (r : Read) {n : ℕ} → Checked.Refused n ≡ checked r → r ≡ Read.refused n
+pub refused-is : (t : Read) {r : Refusal} → Err r ≡ checked t → t ≡ Read.refused r
 unfolding checked
 refused-is (Read.module-of m) e = let z : ◌≡◌ {A = ℕ} 0 1 = cc in absurd (omega arith)
-refused-is (Read.refused m) {n} e = let z : n ≡ m = cc in ap Read.refused (sym z)
+refused-is (Read.refused s) {r} e = let z : r ≡ s = cc in ap Read.refused (sym z)
 
 -- the same from equal arrays at the start
 pub numbered-from : {b ids public ids₀ public₀ : List ℕ} {next : ℕ} (ids' public' : List ℕ) → ids ≡ ids₀ → public ≡ public₀

@@ -428,7 +428,7 @@ outcome-exists b = go (source_of b) refl
 
     go : (r : Read) → source_of b ≡ r → HasOutcome b (numbering_for b r)
     go (Read.module-of m) e = accepted m (accepted-module b m e) e
-    go (Read.refused n) e = (e, (refl, refl))
+    go (Read.refused r) e = ((r, e, refl), (refl, refl))
 
 -- and no other
 pub outcome-unique : (b : List ℕ) (x : Numbering) → HasOutcome b x → x ≡ numbering_of b
@@ -445,4 +445,5 @@ outcome-unique b x h = go x.answer x.ids x.publics h
         (ap₂ (λ (s t : List ℕ). (s, t)) (ids-are b Q ids public h.1) (public-is b Q ids public h.1))
         ∙ sym (ap (numbering_for b) h.0)
     go (Answered.Refused n) ids public h =
-        ap₂ (of_parts (Answered.Refused n)) h.1.0 h.1.1 ∙ sym (ap (numbering_for b) h.0)
+        ap₂ (of_parts (Answered.Refused n)) h.1.0 h.1.1
+        ∙ ap (λ (k : ℕ). of_parts (Answered.Refused k) no_entries no_publics) h.0.2 ∙ sym (ap (numbering_for b) h.0.1)

@@ -4,8 +4,11 @@ use Rattle.std.specs.Prelude.{◌≡◌, List, ℕ}
 use Rattle.source.specs.Record.{Read, source_of, module_of}
 use Rattle.numbering.specs.declared.Numbered.{Numbered}
 use Rattle.numbering.specs.Numbers.{NumberedIn}
+use Rattle.records.specs.declared.refusals.Refusal.{Refusal}
+use Rattle.records.specs.Refusals.{refusal_number}
 
 -- the next id, and the ids in the arrays; or the record's refusal, and the arrays as they were
 unfoldable pub Outcome : List ℕ → List ℕ → List ℕ → Numbered → List ℕ → List ℕ → Type 0
 Outcome b ids public (Numbered.Next next) ids' public' = (source_of b ≡ Read.module-of (module_of b)) × NumberedIn b ids public next ids' public'
-Outcome b ids public (Numbered.Refused number) ids' public' = (source_of b ≡ Read.refused number) × ((ids' ≡ ids) × (public' ≡ public))
+Outcome b ids public (Numbered.Refused number) ids' public' =
+    ((r : Refusal) × (source_of b ≡ Read.refused r) × (number ≡ refusal_number r)) × ((ids' ≡ ids) × (public' ≡ public))

@@ -11,6 +11,7 @@ use Rattle.numbering.specs.Numbering.{Numbered, numbered}
 use Rattle.numbering.specs.Numbers.{numbered_module}
 use Rattle.numbering.specs.Statements.{pattern_ids, parameter_ids}
 use Rattle.numbering.specs.Walks.{no_entries, no_publics}
+use Rattle.records.specs.Refusals.{refusal_number}
 use Rattle.records.specs.SourceRecord.{NODES, PUBLICS}
 
 -- all names of an expression, its patterns' first
@@ -74,7 +75,7 @@ public_ids_of b = rows PUBLICS 0 (λ k. get_or (numbered (module_of b)).publics 
 -- the answer with its arrays; of a refused record these are clear
 unfoldable pub numbering_for : List ℕ → Read → Numbering
 numbering_for b (Read.module-of m) = record { answer = Next (numbered m).next; ids = ids_of b; publics = public_ids_of b }
-numbering_for b (Read.refused n) = record { answer = Refused n; ids = no_entries; publics = no_publics }
+numbering_for b (Read.refused r) = record { answer = Refused (refusal_number r); ids = no_entries; publics = no_publics }
 
 unfoldable pub numbering_of : List ℕ → Numbering
 numbering_of b = numbering_for b (source_of b)

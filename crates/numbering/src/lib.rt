@@ -23,7 +23,7 @@ use records::intrinsics::{FIRST_FREE_ID, FOLD_ID, FRESH_ID, ITER_ID};
 use records::source_record::{NAMES, NODES, PUBLICS};
 use registering::{number_publics, register};
 use source::{Layout, layout_of};
-use source_check::{Checked, check_source};
+use source_check::check_source;
 
 // The next free id, or the record's refusal.
 #[derive(Clone, Copy)]
@@ -142,7 +142,7 @@ pub fn number_module_variables(s: &[u8]) -> Numbering
     let mut ids = no_entries();
     let mut publics = no_publics();
     match check_source(s) {
-        Checked::Accepted => {
+        Ok(()) => {
             let next = number_checked(s, &mut ids, &mut publics);
             Numbering {
                 answer: Numbered::Next(next),
@@ -150,8 +150,8 @@ pub fn number_module_variables(s: &[u8]) -> Numbering
                 publics: publics,
             }
         }
-        Checked::Refused(n) => Numbering {
-            answer: Numbered::Refused(n),
+        Err(r) => Numbering {
+            answer: Numbered::Refused(r.number()),
             ids: ids,
             publics: publics,
         },

@@ -11,7 +11,7 @@ use lib.Dec.{eqb}
 use borrow.Author.Tests.{eq-eqb, ne_eqb}
 use Rattle.flat.specs.Meaning.{update}
 use Rattle.flat.specs.Record.{rows}
-use Rattle.flat.proofs.Laws.{alike}
+use Rattle.std.proofs.lemmas.Bool.{cases_eq}
 use Rattle.flat.proofs.Rows.{length-rows, rows_at}
 use Rattle.pass_trees.specs.Passes.{Usage, Never, Witness, Constraint, most, is_witness, override}
 use Rattle.pass_trees.proofs.Lists.{update_same, update_other}
@@ -51,27 +51,27 @@ codes-set {top} {m} v a c l h = record { long = length-set m v a ∙ c.long; sma
     at w = ⊎_elim
         (λ (e : w ≡ v). rw (e, get_or-set_same {A = ℕ} m v a 0 (omega arith)) h)
         (λ (n : w ≡ v → ⊥). rw (get_or-set_other {A = ℕ} m v w a 0 n) (c.small w))
-        (alike w v)
+        (cases_eq w v)
 
 -- ---- stores
 
 -- a map that is written what it has
 pub update-none : {A : Type 0} (f : ℕ → A) (v : ℕ) (a : A) → f v ≡ a → update f v a ≡ f
-update-none f v a e = fun_ext (λ w. ⊎_elim (λ (q : w ≡ v). rw q (update_same f v a ∙ sym e)) (λ (n : w ≡ v → ⊥). update_other f v a w n) (alike w v))
+update-none f v a e = fun_ext (λ w. ⊎_elim (λ (q : w ≡ v). rw q (update_same f v a ∙ sym e)) (λ (n : w ≡ v → ⊥). update_other f v a w n) (cases_eq w v))
 
 pub usage-set : (m : List ℕ) (v a : ℕ) → v < length m → usage_of (set m v a) ≡ update (usage_of m) v (usage_at a)
 unfolding usage_of
 usage-set m v a l = fun_ext (λ w. ⊎_elim
     (λ (e : w ≡ v). rw e (ap usage_at (get_or-set_same {A = ℕ} m v a 0 l) ∙ sym (update_same (usage_of m) v (usage_at a))))
     (λ (n : w ≡ v → ⊥). ap usage_at (get_or-set_other {A = ℕ} m v w a 0 n) ∙ sym (update_other (usage_of m) v (usage_at a) w n))
-    (alike w v))
+    (cases_eq w v))
 
 pub marked-set : (m : List ℕ) (v : ℕ) → v < length m → (w : ℕ) → marked (set m v 1) w ≡ (eqb w v || marked m w)
 unfolding marked
 marked-set m v l w = ⊎_elim
     (λ (e : w ≡ v). rw (eq-eqb w v e, e, get_or-set_same {A = ℕ} m v 1 0 l))
     (λ (n : w ≡ v → ⊥). rw (ne_eqb w v n, get_or-set_other {A = ℕ} m v w 1 0 n))
-    (alike w v)
+    (cases_eq w v)
 
 -- ---- usages
 
@@ -162,7 +162,7 @@ witness-yes m p v l c h = record {
   says = fun_ext (λ w. marked-set p v (omega arith) w ∙ ⊎_elim
       (λ (q : w ≡ v). rw (eq-eqb w v q, q, witness-at (get_or m v 0) h, or-true))
       (λ (n : w ≡ v → ⊥). rw (ne_eqb w v n, or-false))
-      (alike w v));
+      (cases_eq w v));
   codes = codes-set v 1 c l (omega arith);
 }
 
@@ -172,7 +172,7 @@ witness-no m p v c h = record {
   says = fun_ext (λ w. ⊎_elim
       (λ (q : w ≡ v). rw (eq-eqb w v q, q, no-witness-at (get_or m v 0) h, or-false))
       (λ (n : w ≡ v → ⊥). rw (ne_eqb w v n, or-false))
-      (alike w v));
+      (cases_eq w v));
   codes = c;
 }
 

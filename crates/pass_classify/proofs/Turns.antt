@@ -15,7 +15,7 @@ use Rattle.flat.specs.Trees.{Flat, Definition, Equation}
 use Rattle.flat.specs.Layout.{prover_at, definition_entry, equation_entry}
 use Rattle.flat.specs.Record.{tree, module_of}
 use Rattle.flat.specs.Readable.{Readable}
-use Rattle.flat.proofs.Laws.{split, alike}
+use Rattle.std.proofs.lemmas.Bool.{cases_lt, cases_eq}
 use Rattle.pass_trees.specs.Passes.{member, keep_if, those, Usage, is_never, is_witness, mark_used, used_in, override, classify_def}
 use Rattle.pass_trees.specs.Passes.{classified, classify_defs, cuttable_expr, cuttable_defs, cuttable_equations, counted}
 use Rattle.pass_classify.specs.Arrays.{usage_at, code_of, usage_of, marked, Codes, Uses, Marks, provers_of, used_of, counted_of, Classified}
@@ -136,8 +136,8 @@ below_next w n = ⊎_elim
     (λ (l : n ≤ w). ⊎_elim
     (λ (e : w ≡ n). rw (le-ltb w n l, eq-eqb w n e) (lt-ltb w (n + 1) (omega arith)))
     (λ (f : w ≡ n → ⊥). rw (le-ltb w n l, ne_eqb w n f) (le-ltb w (n + 1) (omega arith)))
-    (alike w n))
-    (split w n)
+    (cases_eq w n))
+    (cases_lt w n)
 
 either : (a x y z : Bool) → (a || (x && z) || (y && z)) ≡ (a || ((x || y) && z))
 either true x y z = refl

@@ -14,7 +14,7 @@ use Rattle.flat.specs.Rules.{All, Every}
 use Rattle.flat.specs.Layout.{next}
 use Rattle.flat.specs.Record.{rows, pick, module_of}
 use Rattle.flat.specs.Readable.{Readable}
-use Rattle.flat.proofs.Laws.{split, alike}
+use Rattle.std.proofs.lemmas.Bool.{cases_lt, cases_eq}
 use Rattle.flat.proofs.Rows.{length-rows, rows_at}
 use Rattle.flat.proofs.Wellformed.{readable-provers, readable-definitions, readable-equations}
 use Rattle.pass_trees.specs.Passes.{member, keep_if, those, Usage, Never, Constraint, is_never, is_witness, counted}
@@ -58,13 +58,13 @@ ids-in t v a (suc k) l h = keep-member v (t a) a (ids_from t (suc a) k) ∙ go (
     go ih = ⊎_elim
         (λ (e : v ≡ a). rw (eq-eqb v a e, ids-without t v (suc a) k (λ j l m q. omega arith)) (here (t a) ∙ ap t (sym e)))
         (λ (n : v ≡ a → ⊥). rw (ne_eqb v a n, ih (omega arith) (omega arith)) (there (t a) (t v)))
-        (alike v a)
+        (cases_eq v a)
 
 -- the ids below n that pass a test
 pub ids-member : (t : ℕ → Bool) (v n : ℕ) → member v (ids_from t 0 n) ≡ (ltb v n && t v)
 ids-member t v n =
     ⊎_elim (λ (l : v < n). rw (lt-ltb v n l) (ids-in t v 0 n (omega arith) (omega arith)))
-    (λ (l : n ≤ v). rw (le-ltb v n l) (ids-without t v 0 n (λ j h m q. omega arith))) (split v n)
+    (λ (l : n ≤ v). rw (le-ltb v n l) (ids-without t v 0 n (λ j h m q. omega arith))) (cases_lt v n)
 
 ids-same : (s t : ℕ → Bool) (a k : ℕ) → ((j : ℕ) → a ≤ j → j < a + k → s j ≡ t j) → ids_from s a k ≡ ids_from t a k
 unfolding ids_from
@@ -86,7 +86,7 @@ provers-after {b} r v =
     ⊎_elim
     (λ (l : v < next b). rw (lt-ltb v (next b) l))
     (λ (l : next b ≤ v). rw (le-ltb v (next b) l, past (module_of b).provers v (next b) (readable-provers r) l))
-    (split v (next b))
+    (cases_lt v (next b))
     ∙ sym (ids-member (λ w. member w (module_of b).provers || is_witness (usage (module_of b) w)) v (next b))
 
 -- the prover ids that the record gives, marked in a clear array
@@ -182,7 +182,7 @@ module _ {b : List ℕ} (r : Readable b) where
   usages-say = fun_ext (λ v. ⊎_elim
       (λ (l : v < 65536). ap usage_at (table_at 65536 (λ w. code_of (usage (module_of b) w)) v l) ∙ at_code (usage (module_of b) v))
       (λ (l : 65536 ≤ v). ap usage_at (table-past 65536 (λ w. code_of (usage (module_of b) w)) v l) ∙ sym (usage-past r v (omega (arith, r.next_small))))
-      (split v 65536))
+      (cases_lt v 65536))
 
   marks-say : marked (marks_of b) ≡ (λ v. member v (classify_defs (module_of b)).provers)
   unfolding marks_of marked provers_of
@@ -190,7 +190,7 @@ module _ {b : List ℕ} (r : Readable b) where
       (λ (l : v < 65536). ap (λ (x : ℕ). not (eqb x 0)) (table_at 65536 (λ w. pick (member w (provers_of b)) 1 0) v l) ∙ marked-pick _)
       (λ (l : 65536 ≤ v). ap (λ (x : ℕ). not (eqb x 0)) (table-past 65536 (λ w. pick (member w (provers_of b)) 1 0) v l)
       ∙ sym (prover-past b v (omega (arith, r.next_small))))
-      (split v 65536))
+      (cases_lt v 65536))
 
   -- what the next passes ask of the arrays
   pub classified-of : {m p : List ℕ} → m ≡ usages_of b → p ≡ marks_of b → Classified b m p

@@ -19,7 +19,7 @@ use Rattle.flat.specs.Readable.{Inside}
 use Rattle.flat.specs.declared.Node.TheVariants.{Infix, Negate, Constant, Variable}
 use Rattle.flat.proofs.Nodes.{tree-infix, tree-negate, tree-constant, tree-variable}
 use Rattle.pass_classify.proofs.Walks.{left-inside, right-inside, child-inside}
-use Rattle.flat.proofs.Laws.{alike}
+use Rattle.std.proofs.lemmas.Bool.{cases_eq}
 use Rattle.pass_trees.proofs.Lists.{same_number_lem}
 use Rattle.constraint.specs.declared.Term.{Term}
 use Rattle.pass_trees.specs.Passes.{Substitutions, walk, to_expr, copy_propagate_expr, same_number, dead}
@@ -92,7 +92,7 @@ same_bits c d f g = ⊎_elim
     (λ (e : of_z w32 c ≡ of_z w32 d). let q : c ≡ d = sym (to_z-of_z w32 c f) ∙ ap (to_z w32) e ∙ to_z-of_z w32 d g in
     eq-eqb _ _ e ∙ sym (same-itself c) ∙ ap (same_number c) q)
     (λ (n : of_z w32 c ≡ of_z w32 d → ⊥). ne_eqb _ _ n ∙ sym (not_yes (same_number c d) (λ t. n (ap (of_z w32) (same_number_lem c d t)))))
-    (alike (of_z w32 c) (of_z w32 d))
+    (cases_eq (of_z w32 c) (of_z w32 d))
 
 -- dead equalities, by the roots
 pub dead-by-roots : (x y : Flat) → dead x y ≡ dead_roots (copied_of x) (copied_of y)

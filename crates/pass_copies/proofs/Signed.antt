@@ -13,7 +13,7 @@ use Rattle.flat.specs.Trees.{Flat}
 use Rattle.flat.specs.declared.Node.{Node}
 use Rattle.flat.specs.Layout.{node_at}
 use Rattle.flat.specs.Record.{pick, operator_of, node_for, node_of, grown, tree}
-use Rattle.flat.proofs.Laws.{split}
+use Rattle.std.proofs.lemmas.Bool.{cases_lt}
 use Rattle.constraint.specs.declared.Term.{Term}
 use Rattle.constraint.specs.Reading.{SignedTerm}
 use Rattle.pass_trees.specs.Passes.{follow, walk, to_expr, copy_propagate_expr}
@@ -24,7 +24,7 @@ signed_word : (n : ℕ) → SFits w32 (to_z w32 n)
 signed_word n = ⊎_elim
     (λ (l : n < 2147483648). rw (lt-ltb n 2147483648 l) (record { sfits = l }))
     (λ (l : 2147483648 ≤ n). rw (le-ltb n 2147483648 l) (record { sfits = omega arith }))
-    (split n 2147483648)
+    (cases_lt n 2147483648)
 
 abbrev pub SignedRoot : Flat → Type 0
 SignedRoot (Flat.infixed o a b) = Unit {0}

@@ -17,7 +17,7 @@ use mir.Syntax.{w32}
 use Rattle.flat.specs.Trees.{Flat}
 use Rattle.flat.specs.Meaning.{update}
 use Rattle.flat.specs.Record.{pick}
-use Rattle.flat.proofs.Laws.{split, alike}
+use Rattle.std.proofs.lemmas.Bool.{cases_lt, cases_eq}
 use Rattle.constraint.specs.declared.Term.{Term}
 use Rattle.constraint.specs.Reading.{SignedTerm}
 use Rattle.pass_trees.specs.Passes.{substituting}
@@ -56,8 +56,8 @@ module _ (m : List ℕ) (v kind value : ℕ) (long : length m ≡ SUBSTITUTION-W
   at_each w = ⊎_elim
       (λ (e : w ≡ v). rw (eq-eqb w v e, e, at-itself))
       (λ (n : w ≡ v → ⊥).
-      rw (ne_eqb w v n) (⊎_elim (λ (l : w < 65536). at_other w n l) (λ (l : 65536 ≤ w). stands-past changed w l ∙ sym (stands-past m w l)) (split w 65536)))
-      (alike w v)
+      rw (ne_eqb w v n) (⊎_elim (λ (l : w < 65536). at_other w n l) (λ (l : 65536 ≤ w). stands-past changed w l ∙ sym (stands-past m w l)) (cases_lt w 65536)))
+      (cases_eq w v)
 
   pub changed-is : subst_of changed ≡ update (subst_of m) v (standing kind value)
   changed-is = fun_ext at_each
@@ -121,7 +121,7 @@ pub cleared-is : (m : List ℕ) → ((j : ℕ) → j < SUBSTITUTION-WORDS → ge
 cleared-is m h = fun_ext at
   where
     at : (v : ℕ) → subst_of m v ≡ none
-    at v = ⊎_elim (λ (l : v < 65536). stands-words m v l ∙ standing-none _ _ (h (ID-WORDS * v) (omega arith))) (stands-past m v) (split v 65536)
+    at v = ⊎_elim (λ (l : v < 65536). stands-words m v l ∙ standing-none _ _ (h (ID-WORDS * v) (omega arith))) (stands-past m v) (cases_lt v 65536)
 
 pub none_is : subst_of no_substitutions ≡ (λ _. none)
 unfolding no_substitutions

@@ -1,7 +1,7 @@
 -- Copy propagation and the elimination of dead equalities keep the fulfilling assignments: no rule of the record is needed, ids may be defined twice.
 use Rattle.std.proofs.Common.{◌≡◌, ℕ, zero, suc, Bool, true, false, cond, not, eqb, ◌↔◌, List, [], ◌∷◌, ℤ, sym, refl, ap, ◌∙◌, subst, arith, eqb-true}
 use mathlib.Core.Option.{Option, none, some}
-use Rattle.field.specs.declared.Answer.TheVariants.{Value}
+use Rattle.std.specs.Prelude.{Some}
 use Rattle.field.specs.Prime.{P}
 use Rattle.field.specs.Element.{elem}
 use Rattle.flat.specs.Trees.{Flat, Definition, Equation}
@@ -62,7 +62,7 @@ module _ (Q : ℕ → Type 0) (s : Substitutions) (h : Entries (λ v t. Q v → 
   copy-in k (Flat.constant c) q = tt
   copy-in k (Flat.variable v) q = flat_in (walk k s (Term.Variable v)) (walk-in k (Term.Variable v) q)
 
-pub flat-value : (σ : Assignment) (t : Term) → value σ (to_expr t) ≡ Value (term_value σ t)
+pub flat-value : (σ : Assignment) (t : Term) → value σ (to_expr t) ≡ Some (term_value σ t)
 unfolding value to_expr
 flat-value σ (Term.Variable v) = refl
 flat-value σ (Term.Constant c) = refl
@@ -87,7 +87,7 @@ module _ (σ : Assignment) where
   copy-value k s h (Flat.infixed o a b) = cc (copy-value k s h a, copy-value k s h b)
   copy-value k s h (Flat.negate a) = ap negated (copy-value k s h a)
   copy-value k s h (Flat.constant c) = refl
-  copy-value k s h (Flat.variable v) = flat-value σ (walk k s (Term.Variable v)) ∙ ap Value (walk-value s h k (Term.Variable v))
+  copy-value k s h (Flat.variable v) = flat-value σ (walk k s (Term.Variable v)) ∙ ap Some (walk-value s h k (Term.Variable v))
 
   -- a definition that holds makes a sound entry
   after-sound : (b : Bool) (k : ℕ) (s : Substitutions) → Sound s → (d : Definition) → (b ≡ false → DefinitionHolds σ d)
@@ -95,7 +95,7 @@ module _ (σ : Assignment) where
   after-sound b k s h d holds =
       substituting-entries (λ v t. σ v ≡ term_value σ t) b d.id (copy_propagate_expr k s d.right) s
       (λ t p e.
-      let q : Value (term_value σ t) ≡ Value (σ d.id) = sym (flat-value σ t) ∙ ap (value σ) (sym e) ∙ copy-value k s h d.right ∙ holds p in
+      let q : Some (term_value σ t) ≡ Some (σ d.id) = sym (flat-value σ t) ∙ ap (value σ) (sym e) ∙ copy-value k s h d.right ∙ holds p in
       cc)
       h
 
@@ -148,14 +148,14 @@ module _ (σ : Assignment) where
       )
 
   -- a dead equality holds
-  dead-holds : (a b : Flat) → dead a b ≡ true → (z : ℤ) × (value σ a ≡ Value z) × (value σ b ≡ Value z)
+  dead-holds : (a b : Flat) → dead a b ≡ true → (z : ℤ) × (value σ a ≡ Some z) × (value σ b ≡ Some z)
   unfolding dead value
-  dead-holds (Flat.constant c) (Flat.constant d) e = (elem P c, refl, ap (λ (z : ℤ). Value (elem P z)) (sym (same_number_lem c d e)))
+  dead-holds (Flat.constant c) (Flat.constant d) e = (elem P c, refl, ap (λ (z : ℤ). Some (elem P z)) (sym (same_number_lem c d e)))
   dead-holds (Flat.constant c) (Flat.variable w) e = bool-not (sym e)
   dead-holds (Flat.constant c) (Flat.negate b) e = bool-not (sym e)
   dead-holds (Flat.constant c) (Flat.infixed o b d) e = bool-not (sym e)
   dead-holds (Flat.variable v) (Flat.constant d) e = bool-not (sym e)
-  dead-holds (Flat.variable v) (Flat.variable w) e = (σ v, refl, ap (λ (u : ℕ). Value (σ u)) (sym (eqb-true v w e)))
+  dead-holds (Flat.variable v) (Flat.variable w) e = (σ v, refl, ap (λ (u : ℕ). Some (σ u)) (sym (eqb-true v w e)))
   dead-holds (Flat.variable v) (Flat.negate b) e = bool-not (sym e)
   dead-holds (Flat.variable v) (Flat.infixed o b d) e = bool-not (sym e)
   dead-holds (Flat.negate a) b e = bool-not (sym e)

@@ -1,13 +1,12 @@
 -- Cutting an expression: what its equalities say of its term, that they determine it, and that values can be found for the new ids.
 use Rattle.std.proofs.Common.{◌≡◌, ℕ, suc, ◌<◌, ◌≤◌, List, [], ◌∷◌, ◌++◌, ℤ, sym, refl, ap, ◌∙◌, subst, ap₂, le_trans, le_refl, arith}
 use mathlib.Core.Option.{Option, none, some}
-use Rattle.field.specs.declared.Answer.{Answer}
-use Rattle.field.specs.declared.Answer.TheVariants.{Value, Nothing}
+use Rattle.std.specs.Prelude.{Some, None}
 use Rattle.field.specs.Prime.{P}
 use Rattle.field.proofs.Primality.{P-prime}
 use Rattle.field.proofs.Answers.{value-path, nothing-value, opposite-element, infix-element}
 use Rattle.field.specs.Element.{elem}
-use Rattle.field.specs.Operations.{opposite, infix_of}
+use Rattle.field.specs.Operations.{opposite, infix_of, Answer}
 use Rattle.field.specs.declared.InfixOp.{InfixOp}
 use Rattle.flat.specs.Trees.{Flat}
 use Rattle.flat.specs.Meaning.{update, Assignment, Elements, on_values, negated, value}
@@ -21,21 +20,21 @@ use Rattle.pass_trees.proofs.Lists.{term-map, side-map, infix-in, value-agrees, 
 use Rattle.pass_trees.proofs.Simplified.{infix-value}
 
 -- values taken apart
-pub negated-value : (a : Answer) (z : ℤ) → negated a ≡ Value z → (y : ℤ) × (a ≡ Value y) × (opposite P y ≡ z)
+pub negated-value : (a : Answer) (z : ℤ) → negated a ≡ Some z → (y : ℤ) × (a ≡ Some y) × (opposite P y ≡ z)
 unfolding negated
-negated-value (Value y) z e = (y, refl, value-path _ _ e)
-negated-value Nothing z e = absurd (nothing-value z e)
+negated-value (Some y) z e = (y, refl, value-path _ _ e)
+negated-value None z e = absurd (nothing-value z e)
 
-pub both_values : (o : InfixOp) (a b : Answer) (z : ℤ) → on_values o a b ≡ Value z → (x y : ℤ) × (a ≡ Value x) × (b ≡ Value y) × (infix_of P o x y ≡ Value z)
+pub both_values : (o : InfixOp) (a b : Answer) (z : ℤ) → on_values o a b ≡ Some z → (x y : ℤ) × (a ≡ Some x) × (b ≡ Some y) × (infix_of P o x y ≡ Some z)
 unfolding on_values
-both_values o (Value x) (Value y) z e = (x, y, refl, refl, e)
-both_values o (Value x) Nothing z e = absurd (nothing-value z e)
-both_values o Nothing b z e = absurd (nothing-value z e)
+both_values o (Some x) (Some y) z e = (x, y, refl, refl, e)
+both_values o (Some x) None z e = absurd (nothing-value z e)
+both_values o None b z e = absurd (nothing-value z e)
 
 -- the equalities of a cut expression give its term the expression's value
 module _ (σ : Assignment) (el : Elements σ) where
   pub read : (out : Option Term) (e : Flat) (n : ℕ) → All (EqualityHolds σ) (flatten_expr_to_3ac out e n).equalities
-      → value σ e ≡ Value (term_value σ (flatten_expr_to_3ac out e n).term)
+      → value σ e ≡ Some (term_value σ (flatten_expr_to_3ac out e n).term)
   unfolding flatten_expr_to_3ac copied push_constraint_def value negated on_values side_value
   read none (Flat.constant c) n h = refl
   read (some l) (Flat.constant c) n h = h.0
@@ -57,7 +56,7 @@ module _ (σ τ : Assignment) where
   abbrev pub Same : ℕ → Type 0
   Same v = σ v ≡ τ v
 
-  pub left-same : (l : Term) (s : Side) → InSide Same s → side_value σ s ≡ Value (term_value σ l) → side_value τ s ≡ Value (term_value τ l) → InTerm Same l
+  pub left-same : (l : Term) (s : Side) → InSide Same s → side_value σ s ≡ Some (term_value σ l) → side_value τ s ≡ Some (term_value τ l) → InTerm Same l
   left-same l s h p q = agree-term σ τ l (value-path _ _ (sym p ∙ side-agrees σ τ s h ∙ q))
 
   pub determined : (out : Option Term) (e : Flat) (n : ℕ) → Every Same e
@@ -154,7 +153,7 @@ pub record Extended (σ : Assignment) (n : ℕ) (c : Cut) (z : ℤ) : Type 0 whe
 
 -- an equality looks only at its variables
 pub holds-agrees : (σ τ : Assignment) (q : Equality) → InEquality (λ v. τ v ≡ σ v) q → EqualityHolds σ q → EqualityHolds τ q
-holds-agrees σ τ q h k = side-agrees τ σ q.right h.1 ∙ k ∙ ap Value (sym (term-agrees τ σ q.left h.0))
+holds-agrees σ τ q h k = side-agrees τ σ q.right h.1 ∙ k ∙ ap Some (sym (term-agrees τ σ q.left h.0))
 
 pub holds-below : (σ τ : Assignment) (m : ℕ) → ((v : ℕ) → v < m → τ v ≡ σ v) → (qs : List Equality) → All (InEquality (λ v. v < m)) qs
     → All (EqualityHolds σ) qs → All (EqualityHolds τ) qs
@@ -168,7 +167,7 @@ OutValue σ z (some t) = term_value σ t ≡ z
 -- an equality more, for the id m: its value is that of the right side
 push-extended : (σ : Assignment) (n : ℕ) (out : Option Term) (z : ℤ) → OutBelow n out → OutValue σ z out → elem P z ≡ z → (τ : Assignment) → Elements τ
     → ((v : ℕ) → v < n → τ v ≡ σ v) → (es : List Equality) (m : ℕ) (s : Side) → n ≤ m → All (EqualityHolds τ) es → All (InEquality (λ v. v < m)) es
-    → InSide (λ v. v < m) s → side_value τ s ≡ Value z → Extended σ n (push_constraint_def out es m s) z
+    → InSide (λ v. v < m) s → side_value τ s ≡ Some z → Extended σ n (push_constraint_def out es m s) z
 unfolding push_constraint_def or_variable
 push-extended σ n out z below given ez τ el same es m s l h b i e =
     record {
@@ -177,7 +176,7 @@ push-extended σ n out z below given ez τ el same es m s l h b i e =
       same = old;
       holds =
           all_append (EqualityHolds τ') es _ (holds-below τ τ' m before es b h)
-          (side-agrees τ' τ s (side-map before s i) ∙ e ∙ ap Value (sym (left out below given)), tt);
+          (side-agrees τ' τ s (side-map before s i) ∙ e ∙ ap Some (sym (left out below given)), tt);
       gives = left out below given;
     }
   where
@@ -220,13 +219,13 @@ in-turn σ n x y zx zy b a c =
       gives2 = c.gives;
     }
 
-pub write : (σ : Assignment) → Elements σ → (out : Option Term) (e : Flat) (n : ℕ) → Every (λ v. v < n) e → OutBelow n out → (z : ℤ) → value σ e ≡ Value z
+pub write : (σ : Assignment) → Elements σ → (out : Option Term) (e : Flat) (n : ℕ) → Every (λ v. v < n) e → OutBelow n out → (z : ℤ) → value σ e ≡ Some z
     → OutValue σ z out → Extended σ n (flatten_expr_to_3ac out e n) z
 unfolding flatten_expr_to_3ac copied value side_value
 write σ el none (Flat.constant c) n h o z e g = record { assignment = σ; elements = el; same = λ v k. refl; holds = tt; gives = value-path _ _ e }
-write σ el (some l) (Flat.constant c) n h o z e g = record { assignment = σ; elements = el; same = λ v k. refl; holds = (e ∙ ap Value (sym g), tt); gives = g }
+write σ el (some l) (Flat.constant c) n h o z e g = record { assignment = σ; elements = el; same = λ v k. refl; holds = (e ∙ ap Some (sym g), tt); gives = g }
 write σ el none (Flat.variable v) n h o z e g = record { assignment = σ; elements = el; same = λ v k. refl; holds = tt; gives = value-path _ _ e }
-write σ el (some l) (Flat.variable v) n h o z e g = record { assignment = σ; elements = el; same = λ v k. refl; holds = (e ∙ ap Value (sym g), tt); gives = g }
+write σ el (some l) (Flat.variable v) n h o z e g = record { assignment = σ; elements = el; same = λ v k. refl; holds = (e ∙ ap Some (sym g), tt); gives = g }
 write σ el out (Flat.negate a) n h o z e g =
     let p = negated-value (value σ a) z e in
     let x : Cut = flatten_expr_to_3ac none a n in
@@ -234,7 +233,7 @@ write σ el out (Flat.negate a) n h o z e g =
     let r : Extended σ n x p.0 = write σ el none a n h tt p.0 p.1 tt in
     push-extended σ n out z o g (subst (λ (w : ℤ). elem P w ≡ w) p.2 (opposite-element P P-prime p.0)) r.assignment r.elements r.same
     x.equalities x.next (Side.negate x.term) b.grows r.holds b.ids b.term
-    (ap (λ (w : ℤ). Value (opposite P w)) r.gives ∙ ap Value p.2)
+    (ap (λ (w : ℤ). Some (opposite P w)) r.gives ∙ ap Some p.2)
 write σ el out (Flat.infixed q a c) n h o z e g =
     let p = both_values q (value σ a) (value σ c) z e in
     let x : Cut = flatten_expr_to_3ac none a n in

@@ -1,7 +1,7 @@
 -- Laws of the small tools: maps written at one id, tests, every item of a list, every variable of an expression.
 use Rattle.std.proofs.Common.{◌≡◌, ℕ, Bool, true, false, cond, ◌&&◌, ◌||◌, eqb, List, [], ◌∷◌, ◌++◌, ℤ, pos, negsuc, sym, refl, ap, subst, ap₂, arith, eq-eqb, ne_eqb, eqb-true}
 use borrow.Author.Tests.{eqb-false}
-use Rattle.field.specs.declared.Answer.TheVariants.{Value}
+use Rattle.std.specs.Prelude.{Some}
 use Rattle.field.specs.declared.InfixOp.{InfixOp}
 use Rattle.flat.specs.Trees.{Flat, Definition, defines}
 use Rattle.flat.specs.Meaning.{update, Assignment, value, on_values, negated}
@@ -112,7 +112,7 @@ module _ (σ τ : Assignment) where
   value-agrees (Flat.infixed o a b) h = ap₂ (on_values o) (value-agrees a h.0) (value-agrees b h.1)
   value-agrees (Flat.negate a) h = ap negated (value-agrees a h)
   value-agrees (Flat.constant c) h = refl
-  value-agrees (Flat.variable v) h = ap Value h
+  value-agrees (Flat.variable v) h = ap Some h
 
   pub term-agrees : (t : Term) → InTerm (λ v. σ v ≡ τ v) t → term_value σ t ≡ term_value τ t
   term-agrees (Term.Variable v) h = h
@@ -122,7 +122,7 @@ module _ (σ τ : Assignment) where
   unfolding side_value
   side-agrees (Side.infixed o a b) h = cc (term-agrees a h.0, term-agrees b h.1)
   side-agrees (Side.negate a) h = cc (term-agrees a h)
-  side-agrees (Side.copy a) h = ap Value (term-agrees a h)
+  side-agrees (Side.copy a) h = ap Some (term-agrees a h)
 
   -- and a term of one value under both is a variable on which they agree
   pub agree-term : (t : Term) → term_value σ t ≡ term_value τ t → InTerm (λ v. σ v ≡ τ v) t

@@ -2,7 +2,7 @@
 use Rattle.std.proofs.Common.{◌≡◌, ℕ, ◌<◌, ◌≤◌, Bool, true, false, not, List, [], ◌∷◌, ℤ, sym, refl, ap, ◌∙◌, subst, le_trans, le_refl}
 use mathlib.Core.Path.{fun_ext}
 use mathlib.Core.Option.{none, some}
-use Rattle.field.specs.declared.Answer.TheVariants.{Value}
+use Rattle.std.specs.Prelude.{Some}
 use Rattle.flat.specs.Trees.{Flat, Definition, Equation}
 use Rattle.flat.specs.Rules.{All, Every}
 use Rattle.flat.specs.Meaning.{Assignment, Elements, value, DefinitionHolds, EquationHolds}
@@ -48,8 +48,8 @@ pub record Piece (k : ℕ) (S : ℕ → Type 0) (means : Assignment → Type 0) 
 
 -- an equation, whichever of its sides is given
 abbrev SidesHold : Assignment → Sides → Type 0
-SidesHold σ (into t e) = value σ e ≡ Value (term_value σ t)
-SidesHold σ (both a b) = (z : ℤ) × (value σ a ≡ Value z) × (value σ b ≡ Value z)
+SidesHold σ (into t e) = value σ e ≡ Some (term_value σ t)
+SidesHold σ (both a b) = (z : ℤ) × (value σ a ≡ Some z) × (value σ b ≡ Some z)
 
 module _ (k : ℕ) (S : ℕ → Type 0) (low : (v : ℕ) → S v → v < k) where
   pub nothing : Piece k S (λ σ. Unit {0}) (λ n. record { next = n; equalities = [] })
@@ -121,12 +121,12 @@ module _ (k : ℕ) (S : ℕ → Type 0) (low : (v : ℕ) → S v → v < k) wher
   wider e n l h = every_map (λ v b. le_trans (low v b) l) e h
 
   pub given-piece : (t : Term) (e : Flat) → InTerm S t → Every S e
-      → Piece k S (λ σ. value σ e ≡ Value (term_value σ t)) (λ n. cuts_of (flatten_expr_to_3ac (some t) e n))
+      → Piece k S (λ σ. value σ e ≡ Some (term_value σ t)) (λ n. cuts_of (flatten_expr_to_3ac (some t) e n))
   unfolding cuts_of
   given-piece t e bt be =
       record {
-        local = λ σ τ s h. value-agrees τ σ e (every_map s e be) ∙ h ∙ ap Value (sym (term-agrees τ σ t (term-map s t bt)));
-        reads = λ σ el n h. read σ el (some t) e n h ∙ ap (λ (u : Term). Value (term_value σ u)) (given-term t e n);
+        local = λ σ τ s h. value-agrees τ σ e (every_map s e be) ∙ h ∙ ap Some (sym (term-agrees τ σ t (term-map s t bt)));
+        reads = λ σ el n h. read σ el (some t) e n h ∙ ap (λ (u : Term). Some (term_value σ u)) (given-term t e n);
         determines = λ σ τ s n h i. (determined σ τ (some t) e n (every_map s e be) h i).0;
         grows = λ n l. (whole n l).grows;
         ids = λ n l. (whole n l).ids;
@@ -143,7 +143,7 @@ module _ (k : ℕ) (S : ℕ → Type 0) (low : (v : ℕ) → S v → v < k) wher
       whole n l = bounded (some t) e n (wider e n l be) (in-term n l)
 
   -- two expressions, the term of the one a copy of the other's
-  copied-piece : (a b : Flat) → Every S a → Every S b → Piece k S (λ σ. (z : ℤ) × (value σ a ≡ Value z) × (value σ b ≡ Value z)) (copy_sides a b)
+  copied-piece : (a b : Flat) → Every S a → Every S b → Piece k S (λ σ. (z : ℤ) × (value σ a ≡ Some z) × (value σ b ≡ Some z)) (copy_sides a b)
   unfolding copy_sides joined cuts_of copied side_value
   copied-piece a b ha hb =
       record {
@@ -179,7 +179,7 @@ module _ (k : ℕ) (S : ℕ → Type 0) (low : (v : ℕ) → S v → v < k) wher
               same = t.same;
               holds =
                   all_append (EqualityHolds t.assignment) (left n).equalities _ r.0
-                  (all_append (EqualityHolds t.assignment) (right n).equalities _ r.1 (ap Value (t.gives2 ∙ sym t.gives), tt));
+                  (all_append (EqualityHolds t.assignment) (right n).equalities _ r.1 (ap Some (t.gives2 ∙ sym t.gives), tt));
             };
       }
     where
@@ -195,8 +195,8 @@ module _ (k : ℕ) (S : ℕ → Type 0) (low : (v : ℕ) → S v → v < k) wher
       br : (n : ℕ) → k ≤ n → Bounded (left n).next (right n)
       br n l = bounded none b (left n).next (wider b (left n).next (le_trans l (bl n l).grows) hb) tt
 
-  pub both-piece : (a b : Flat) → Every S a → Every S b → Piece k S (λ σ. (z : ℤ) × (value σ a ≡ Value z) × (value σ b ≡ Value z)) (flatten_sides (both a b))
-  both-piece a b ha hb = subst (Piece k S (λ σ. (z : ℤ) × (value σ a ≡ Value z) × (value σ b ≡ Value z))) (copy-sides a b) (copied-piece a b ha hb)
+  pub both-piece : (a b : Flat) → Every S a → Every S b → Piece k S (λ σ. (z : ℤ) × (value σ a ≡ Some z) × (value σ b ≡ Some z)) (flatten_sides (both a b))
+  both-piece a b ha hb = subst (Piece k S (λ σ. (z : ℤ) × (value σ a ≡ Some z) × (value σ b ≡ Some z))) (copy-sides a b) (copied-piece a b ha hb)
 
   abbrev SidesBelow : Sides → Type 0
   SidesBelow (into t e) = InTerm S t × Every S e
@@ -225,7 +225,7 @@ module _ (k : ℕ) (S : ℕ → Type 0) (low : (v : ℕ) → S v → v < k) wher
 
 module _ (σ : Assignment) where
   abbrev Equal : Flat → Flat → Type 0
-  Equal a b = (z : ℤ) × (value σ a ≡ Value z) × (value σ b ≡ Value z)
+  Equal a b = (z : ℤ) × (value σ a ≡ Some z) × (value σ b ≡ Some z)
 
   -- the given side has a value
   sides-equal : (a b : Flat) → SidesHold σ (sides a b) → Equal a b

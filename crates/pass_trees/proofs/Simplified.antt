@@ -1,11 +1,10 @@
 -- infix_op's simplifications keep the value, and an operation of the passes has one unless its divisor is 0. Cites the field's laws and answers.
 use Rattle.std.proofs.Common.{◌≡◌, Bool, true, false, ℤ, pos, sym, refl, ap, ◌∙◌}
-use Rattle.field.specs.declared.Answer.{Answer}
-use Rattle.field.specs.declared.Answer.TheVariants.{Value}
+use Rattle.std.specs.Prelude.{Some}
 use Rattle.field.specs.declared.InfixOp.{InfixOp}
 use Rattle.field.specs.Prime.{P}
 use Rattle.field.specs.Element.{elem}
-use Rattle.field.specs.Operations.{infix_of}
+use Rattle.field.specs.Operations.{infix_of, Answer}
 use Rattle.field.proofs.Primality.{P-prime, P-above}
 use Rattle.field.proofs.Elements.{elem-elem}
 use Rattle.field.proofs.Values.{not-zero-value, multiply-answer, add-answer, subtract-answer, divide-valued, int-divide-valued, modulo-valued, divide-z-total}
@@ -47,19 +46,19 @@ module _ (σ : Assignment) (h : Elements σ) (a b : Term) where
   when-value false s u f g = g
 
   -- by a law at a left or a right side that is 1 or 0: the other side's value, or 0
-  at_left : (o : InfixOp) (u z : ℤ) → x ≡ u → infix_of P o u y ≡ Value z → Value z ≡ infix_of P o x y
+  at_left : (o : InfixOp) (u z : ℤ) → x ≡ u → infix_of P o u y ≡ Some z → Some z ≡ infix_of P o x y
   at_left o u z e l = sym (ap (λ (w : ℤ). infix_of P o w y) e ∙ l)
 
-  at_right : (o : InfixOp) (u z : ℤ) → y ≡ u → infix_of P o x u ≡ Value z → Value z ≡ infix_of P o x y
+  at_right : (o : InfixOp) (u z : ℤ) → y ≡ u → infix_of P o x u ≡ Some z → Some z ≡ infix_of P o x y
   at_right o u z e l = sym (ap (infix_of P o x) e ∙ l)
 
-  left_back : Value x ≡ Value (elem P x)
+  left_back : Some x ≡ Some (elem P x)
   unfolding x
-  left_back = ap Value (sym (term-element σ h a))
+  left_back = ap Some (sym (term-element σ h a))
 
-  right-back : Value y ≡ Value (elem P y)
+  right-back : Some y ≡ Some (elem P y)
   unfolding y
-  right-back = ap Value (sym (term-element σ h b))
+  right-back = ap Some (sym (term-element σ h b))
 
   pub infix-value : (o : InfixOp) → side_value σ (infix_op o a b) ≡ infix_of P o (term_value σ a) (term_value σ b)
   unfolding infix_op side_value x y
@@ -69,13 +68,13 @@ module _ (σ : Assignment) (h : Elements σ) (a b : Term) where
   infix-value InfixOp.DivideZ =
       when-value (is_one b) (Side.copy a) _ (λ e. left_back ∙ at_right InfixOp.DivideZ (pos 1) _ (one-is σ b e) (divide-z-one P P-prime x))
       (when-value (is_zero a) (Side.copy a) _
-      (λ e. ap Value (zero_is σ a e) ∙ at_left InfixOp.DivideZ (pos 0) _ (zero_is σ a e) (zero-divide-z P P-prime y)) refl)
+      (λ e. ap Some (zero_is σ a e) ∙ at_left InfixOp.DivideZ (pos 0) _ (zero_is σ a e) (zero-divide-z P P-prime y)) refl)
   infix-value InfixOp.Multiply =
       when-value (is_one a) (Side.copy b) _ (λ e. right-back ∙ at_left InfixOp.Multiply (pos 1) _ (one-is σ a e) (one-multiply P P-prime y))
       (when-value (is_one b) (Side.copy a) _ (λ e. left_back ∙ at_right InfixOp.Multiply (pos 1) _ (one-is σ b e) (multiply-one P P-prime x))
-      (when-value (is_zero a) (Side.copy a) _ (λ e. ap Value (zero_is σ a e) ∙ at_left InfixOp.Multiply (pos 0) _ (zero_is σ a e) (zero-multiply P P-prime y))
+      (when-value (is_zero a) (Side.copy a) _ (λ e. ap Some (zero_is σ a e) ∙ at_left InfixOp.Multiply (pos 0) _ (zero_is σ a e) (zero-multiply P P-prime y))
       (when-value (is_zero b) (Side.copy b) _
-      (λ e. ap Value (zero_is σ b e) ∙ at_right InfixOp.Multiply (pos 0) _ (zero_is σ b e) (multiply-zero P P-prime x)) refl)))
+      (λ e. ap Some (zero_is σ b e) ∙ at_right InfixOp.Multiply (pos 0) _ (zero_is σ b e) (multiply-zero P P-prime x)) refl)))
   infix-value InfixOp.Add =
       when-value (is_zero a) (Side.copy b) _ (λ e. right-back ∙ at_left InfixOp.Add (pos 0) _ (zero_is σ a e) (zero-add P P-prime y))
       (when-value (is_zero b) (Side.copy a) _ (λ e. left_back ∙ at_right InfixOp.Add (pos 0) _ (zero_is σ b e) (add-zero P P-prime x)) refl)
@@ -89,10 +88,10 @@ module _ (σ : Assignment) (h : Elements σ) (a b : Term) where
       (λ e. left_back ∙ at_right InfixOp.IntDivide (pos 1) _ (one-is σ b e) (int-divide-one P P-prime x)) refl
   infix-value InfixOp.Modulo =
       when-value (is_one b) (Side.copy (Term.Constant (pos 0))) _
-      (λ e. ap Value zero-element ∙ at_right InfixOp.Modulo (pos 1) _ (one-is σ b e) (modulo-one P P-prime x)) refl
+      (λ e. ap Some zero-element ∙ at_right InfixOp.Modulo (pos 1) _ (one-is σ b e) (modulo-one P P-prime x)) refl
 
 -- an operation of the passes has a value unless its divisor is 0
-pub has_value : (o : InfixOp) (x y : ℤ) → cuttable o ≡ true → elem P y ≡ y → DivisorNotZero o (Value y) → (z : ℤ) × (infix_of P o x y ≡ Value z)
+pub has_value : (o : InfixOp) (x y : ℤ) → cuttable o ≡ true → elem P y ≡ y → DivisorNotZero o (Some y) → (z : ℤ) × (infix_of P o x y ≡ Some z)
 unfolding cuttable
 has_value InfixOp.Divide x y c h k = (divide-valued P P-prime x y).1 (not-zero-value P P-prime y h k)
 has_value InfixOp.DivideZ x y c h k = divide-z-total P P-prime x y

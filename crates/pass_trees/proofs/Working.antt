@@ -1,14 +1,13 @@
 -- Definitions worked out in order: their values hold, and no others do.
 use Rattle.std.proofs.Common.{◌≡◌, ℕ, Bool, true, false, ◌||◌, eqb, List, [], ◌∷◌, ℤ, sym, refl, ap, ◌∙◌, subst, ap₂, eqb-true}
-use Rattle.field.specs.declared.Answer.{Answer}
-use Rattle.field.specs.declared.Answer.TheVariants.{Value, Nothing}
+use Rattle.std.specs.Prelude.{Some, None}
 use Rattle.field.specs.Prime.{P}
 use Rattle.field.proofs.Primality.{P-prime, P-above}
 use Rattle.field.proofs.Answers.{value-path, opposite-element, infix-element}
 use Rattle.field.proofs.Units.{zero-element}
 use Rattle.field.specs.Element.{elem}
 use Rattle.field.proofs.Elements.{elem-elem}
-use Rattle.field.specs.Operations.{opposite}
+use Rattle.field.specs.Operations.{opposite, Answer}
 use Rattle.flat.specs.Trees.{Flat, Definition, defines}
 use Rattle.flat.specs.Meaning.{update, Assignment, Elements, on_values, negated, value, DivisorNotZero, NoZeroDivisor, DefinitionHolds, or_zero, worked_out}
 use Rattle.flat.specs.Rules.{All, Every, Ordered}
@@ -20,7 +19,7 @@ use Rattle.pass_trees.proofs.Simplified.{has_value}
 use Rattle.pass_trees.proofs.Cutting.{both_values, negated-value}
 
 -- a value is an element
-pub value-element : (σ : Assignment) → Elements σ → (e : Flat) (z : ℤ) → value σ e ≡ Value z → elem P z ≡ z
+pub value-element : (σ : Assignment) → Elements σ → (e : Flat) (z : ℤ) → value σ e ≡ Some z → elem P z ≡ z
 unfolding value
 value-element σ el (Flat.infixed o a b) z h = let p = both_values o (value σ a) (value σ b) z h in infix-element P P-prime o p.0 p.1 z p.4
 value-element σ el (Flat.negate a) z h =
@@ -30,7 +29,7 @@ value-element σ el (Flat.constant c) z h = subst (λ (w : ℤ). elem P w ≡ w)
 value-element σ el (Flat.variable v) z h = subst (λ (w : ℤ). elem P w ≡ w) (value-path _ _ h) (el v)
 
 -- an expression with no `^`, no `=` and no zero divisor has a value
-pub expression-value : (σ : Assignment) → Elements σ → (e : Flat) → cuttable_expr e ≡ true → NoZeroDivisor σ e → (z : ℤ) × (value σ e ≡ Value z)
+pub expression-value : (σ : Assignment) → Elements σ → (e : Flat) → cuttable_expr e ≡ true → NoZeroDivisor σ e → (z : ℤ) × (value σ e ≡ Some z)
 unfolding value cuttable_expr on_values negated
 expression-value σ el (Flat.infixed o a b) c h =
     let t = both_true (cuttable o) _ c in
@@ -43,10 +42,10 @@ expression-value σ el (Flat.negate a) c h = let x = expression-value σ el a c 
 expression-value σ el (Flat.constant c) k h = (elem P c, refl)
 expression-value σ el (Flat.variable v) c h = (σ v, refl)
 
-or-zero-element : (a : Answer) → ((z : ℤ) → a ≡ Value z → elem P z ≡ z) → elem P (or_zero a) ≡ or_zero a
+or-zero-element : (a : Answer) → ((z : ℤ) → a ≡ Some z → elem P z ≡ z) → elem P (or_zero a) ≡ or_zero a
 unfolding or_zero
-or-zero-element (Value z) h = h z refl
-or-zero-element Nothing h = zero-element
+or-zero-element (Some z) h = h z refl
+or-zero-element None h = zero-element
 
 next-elements : (d : Definition) (ρ : Assignment) → Elements ρ → Elements (update ρ d.id (or_zero (value ρ d.right)))
 next-elements d ρ el = update_all (λ v x. elem P x ≡ x) ρ d.id _ (or-zero-element (value ρ d.right) (value-element ρ el d.right)) el
@@ -77,10 +76,10 @@ worked-hold (d ∷ ds) o ρ el c h =
     τ : Assignment
     τ = worked_out ds (update ρ d.id (or_zero (value ρ d.right)))
 
-    here : ((z : ℤ) × (value τ d.right ≡ Value z)) → value τ d.right ≡ Value (τ d.id)
+    here : ((z : ℤ) × (value τ d.right ≡ Some z)) → value τ d.right ≡ Some (τ d.id)
     here r =
         let same : value τ d.right ≡ value ρ d.right = value-agrees τ ρ d.right (every_map (worked-other (d ∷ ds) ρ) d.right o.1) in
-        r.1 ∙ ap Value (ap or_zero (sym r.1 ∙ same) ∙ sym (worked-other ds _ d.id o.0 ∙ update_same ρ d.id _))
+        r.1 ∙ ap Some (ap or_zero (sym r.1 ∙ same) ∙ sym (worked-other ds _ d.id o.0 ∙ update_same ρ d.id _))
 
 -- a divisor has the same value when its turn comes and at the end
 no-zero-agrees : (σ τ : Assignment) (e : Flat) → Every (λ v. σ v ≡ τ v) e → NoZeroDivisor σ e → NoZeroDivisor τ e

@@ -9,7 +9,7 @@ use native.Mathlib.Omega.{arith}
 use lib.IntN.{ℤ}
 use lib.Dec.{ltb}
 use borrow.Author.Tests.{lt-ltb, le-ltb}
-use Rattle.field.specs.declared.Answer.TheVariants.{Value}
+use Rattle.std.specs.Prelude.{Some}
 use Rattle.field.specs.Prime.{P}
 use Rattle.field.specs.Element.{elem}
 use Rattle.source.specs.Trees.{Module}
@@ -221,7 +221,7 @@ module _ (m : Module) (plain : is_plain_body m ≡ true) where
     module _ (ρ : ℕ → ℤ) (elements : (x : ℕ) → elem P (ρ x) ≡ ρ x) (no_zero : NoDivisorZero m ρ) (υ : Assignment) (υ-elements : Elements υ)
         (gives : Gives m ρ υ) where
       agreed : Pointwise (Agreed (start ρ) (table υ)) (inputs m) (input_ids (numbered m))
-      agreed = pointwise-map (λ x i h. ap Value h) (inputs m) (input_ids (numbered m)) gives
+      agreed = pointwise-map (λ x i h. ap Some h) (inputs m) (input_ids (numbered m)) gives
 
       nothing_bound : Means [] [] [] (start ρ) (table υ) (start ρ) (table υ)
       unfolding found

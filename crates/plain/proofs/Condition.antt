@@ -4,7 +4,7 @@ use mathlib.Core.Bool.{true}
 use mathlib.Core.List.{List, [], ◌∷◌}
 use Prim.Native.Nat.{ℕ}
 use lib.IntN.{ℤ}
-use Rattle.field.specs.declared.Answer.TheVariants.{Value}
+use Rattle.std.specs.Prelude.{Some}
 use Rattle.source.specs.Trees.{Module}
 use Rattle.flat.specs.Rules
 use Rattle.numbering.specs.Numbering.{registered}
@@ -50,7 +50,7 @@ module _ (m : Module) (plain : is_plain_body m ≡ true) where
       let Q : ℕ → Type 0 = λ x. ρ x ≡ τ x in
       let bound = defining m.definitions [] in
       let free = all_split Q (free_in_definitions [] m.definitions) (free_in_expressions bound m.expressions) (named-all Q (inputs m) same) in
-      let d = definitions-alike Q (definitions-plain m plain) [] (start ρ) (start τ) (λ x h. ap Value (h refl)) free.0 in
+      let d = definitions-alike Q (definitions-plain m plain) [] (start ρ) (start τ) (λ x h. ap Some (h refl)) free.0 in
       let t = Meaning.defined (start ρ) m.definitions in
       let u = Meaning.defined (start τ) m.definitions in
       let e = equations-alike Q (equations-plain m plain) bound t u d.alike free.1 in

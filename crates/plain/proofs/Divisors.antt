@@ -5,13 +5,12 @@ use mathlib.Core.List.{List}
 use Prim.Native.Nat.{ℕ}
 use lib.IntN.{ℤ, negsuc}
 use lib.Dec.{eqb}
-use Rattle.field.specs.declared.Answer.{Answer}
-use Rattle.field.specs.declared.Answer.TheVariants.{Value}
+use Rattle.std.specs.Prelude.{Some}
 use Rattle.field.specs.declared.InfixOp.{InfixOp}
 use Rattle.field.specs.declared.InfixOp.TheVariants.{Divide, DivideZ, Multiply, Add, Subtract, Equal, Exponentiate, IntDivide, Modulo}
 use Rattle.field.specs.Prime.{P}
 use Rattle.field.specs.Element.{elem}
-use Rattle.field.specs.Operations.{infix_of}
+use Rattle.field.specs.Operations.{infix_of, Answer}
 use Rattle.field.proofs.Primality.{P-prime}
 use Rattle.field.proofs.Answers.{value-path}
 use Rattle.field.proofs.Values.{zero-value, not-zero-value, multiply-answer, add-answer, subtract-answer}
@@ -29,7 +28,7 @@ use Rattle.plain.proofs.Working.{divisor-not-zero}
 use Rattle.plain.proofs.Numbered.{Plainly, p_constant, p_variable, p_negate, p_binary, p_let}
 use Rattle.plain.proofs.Numbered.{PlainDefinitions, p_none, p_definition, PlainEquations, p_end, p_equation}
 
-operation-valued : (o : InfixOp) (x y : ℤ) → is_arithmetic o ≡ true → elem P x ≡ x → elem P y ≡ y → NotZeroAt o (Value x) (Value y) → Valued (infix_of P o x y)
+operation-valued : (o : InfixOp) (x y : ℤ) → is_arithmetic o ≡ true → elem P x ≡ x → elem P y ≡ y → NotZeroAt o (Some x) (Some y) → Valued (infix_of P o x y)
 unfolding is_arithmetic
 operation-valued Divide x y a cx cy h = (divide-valued P P-prime x y).1 (not-zero-value P P-prime y cy h)
 operation-valued DivideZ x y a cx cy h = divide-z-total P P-prime x y
@@ -37,23 +36,23 @@ operation-valued Multiply x y a cx cy h = (_, multiply-answer P x y)
 operation-valued Add x y a cx cy h = (_, add-answer P x y)
 operation-valued Subtract x y a cx cy h = (_, subtract-answer P x y)
 operation-valued Equal x y a cx cy h = absurd (false-true a)
-operation-valued Exponentiate x y a cx cy h = (power-valued P P-prime x y).1 (λ n e z. h n (ap Value (sym cy ∙ e)) (ap Value (sym cx ∙ z)))
+operation-valued Exponentiate x y a cx cy h = (power-valued P P-prime x y).1 (λ n e z. h n (ap Some (sym cy ∙ e)) (ap Some (sym cx ∙ z)))
 operation-valued IntDivide x y a cx cy h = (int-divide-valued P P-prime x y).1 (not-zero-value P P-prime y cy h)
 operation-valued Modulo x y a cx cy h = (modulo-valued P P-prime x y).1 (not-zero-value P P-prime y cy h)
 
 abbrev pub Total : Table → Type 0
 Total t = (x : ℕ) → Valued (t x)
 
-writing-total : (x : ℕ) (z : ℤ) (t : Table) → Total t → Total (writing x (Value z) t)
+writing-total : (x : ℕ) (z : ℤ) (t : Table) → Total t → Total (writing x (Some z) t)
 unfolding update
 writing-total x z t h y = go (eqb y x)
   where
-    go : (c : Bool) → Valued (cond c (Value z) (t y))
+    go : (c : Bool) → Valued (cond c (Some z) (t y))
     go true = (z, refl)
     go false = h y
 
-writing-elements : (x : ℕ) (z : ℤ) (t : Table) → Canonical t → elem P z ≡ z → Canonical (writing x (Value z) t)
-writing-elements x z t c h = writing-canonical x (Value z) t c (λ w e. element-path z w (value-path z w e) h)
+writing-elements : (x : ℕ) (z : ℤ) (t : Table) → Canonical t → elem P z ≡ z → Canonical (writing x (Some z) t)
+writing-elements x z t c h = writing-canonical x (Some z) t c (λ w e. element-path z w (value-path z w e) h)
 
 expr-valued : {W : ℕ → Type 0} {e : Expr} → Plainly W e → (t : Table) → Canonical t → Total t → NotZeroIn t e → Valued (value_of t e)
 unfolding value_of write
@@ -69,9 +68,9 @@ expr-valued (p_binary {o = o} {a = a} {b = b} ar p q) t c h n =
 expr-valued (p_let {x = x} {v = d} {b = b} p q) t c h n =
     let u = expr-valued p t c h n.0 in
     let z = u.0 in
-    let v = expr-valued q (writing x (Value z) t) (writing-elements x z t c (value-element d t c z u.1)) (writing-total x z t h)
+    let v = expr-valued q (writing x (Some z) t) (writing-elements x z t c (value-element d t c z u.1)) (writing-total x z t h)
     (subst (λ (o : Answer). NotZeroIn (writing x o t) b) u.1 n.1) in
-    (v.0, (through-value (value_of t d) (λ y. value_of (writing x (Value y) t) b) z u.1 ∙ v.1))
+    (v.0, (through-value (value_of t d) (λ y. value_of (writing x (Some y) t) b) z u.1 ∙ v.1))
 
 pub equations-valued : {W : ℕ → Type 0} {es : List Expr} → PlainEquations W es → (t : Table) → Canonical t → Total t
     → All (NotZeroIn t) es → EquationsValued t es
@@ -103,10 +102,10 @@ start-canonical ρ elements x z h = element-path (ρ x) z (value-path (ρ x) z h
 -- ---- the other way round
 
 -- 0 has no negative power
-power-not-zero : (x y z : ℤ) → elem P y ≡ y → infix_of P Exponentiate x y ≡ Value z → NotZeroAt Exponentiate (Value x) (Value y)
+power-not-zero : (x y z : ℤ) → elem P y ≡ y → infix_of P Exponentiate x y ≡ Some z → NotZeroAt Exponentiate (Some x) (Some y)
 power-not-zero x y z cy h n e f = (power-valued P P-prime x y).0 (z, h) n (cy ∙ value-path y (negsuc n) e) (zero-value P P-prime x f)
 
-operation-not-zero : (o : InfixOp) (x y z : ℤ) → elem P y ≡ y → infix_of P o x y ≡ Value z → NotZeroAt o (Value x) (Value y)
+operation-not-zero : (o : InfixOp) (x y z : ℤ) → elem P y ≡ y → infix_of P o x y ≡ Some z → NotZeroAt o (Some x) (Some y)
 operation-not-zero Divide x y z cy h = divisor-not-zero Divide x y z h
 operation-not-zero DivideZ x y z cy h = divisor-not-zero DivideZ x y z h
 operation-not-zero Multiply x y z cy h = divisor-not-zero Multiply x y z h
@@ -117,7 +116,7 @@ operation-not-zero Exponentiate x y z cy h = power-not-zero x y z cy h
 operation-not-zero IntDivide x y z cy h = divisor-not-zero IntDivide x y z h
 operation-not-zero Modulo x y z cy h = divisor-not-zero Modulo x y z h
 
-expr-not-zero : {W : ℕ → Type 0} {e : Expr} → Plainly W e → (t : Table) → Canonical t → (z : ℤ) → value_of t e ≡ Value z → NotZeroIn t e
+expr-not-zero : {W : ℕ → Type 0} {e : Expr} → Plainly W e → (t : Table) → Canonical t → (z : ℤ) → value_of t e ≡ Some z → NotZeroIn t e
 unfolding value_of write
 expr-not-zero p_constant t c z h = tt
 expr-not-zero (p_variable q) t c z h = tt
@@ -127,8 +126,8 @@ expr-not-zero (p_binary {o = o} {a = a} {b = b} ar p q) t c z h =
     let n = operation-not-zero o w.x w.y z (value-element b t c w.y w.second) w.result in
     (expr-not-zero p t c w.x w.first, expr-not-zero q t c w.y w.second, subst₂ (NotZeroAt o) (sym w.first) (sym w.second) n)
 expr-not-zero (p_let {x = x} {v = d} {b = b} p q) t c z h =
-    let w = through-back (value_of t d) (λ y. value_of (writing x (Value y) t) b) z h in
-    let body = expr-not-zero q (writing x (Value w.at) t) (writing-elements x w.at t c (value-element d t c w.at w.arg)) z w.result in
+    let w = through-back (value_of t d) (λ y. value_of (writing x (Some y) t) b) z h in
+    let body = expr-not-zero q (writing x (Some w.at) t) (writing-elements x w.at t c (value-element d t c w.at w.arg)) z w.result in
     (expr-not-zero p t c w.at w.arg, subst (λ (o : Answer). NotZeroIn (writing x o t) b) (sym w.arg) body)
 
 pub equations-not-zero :

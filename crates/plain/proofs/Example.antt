@@ -6,7 +6,7 @@ use mathlib.Core.List.{[], ◌∷◌}
 use Prim.Native.Nat.{ℕ}
 use lib.IntN.{ℤ, pos}
 use lib.Dec.{eqb}
-use Rattle.field.specs.declared.Answer.TheVariants.{Value}
+use Rattle.std.specs.Prelude.{Some}
 use Rattle.field.specs.declared.InfixOp.TheVariants.{Divide, Multiply, Add, Equal}
 use Rattle.field.specs.Prime.{P}
 use Rattle.field.specs.Element.{elem}
@@ -107,7 +107,7 @@ makes = refl
 at-two : ℕ → ℤ
 at-two x = cond (eqb x 0) (pos 2) (pos 18)
 
-sides-at-two : sides (Meaning.defined (start at-two) source.definitions) source.expressions ≡ (Value (pos 18), Value (pos 18)) ∷ []
+sides-at-two : sides (Meaning.defined (start at-two) source.definitions) source.expressions ≡ (Some (pos 18), Some (pos 18)) ∷ []
 unfolding answer_of at-two update on_values negated write through value_of Meaning.defined sides_of sides
 sides-at-two = refl
 

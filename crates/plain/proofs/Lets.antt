@@ -9,7 +9,7 @@ use native.Mathlib.Omega.{arith}
 use lib.IntN.{ℤ}
 use lib.Dec.{eqb}
 use borrow.Author.Tests.{eqb-true, eqb-false}
-use Rattle.field.specs.declared.Answer.TheVariants.{Value}
+use Rattle.std.specs.Prelude.{Some}
 use Rattle.field.specs.Prime.{P}
 use Rattle.field.specs.Element.{elem}
 use Rattle.field.proofs.Primality.{P-above}
@@ -80,7 +80,7 @@ module _ (B : ℕ → Bool) (N : ℕ) (beyond : (x : ℕ) → N ≤ x → B x �
     pub core : Core B N t u
     pub bindings : SameBindings B N t s u
     pub term : Term B u.next term_of
-    pub value : value_of (now t u) term_of ≡ Value z
+    pub value : value_of (now t u) term_of ≡ Some z
 
   pushed-binds : (s s1 s2 u : State) (x : ℕ) (z : ℤ) (w : Expr) (y : Done) (new : Env) → B x ≡ true → Result B N t s s1 w z → Unbound B N t s
       → push_definition x w s1 ≡ gives y s2 → s2 ≡ u → entry x w empty ≡ new → Binds s u x z new
@@ -103,7 +103,7 @@ module _ (B : ℕ → Bool) (N : ℕ) (beyond : (x : ℕ) → N ≤ x → B x �
 
   pub binding-result : (ev : Expr → Run Expr) → Keeps B N t ev → (Γ : List ℕ) (k : ℕ) (τ : Table) (x : ℕ) (v : Expr) (s u : State) (new : Env) (z : ℤ)
       → B x ≡ true → Scoped B k Γ v → evaluate_binding ev (variable_p x) v empty s ≡ gives new u → k ≤ s.next → Core B N t s → Unbound B N t s
-      → Agree B N t k Γ τ s → value_of τ v ≡ Value z → Binds s u x z new
+      → Agree B N t k Γ τ s → value_of τ v ≡ Some z → Binds s u x z new
   unfolding evaluate_binding present kept insert remove
   binding-result ev ih Γ k τ x v s u new z bx sc e h c f a val =
       bind-case (ev v) _ s new u e λ w s1 first e1.
@@ -122,21 +122,21 @@ module _ (B : ℕ → Bool) (N : ℕ) (beyond : (x : ℕ) → N ≤ x → B x �
   -- the new id joins the scope: what a table has for it is the value that was bound
   pub joined : {k : ℕ} {Γ : List ℕ} {τ : Table} {s u : State} (x : ℕ) (w : Expr) (z : ℤ) → B x ≡ true → k ≤ s.next → Grew B N t s u
       → look_up x u.bindings ≡ some w → ((y : ℕ) → (y ≡ x → ⊥) → look_up y u.bindings ≡ look_up y s.bindings) → Term B u.next w
-      → value_of (now t u) w ≡ Value z → Agree B N t k Γ τ s → Agree B N t k (x ∷ Γ) (writing x (Value z) τ) u
+      → value_of (now t u) w ≡ Some z → Agree B N t k Γ τ s → Agree B N t k (x ∷ Γ) (writing x (Some z) τ) u
   unfolding member
   joined {k} {Γ} {τ} {s} {u} x w z bx h g found others m val a = record {
     inside = λ y i. go y (eqb y x) refl i;
-    free = λ y b l. ap Value (g.kept y b (le_trans l h)) ∙ a.free y b l ∙ sym (update_other τ x (Value z) y (λ e. false-true (sym b ∙ ap B e ∙ bx)));
+    free = λ y b l. ap Some (g.kept y b (le_trans l h)) ∙ a.free y b l ∙ sym (update_other τ x (Some z) y (λ e. false-true (sym b ∙ ap B e ∙ bx)));
   }
     where
-      go : (y : ℕ) (c : Bool) → eqb y x ≡ c → (c || member y Γ) ≡ true → Stands B N t (writing x (Value z) τ) u y
+      go : (y : ℕ) (c : Bool) → eqb y x ≡ c → (c || member y Γ) ≡ true → Stands B N t (writing x (Some z) τ) u y
       go y true c i =
           let q = eqb-true y x c in
           record {
             by = w;
             found = ap (λ (j : ℕ). look_up j u.bindings) q ∙ found;
             term = m;
-            value = val ∙ sym (ap (writing x (Value z) τ) q ∙ update_same τ x (Value z));
+            value = val ∙ sym (ap (writing x (Some z) τ) q ∙ update_same τ x (Some z));
           }
       go y false c i =
           let q = eqb-false y x c in
@@ -145,7 +145,7 @@ module _ (B : ℕ → Bool) (N : ℕ) (beyond : (x : ℕ) → N ≤ x → B x �
             by = o.by;
             found = others y q ∙ o.found;
             term = term_up g.next o.term;
-            value = term-value (run t s.definitions) (run t u.definitions) g.kept o.term ∙ o.value ∙ sym (update_other τ x (Value z) y q);
+            value = term-value (run t s.definitions) (run t u.definitions) g.kept o.term ∙ o.value ∙ sym (update_other τ x (Some z) y q);
           }
 
   -- what entering a let did
@@ -156,7 +156,7 @@ module _ (B : ℕ → Bool) (N : ℕ) (beyond : (x : ℕ) → N ≤ x → B x �
     pub found : look_up x u.bindings ≡ some term_of
     pub others : (y : ℕ) → (y ≡ x → ⊥) → look_up y u.bindings ≡ look_up y s.bindings
     pub term : Term B u.next term_of
-    pub value : value_of (now t u) term_of ≡ Value z
+    pub value : value_of (now t u) term_of ≡ Some z
     pub new_is : new ≡ oldest ((x, look_up x s.bindings) ∷ []) acc
 
   bound-enters : (s s1 u : State) (x : ℕ) (z : ℤ) (acc new : Options) (env : Env) (b : Binds s s1 x z env) → binding s1 x b.term_of ≡ u
@@ -174,7 +174,7 @@ module _ (B : ℕ → Bool) (N : ℕ) (beyond : (x : ℕ) → N ≤ x → B x �
 
   pub enter-result : (ev : Expr → Run Expr) → Keeps B N t ev → (Γ : List ℕ) (k : ℕ) (τ : Table) (x : ℕ) (v : Expr) (s u : State) (acc new : Options) (z : ℤ)
       → B x ≡ true → Scoped B k Γ v → enter_let ev (variable_p x) v acc s ≡ gives new u → k ≤ s.next → Core B N t s → Unbound B N t s → Agree B N t k Γ τ s
-      → value_of τ v ≡ Value z → Enters s u x z acc new
+      → value_of τ v ≡ Some z → Enters s u x z acc new
   unfolding enter_let
   enter-result ev ih Γ k τ x v s u acc new z bx sc e h c f a val =
       bind-case (evaluate_binding ev (variable_p x) v empty) _ s new u e λ env s1 first e1.
@@ -190,7 +190,7 @@ module _ (B : ℕ → Bool) (N : ℕ) (beyond : (x : ℕ) → N ≤ x → B x �
     pub grew : Grew B N t s u
     pub core : Core B N t u
     pub term : Term B u.next v
-    pub value : value_of (now t u) v ≡ Value z
+    pub value : value_of (now t u) v ≡ Some z
     pub back : (y : ℕ) → look_up y u.bindings ≡ restored y acc (look_up y s.bindings)
 
   exchanged-chain : (s s1 s2 u : State) (v w : Expr) (z : ℤ) (acc : Options) → Result B N t s s1 w z → Exchanged acc s1 s2 → s2 ≡ u → w ≡ v → Chain s u v z acc
@@ -222,7 +222,7 @@ module _ (B : ℕ → Bool) (N : ℕ) (beyond : (x : ℕ) → N ≤ x → B x �
 
   chain-result : (ev : Expr → Run Expr) → Keeps B N t ev
       → {k : ℕ} {Γ : List ℕ} {e : Expr} (τ : Table) (below : Bool) (acc : Options) (s u : State) (v : Expr) (z : ℤ) → Scoped B k Γ e
-      → let_chain ev e below acc s ≡ gives v u → k ≤ s.next → Core B N t s → Unbound B N t s → Agree B N t k Γ τ s → value_of τ e ≡ Value z → Chain s u v z acc
+      → let_chain ev e below acc s ≡ gives v u → k ≤ s.next → Core B N t s → Unbound B N t s → Agree B N t k Γ τ s → value_of τ e ≡ Some z → Chain s u v z acc
   unfolding let_chain value_of write
   chain-result ev ih {k} {Γ} τ below acc s u v z s_constant e h c f a val =
       finish-result ev _ s u v z acc (λ w s1 q. ih Γ k τ _ s s1 w z s_constant q h c f a val) e
@@ -236,9 +236,9 @@ module _ (B : ℕ → Bool) (N : ℕ) (beyond : (x : ℕ) → N ≤ x → B x �
       finish-result ev _ s u v z acc (λ w s1 g. ih Γ k τ _ s s1 w z (s_binary ar p q) g h c f a val) e
   chain-result ev ih {k} {Γ} τ below acc s u v z (s_let {x = x} {v = d} {b = body} bx p q) e h c f a val =
       bind-case (enter_let ev (variable_p x) d acc) (let_chain ev body true) s v u e λ new s1 first e1.
-      let o = through-back (value_of τ d) (λ y. value_of (writing x (Value y) τ) body) z val in
+      let o = through-back (value_of τ d) (λ y. value_of (writing x (Some y) τ) body) z val in
       let n = enter-result ev ih Γ k τ x d s s1 acc new o.at bx p first h c f a o.arg in
-      let rest = chain-result ev ih (writing x (Value o.at) τ) true new s1 u v z q e1 (le_trans h n.grew.next) n.core
+      let rest = chain-result ev ih (writing x (Some o.at) τ) true new s1 u v z q e1 (le_trans h n.grew.next) n.core
       (record { free = λ y b. n.others y (λ g. false-true (sym b ∙ ap B g ∙ bx)) ∙ f.free y b })
       (joined x n.term_of o.at bx h n.grew n.found n.others n.term n.value a) o.result in
       record {
@@ -257,12 +257,12 @@ module _ (B : ℕ → Bool) (N : ℕ) (beyond : (x : ℕ) → N ≤ x → B x �
   unfolding step value_of restored
   step_keeps ev ih Γ k τ e s u v z sc g h c f a val = go sc g val
     where
-      go : {e : Expr} → Scoped B k Γ e → step ev e s ≡ gives v u → value_of τ e ≡ Value z → Result B N t s u v z
+      go : {e : Expr} → Scoped B k Γ e → step ev e s ≡ gives v u → value_of τ e ≡ Some z → Result B N t s u v z
       go (s_constant {m = m}) g val =
           then-case (make 1) _ s v u g λ y w first second.
           let b = return_back (constant (elem P m)) v w u second in
           subst (λ (v : Expr). Result B N t s u v z) b.value
-          (counted B N t (same_by (make_same 1 s y w first) b.state) c (of_constant (elem-elem P P-above m)) (ap Value (elem-elem P P-above m) ∙ val))
+          (counted B N t (same_by (make_same 1 s y w first) b.state) c (of_constant (elem-elem P P-above m)) (ap Some (elem-elem P P-above m) ∙ val))
       go (s_bound {x = x} i) g val = variable-bound B N beyond t elements ev τ x s u v z (a.inside x i) val g c
       go (s_free {x = x} b l) g val = variable-free B N beyond t elements ev x s u v z b (le_trans l h) (a.free x b l ∙ val) g c f
       go (s_negate {a = d} p) g val =

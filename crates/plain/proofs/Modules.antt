@@ -9,8 +9,8 @@ use native.Mathlib.Omega.{arith}
 use lib.IntN.{ℤ}
 use lib.Dec.{eqb}
 use borrow.Author.Tests.{ne_eqb}
-use Rattle.field.specs.declared.Answer.{Answer}
-use Rattle.field.specs.declared.Answer.TheVariants.{Value}
+use Rattle.field.specs.Operations.{Answer}
+use Rattle.std.specs.Prelude.{Some}
 use Rattle.field.specs.declared.InfixOp.TheVariants.{Equal}
 use Rattle.source.specs.Trees.{Pat, variable_p, Expr, unit, binary, Env, empty}
 use Rattle.flat.specs.Trees.{Flat, Definition, Equation, FlatModule}
@@ -57,7 +57,7 @@ module _ (B : ℕ → Bool) (N : ℕ) (beyond : (x : ℕ) → N ≤ x → B x �
     pub agree : Agree B N t k Δ τ u
 
   one-defined : {k : ℕ} {Γ : List ℕ} {τ : Table} (x : ℕ) (v : Expr) (s s1 s2 : State) (env : Env) (z : ℤ) (y : Done) → B x ≡ true
-      → k ≤ s.next → Unbound B N t s → Agree B N t k Γ τ s → value_of τ v ≡ Value z → Binds B N beyond t elements s s1 x z env
+      → k ≤ s.next → Unbound B N t s → Agree B N t k Γ τ s → value_of τ v ≡ Some z → Binds B N beyond t elements s s1 x z env
       → set_bindings (extended env s1.bindings) s1 ≡ gives y s2 → Behind k (x ∷ Γ) (writing x (value_of τ v) τ) s s2
   unfolding extended
   one-defined {k} {Γ} {τ} x v s s1 s2 env z y bx h f a val b e =
@@ -129,7 +129,7 @@ module _ (B : ℕ → Bool) (N : ℕ) (beyond : (x : ℕ) → N ≤ x → B x �
   free-value s u g (Flat.infixed o a b) h = ap₂ (on_values o) (free-value s u g a h.0) (free-value s u g b h.1)
   free-value s u g (Flat.negate a) h = ap negated (free-value s u g a h)
   free-value s u g (Flat.constant c) h = refl
-  free-value s u g (Flat.variable v) h = ap Value (g v h.0 h.1)
+  free-value s u g (Flat.variable v) h = ap Some (g v h.0 h.1)
 
   -- the equations pushed, the newest first, with the values of their sides
   abbrev Matched : State → List Equation → List (Answer × Answer) → Type 0

@@ -9,8 +9,8 @@ use native.Mathlib.Omega.{arith}
 use lib.IntN.{ℤ}
 use lib.Dec.{eqb}
 use borrow.Author.Tests.{eqb-true, eqb-false}
-use Rattle.field.specs.declared.Answer.{Answer}
-use Rattle.field.specs.declared.Answer.TheVariants.{Value}
+use Rattle.field.specs.Operations.{Answer}
+use Rattle.std.specs.Prelude.{Some}
 use Rattle.field.specs.declared.InfixOp.{InfixOp}
 use Rattle.field.specs.declared.InfixOp.TheVariants.{Divide, DivideZ, Multiply, Add, Subtract, Equal, Exponentiate, IntDivide, Modulo}
 use Rattle.source.specs.Trees.{Pat, unit_p, nil_p, as_p, product_p, cons_p, variable_p, constant_p, Expr, unit, nil, sequence, product}
@@ -354,7 +354,7 @@ expr-means (p_let {x = x} {v = a} {b = b} p q) Γ Δ locals g T τ T₀ τ₀ w 
     let k = pointwise-split (Agreed T₀ τ₀) _ (free_variables Γ a) (free_variables (x ∷ Γ) b) _ _ r.free h in
     ap₂ through (expr-means p Γ Δ locals g T τ T₀ τ₀ w s m k.0)
     (fun_ext (λ z.
-    expr-means q (x ∷ Γ) _ _ _ (writing x (Value z) T) _ T₀ τ₀ n.step.grown.well n.scope (means-join x (Value z) (Value z) refl s₁ m) k.1))
+    expr-means q (x ∷ Γ) _ _ _ (writing x (Some z) T) _ T₀ τ₀ n.step.grown.well n.scope (means-join x (Some z) (Some z) refl s₁ m) k.1))
 
 -- definitions, in order: they mean the same, and behind them the tables agree
 pub record DefinitionsMean (ds : List (Pat × Expr)) (Γ Δ : List ℕ) (locals : Ids) (g : Names) (T τ T₀ τ₀ : Table) : Type 0 where

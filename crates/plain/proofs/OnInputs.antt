@@ -5,8 +5,8 @@ use mathlib.Core.List.{List, [], ◌∷◌, ◌++◌}
 use Prim.Native.Nat.{ℕ}
 use native.Mathlib.Omega.{arith}
 use lib.Dec.{eqb}
-use Rattle.field.specs.declared.Answer.{Answer}
-use Rattle.field.specs.declared.Answer.TheVariants.{Value}
+use Rattle.field.specs.Operations.{Answer}
+use Rattle.std.specs.Prelude.{Some}
 use Rattle.source.specs.Trees.{Pat, Expr}
 use Rattle.flat.specs.Rules
 use Rattle.flat.specs.Meaning.{update, on_values, negated}
@@ -51,7 +51,7 @@ module _ (Q : ℕ → Type 0) where
   value-alike (p_let {x = x} {v = b} {b = d} p q) Γ t u h a =
       let k = all_split Q (free_variables Γ b) (free_variables (x ∷ Γ) d) a in
       ap₂ through (value-alike p Γ t u h k.0)
-      (fun_ext (λ z. value-alike q (x ∷ Γ) (writing x (Value z) t) (writing x (Value z) u) (alike-join Γ t u x (Value z) (Value z) refl h) k.1))
+      (fun_ext (λ z. value-alike q (x ∷ Γ) (writing x (Some z) t) (writing x (Some z) u) (alike-join Γ t u x (Some z) (Some z) refl h) k.1))
 
   not-zero-alike :
       {W : ℕ → Type 0} {e : Expr} → Plainly W e → (Γ : List ℕ) (t u : Table) → Alike Γ t u →

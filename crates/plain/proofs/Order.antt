@@ -12,13 +12,12 @@ use native.Mathlib.Decide.{dec_lt}
 use lib.IntN.{ℤ, pos, negsuc}
 use lib.Dec.{eqb}
 use borrow.Author.Tests.{eq-eqb, eqb-true, eqb-false}
-use Rattle.field.specs.declared.Answer.{Answer}
-use Rattle.field.specs.declared.Answer.TheVariants.{Value, Nothing}
+use Rattle.std.specs.Prelude.{Some, None}
 use Rattle.field.specs.declared.InfixOp.{InfixOp}
 use Rattle.field.specs.declared.InfixOp.TheVariants.{Divide, DivideZ, Multiply, Add, Subtract, Equal, Exponentiate, IntDivide, Modulo}
 use Rattle.field.specs.Prime.{P}
 use Rattle.field.specs.Element.{elem}
-use Rattle.field.specs.Operations.{opposite, infix_of}
+use Rattle.field.specs.Operations.{opposite, infix_of, Answer}
 use Rattle.field.proofs.Primality.{P-prime, P-above}
 use Rattle.field.proofs.Elements.{elem-elem}
 use Rattle.field.proofs.Answers.{infix-element, opposite-element}
@@ -284,11 +283,11 @@ module _ (B : ℕ → Bool) (N : ℕ) (beyond : (x : ℕ) → N ≤ x → B x �
       let d = defined-back ev r s u v e in
       new-definition lo r.0 d.tree s u v d.id d.value d.drawn d.next d.bindings d.provers d.definitions d.equations c d.is h
 
-  answered_shape : (ev : Expr → Run Expr) (lo : ℕ) (w : Answer) (s u : State) (v : Expr) → ((z : ℤ) → w ≡ Value z → elem P z ≡ z) → answered ev w s ≡ gives v u
+  answered_shape : (ev : Expr → Run Expr) (lo : ℕ) (w : Answer) (s u : State) (v : Expr) → ((z : ℤ) → w ≡ Some z → elem P z ≡ z) → answered ev w s ≡ gives v u
       → Tidy lo s → Shape lo s u v
   unfolding answered refuse
-  answered_shape ev lo Nothing s u v h e c = absurd (refused-gives 17 v u e)
-  answered_shape ev lo (Value n) s u v h e c =
+  answered_shape ev lo None s u v h e c = absurd (refused-gives 17 v u e)
+  answered_shape ev lo (Some n) s u v h e c =
       then-case (make 1) _ s v u e λ x w first second.
       let b = return_back (constant n) v w u second in
       renamed b.value (counted (same_by (make_same 1 s x w first) b.state) c (of_constant (h n refl)))

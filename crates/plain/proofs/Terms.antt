@@ -8,8 +8,8 @@ use native.Mathlib.Nat.{le_trans}
 use native.Mathlib.Omega.{arith}
 use lib.IntN.{ℤ}
 use lib.Dec.{eqb}
-use Rattle.field.specs.declared.Answer.{Answer}
-use Rattle.field.specs.declared.Answer.TheVariants.{Value, Nothing}
+use Rattle.field.specs.Operations.{Answer}
+use Rattle.std.specs.Prelude.{Some, None}
 use Rattle.field.specs.declared.InfixOp.{InfixOp}
 use Rattle.field.specs.Prime.{P}
 use Rattle.field.specs.Element.{elem}
@@ -44,7 +44,7 @@ abbrev pub now : Assignment → State → Table
 now t s = table (run t s.definitions)
 
 -- all of it elements
-flat-element : (σ : Assignment) → Elements σ → (f : Flat) (z : ℤ) → value σ f ≡ Value z → elem P z ≡ z
+flat-element : (σ : Assignment) → Elements σ → (f : Flat) (z : ℤ) → value σ f ≡ Some z → elem P z ≡ z
 unfolding value
 flat-element σ c (Flat.infixed o a b) z h = let w = values-back o (value σ a) (value σ b) z h in infix-element P P-prime o w.x w.y z w.result
 flat-element σ c (Flat.negate a) z h =
@@ -53,10 +53,10 @@ flat-element σ c (Flat.negate a) z h =
 flat-element σ c (Flat.constant n) z h = element-path _ z (value-path _ z h) (elem-elem P P-above n)
 flat-element σ c (Flat.variable v) z h = element-path _ z (value-path _ z h) (c v)
 
-pub or-zero-element : (a : Answer) → ((z : ℤ) → a ≡ Value z → elem P z ≡ z) → elem P (or_zero a) ≡ or_zero a
+pub or-zero-element : (a : Answer) → ((z : ℤ) → a ≡ Some z → elem P z ≡ z) → elem P (or_zero a) ≡ or_zero a
 unfolding or_zero
-or-zero-element Nothing h = zero-element
-or-zero-element (Value z) h = h z refl
+or-zero-element None h = zero-element
+or-zero-element (Some z) h = h z refl
 
 pub update-elements : (σ : Assignment) → Elements σ → (i : ℕ) (f : Flat) → Elements (update σ i (or_zero (value σ f)))
 unfolding update
@@ -113,7 +113,7 @@ module _ {B : ℕ → Bool} where
   pub term-value : {n : ℕ} {e : Expr} (σ υ : Assignment) → ((x : ℕ) → B x ≡ false → x < n → υ x ≡ σ x) → Term B n e → value_of (table υ) e ≡ value_of (table σ) e
   unfolding value_of
   term-value σ υ h (of_constant c) = refl
-  term-value σ υ h (of_variable {x = x} f l) = ap Value (h x f l)
+  term-value σ υ h (of_variable {x = x} f l) = ap Some (h x f l)
   term-value σ υ h (of_negate nc a) = ap negated (term-value σ υ h a)
 
   pub infix-scoped : {n : ℕ} {Γ : List ℕ} {a b : Expr} (o : InfixOp) → is_arithmetic o ≡ true → Scoped B n Γ a → Scoped B n Γ b
@@ -145,7 +145,7 @@ module _ (B : ℕ → Bool) (N : ℕ) (t : Assignment) where
     pub core : Core u
     pub bindings : SameBindings s u
     pub term : Term B u.next v
-    pub value : value_of (now t u) v ≡ Value z
+    pub value : value_of (now t u) v ≡ Some z
 
   -- the bound id x stands for a term with the value that the table has
   pub record Stands (τ : Table) (s : State) (x : ℕ) : Type 0 where
@@ -186,7 +186,7 @@ module _ (B : ℕ → Bool) (N : ℕ) (t : Assignment) where
   unbound-same h f = record { free = λ x b. h.at x ∙ f.free x b }
 
   -- a term's meaning stays
-  pub kept-value : {s u : State} {e : Expr} {z : ℤ} → Grew s u → Term B s.next e → value_of (now t s) e ≡ Value z → value_of (now t u) e ≡ Value z
+  pub kept-value : {s u : State} {e : Expr} {z : ℤ} → Grew s u → Term B s.next e → value_of (now t s) e ≡ Some z → value_of (now t u) e ≡ Some z
   kept-value {s} {u} g m v = term-value (run t s.definitions) (run t u.definitions) g.kept m ∙ v
 
   pub agree-kept : {k : ℕ} {Γ : List ℕ} {τ : Table} {s u : State} → k ≤ s.next → s.next ≤ u.next
@@ -200,14 +200,14 @@ module _ (B : ℕ → Bool) (N : ℕ) (t : Assignment) where
           term = term_up n w.term;
           value = term-value (run t s.definitions) (run t u.definitions) g w.term ∙ w.value;
         };
-    free = λ x f l. ap Value (g x f (le_trans l h)) ∙ a.free x f l;
+    free = λ x f l. ap Some (g x f (le_trans l h)) ∙ a.free x f l;
   }
 
   pub agree-grew : {k : ℕ} {Γ : List ℕ} {τ : Table} {s u : State} → k ≤ s.next → Grew s u → SameBindings s u → Agree k Γ τ s → Agree k Γ τ u
   agree-grew h g b a = agree-kept h g.next g.kept b a
 
   -- nothing happened but counting
-  pub counted : {s u : State} {v : Expr} {z : ℤ} → Same s u → Core s → Term B s.next v → value_of (now t s) v ≡ Value z → Result s u v z
+  pub counted : {s u : State} {v : Expr} {z : ℤ} → Same s u → Core s → Term B s.next v → value_of (now t s) v ≡ Some z → Result s u v z
   counted {s} {u} h c m e = record {
     grew = same-grew h;
     core = same-core h c;

@@ -7,13 +7,12 @@ use native.Mathlib.Omega.{arith}
 use lib.IntN.{ℤ, pos, negsuc}
 use lib.Dec.{eqb}
 use borrow.Author.Tests.{eq-eqb, ne_eqb, eqb-true}
-use Rattle.field.specs.declared.Answer.{Answer}
-use Rattle.field.specs.declared.Answer.TheVariants.{Value, Nothing}
+use Rattle.std.specs.Prelude.{Some, None}
 use Rattle.field.specs.declared.InfixOp.{InfixOp}
 use Rattle.field.specs.declared.InfixOp.TheVariants.{Divide, DivideZ, Multiply, Add, Subtract, Equal, Exponentiate, IntDivide, Modulo}
 use Rattle.field.specs.Prime.{P}
 use Rattle.field.specs.Element.{elem}
-use Rattle.field.specs.Operations.{opposite, infix_of}
+use Rattle.field.specs.Operations.{opposite, infix_of, Answer}
 use Rattle.field.proofs.Primality.{P-prime, P-above}
 use Rattle.field.proofs.Elements.{elem-elem}
 use Rattle.field.proofs.Answers.{value-path, nothing-value, infix-element, opposite-element}
@@ -31,45 +30,45 @@ pub false-true : false ≡ true → ⊥
 false-true e = let o : ◌≡◌ {A = ℕ} 0 1 = cc in omega arith
 
 -- a value through an operation, and back
-pub on_values_lem : (o : InfixOp) (u v : Answer) (x y : ℤ) → u ≡ Value x → v ≡ Value y → on_values o u v ≡ infix_of P o x y
+pub on_values_lem : (o : InfixOp) (u v : Answer) (x y : ℤ) → u ≡ Some x → v ≡ Some y → on_values o u v ≡ infix_of P o x y
 unfolding on_values
 on_values_lem o u v x y p q = ap₂ (on_values o) p q
 
-pub negated-value : (u : Answer) (x : ℤ) → u ≡ Value x → negated u ≡ Value (opposite P x)
+pub negated-value : (u : Answer) (x : ℤ) → u ≡ Some x → negated u ≡ Some (opposite P x)
 unfolding negated
 negated-value u x p = ap negated p
 
-pub through-value : (u : Answer) (f : ℤ → Answer) (x : ℤ) → u ≡ Value x → through u f ≡ f x
+pub through-value : (u : Answer) (f : ℤ → Answer) (x : ℤ) → u ≡ Some x → through u f ≡ f x
 unfolding through
 through-value u f x p = ap (λ (u : Answer). through u f) p
 
 pub record One (u : Answer) (f : ℤ → Answer) (z : ℤ) : Type 0 where
   pub at : ℤ
-  pub arg : u ≡ Value at
-  pub result : f at ≡ Value z
+  pub arg : u ≡ Some at
+  pub result : f at ≡ Some z
 
-pub through-back : (u : Answer) (f : ℤ → Answer) (z : ℤ) → through u f ≡ Value z → One u f z
+pub through-back : (u : Answer) (f : ℤ → Answer) (z : ℤ) → through u f ≡ Some z → One u f z
 unfolding through
-through-back Nothing f z e = absurd (nothing-value z e)
-through-back (Value x) f z e = record { at = x; arg = refl; result = e }
+through-back None f z e = absurd (nothing-value z e)
+through-back (Some x) f z e = record { at = x; arg = refl; result = e }
 
-pub negated_back : (u : Answer) (z : ℤ) → negated u ≡ Value z → One u (λ x. Value (opposite P x)) z
+pub negated_back : (u : Answer) (z : ℤ) → negated u ≡ Some z → One u (λ x. Some (opposite P x)) z
 unfolding negated
-negated_back Nothing z e = absurd (nothing-value z e)
-negated_back (Value x) z e = record { at = x; arg = refl; result = e }
+negated_back None z e = absurd (nothing-value z e)
+negated_back (Some x) z e = record { at = x; arg = refl; result = e }
 
 pub record Two (o : InfixOp) (u v : Answer) (z : ℤ) : Type 0 where
   pub x : ℤ
   pub y : ℤ
-  pub first : u ≡ Value x
-  pub second : v ≡ Value y
-  pub result : infix_of P o x y ≡ Value z
+  pub first : u ≡ Some x
+  pub second : v ≡ Some y
+  pub result : infix_of P o x y ≡ Some z
 
-pub values-back : (o : InfixOp) (u v : Answer) (z : ℤ) → on_values o u v ≡ Value z → Two o u v z
+pub values-back : (o : InfixOp) (u v : Answer) (z : ℤ) → on_values o u v ≡ Some z → Two o u v z
 unfolding on_values
-values-back o Nothing v z e = absurd (nothing-value z e)
-values-back o (Value x) Nothing z e = absurd (nothing-value z e)
-values-back o (Value x) (Value y) z e = record { x = x; y = y; first = refl; second = refl; result = e }
+values-back o None v z e = absurd (nothing-value z e)
+values-back o (Some x) None z e = absurd (nothing-value z e)
+values-back o (Some x) (Some y) z e = record { x = x; y = y; first = refl; second = refl; result = e }
 
 -- tables: x written over, all values elements, the values of ids
 abbrev pub writing : ℕ → Answer → Table → Table
@@ -84,20 +83,20 @@ unfolding update
 update_other f x v y n = ap (λ (c : Bool). cond c v (f y)) (ne_eqb y x n)
 
 abbrev pub Canonical : Table → Type 0
-Canonical t = (x : ℕ) (z : ℤ) → t x ≡ Value z → elem P z ≡ z
+Canonical t = (x : ℕ) (z : ℤ) → t x ≡ Some z → elem P z ≡ z
 
 pub element-path : (x z : ℤ) → x ≡ z → elem P x ≡ x → elem P z ≡ z
 element-path x z e c = subst (λ (y : ℤ). elem P y ≡ y) e c
 
-pub writing-canonical : (x : ℕ) (v : Answer) (t : Table) → Canonical t → ((z : ℤ) → v ≡ Value z → elem P z ≡ z) → Canonical (writing x v t)
+pub writing-canonical : (x : ℕ) (v : Answer) (t : Table) → Canonical t → ((z : ℤ) → v ≡ Some z → elem P z ≡ z) → Canonical (writing x v t)
 unfolding update
 writing-canonical x v t c h y z e = go (eqb y x) e
   where
-    go : (b : Bool) → cond b v (t y) ≡ Value z → elem P z ≡ z
+    go : (b : Bool) → cond b v (t y) ≡ Some z → elem P z ≡ z
     go true e = h z e
     go false e = c y z e
 
-write-canonical : (p : Pat) (v : Answer) (t : Table) → Canonical t → ((z : ℤ) → v ≡ Value z → elem P z ≡ z) → Canonical (write p v t)
+write-canonical : (p : Pat) (v : Answer) (t : Table) → Canonical t → ((z : ℤ) → v ≡ Some z → elem P z ≡ z) → Canonical (write p v t)
 unfolding write
 write-canonical (variable_p x) v t c h = writing-canonical x v t c h
 write-canonical unit_p v t c h = c
@@ -107,16 +106,16 @@ write-canonical (product_p p q) v t c h = c
 write-canonical (cons_p p q) v t c h = c
 write-canonical (constant_p n) v t c h = c
 
-pub value-element : (e : Expr) (t : Table) → Canonical t → (z : ℤ) → value_of t e ≡ Value z → elem P z ≡ z
+pub value-element : (e : Expr) (t : Table) → Canonical t → (z : ℤ) → value_of t e ≡ Some z → elem P z ≡ z
 unfolding value_of
 value-element (constant n) t c z h = element-path _ z (value-path _ z h) (elem-elem P P-above n)
 value-element (variable x) t c z h = c x z h
 value-element (negate a) t c z h = let w = negated_back (value_of t a) z h in element-path _ z (value-path _ z w.result) (opposite-element P P-prime w.at)
 value-element (binary o a b) t c z h = let w = values-back o (value_of t a) (value_of t b) z h in infix-element P P-prime o w.x w.y z w.result
 value-element (letting p v b) t c z h =
-    let w = through-back (value_of t v) (λ y. value_of (write p (Value y) t) b) z h in
-    value-element b (write p (Value w.at) t)
-    (write-canonical p (Value w.at) t c (λ y e. element-path _ y (value-path _ y e) (value-element v t c w.at w.arg))) z w.result
+    let w = through-back (value_of t v) (λ y. value_of (write p (Some y) t) b) z h in
+    value-element b (write p (Some w.at) t)
+    (write-canonical p (Some w.at) t c (λ y e. element-path _ y (value-path _ y e) (value-element v t c w.at w.arg))) z w.result
 value-element unit t c z h = absurd (nothing-value z h)
 value-element nil t c z h = absurd (nothing-value z h)
 value-element (sequence is) t c z h = absurd (nothing-value z h)
@@ -129,7 +128,7 @@ value-element (matching v arms) t c z h = absurd (nothing-value z h)
 
 -- the table of an assignment, and the flat expression of a number under it
 abbrev pub table : Assignment → Table
-table σ = λ i. Value (σ i)
+table σ = λ i. Some (σ i)
 
 pub some-path : (a b : Flat) → some a ≡ some b → a ≡ b
 some-path a b e = cc
@@ -173,7 +172,7 @@ unfolding is_pos
 is_pos_lem k (pos n) e = ap pos (eqb-true n k e)
 is_pos_lem k (negsuc n) e = absurd (false-true e)
 
-constant-value : (t : Table) (k : ℕ) (e : Expr) (y : ℤ) → is_constant k e ≡ true → value_of t e ≡ Value y → y ≡ elem P (pos k)
+constant-value : (t : Table) (k : ℕ) (e : Expr) (y : ℤ) → is_constant k e ≡ true → value_of t e ≡ Some y → y ≡ elem P (pos k)
 unfolding is_constant on_constant value_of
 constant-value t k (constant n) y c h = sym (value-path _ _ h) ∙ ap (elem P) (is_pos_lem k n c)
 constant-value t k (variable i) y c h = absurd (false-true c)
@@ -190,32 +189,32 @@ constant-value t k (function ps b env) y c h = absurd (false-true c)
 constant-value t k (intrinsic w i ps env) y c h = absurd (false-true c)
 constant-value t k (matching v arms) y c h = absurd (false-true c)
 
-is_one : (t : Table) (e : Expr) (y : ℤ) → is_constant 1 e ≡ true → value_of t e ≡ Value y → y ≡ pos 1
+is_one : (t : Table) (e : Expr) (y : ℤ) → is_constant 1 e ≡ true → value_of t e ≡ Some y → y ≡ pos 1
 is_one t e y c h = constant-value t 1 e y c h ∙ one-element
 
-is_zero : (t : Table) (e : Expr) (y : ℤ) → is_constant 0 e ≡ true → value_of t e ≡ Value y → y ≡ pos 0
+is_zero : (t : Table) (e : Expr) (y : ℤ) → is_constant 0 e ≡ true → value_of t e ≡ Some y → y ≡ pos 0
 is_zero t e y c h = constant-value t 0 e y c h ∙ zero-element
 
 pub cond-case : (c : Bool) (u v : Expr × ℕ) (Q : Expr → Type 0) → (c ≡ true → Q u.0) → (c ≡ false → Q v.0) → Q (cond c u v).0
 cond-case true u v Q f g = f refl
 cond-case false u v Q f g = g refl
 
-pub binary-value : (t : Table) (o : InfixOp) (a b : Expr) (x y z : ℤ) → value_of t a ≡ Value x → value_of t b ≡ Value y → infix_of P o x y ≡ Value z
-    → value_of t (binary o a b) ≡ Value z
+pub binary-value : (t : Table) (o : InfixOp) (a b : Expr) (x y z : ℤ) → value_of t a ≡ Some x → value_of t b ≡ Some y → infix_of P o x y ≡ Some z
+    → value_of t (binary o a b) ≡ Some z
 unfolding value_of
 binary-value t o a b x y z p q e = on_values_lem o (value_of t a) (value_of t b) x y p q ∙ e
 
 -- infix_op keeps the value
-module _ (t : Table) (a b : Expr) (x y z : ℤ) (p : value_of t a ≡ Value x) (q : value_of t b ≡ Value y) (cx : elem P x ≡ x) (cy : elem P y ≡ y) where
+module _ (t : Table) (a b : Expr) (x y z : ℤ) (p : value_of t a ≡ Some x) (q : value_of t b ≡ Some y) (cx : elem P x ≡ x) (cy : elem P y ≡ y) where
   Q : Expr → Type 0
-  Q e = value_of t e ≡ Value z
+  Q e = value_of t e ≡ Some z
 
   -- a side is handed on whose element the operation answers
-  on-left : (o : InfixOp) (w : Answer) → infix_of P o x y ≡ Value z → infix_of P o x y ≡ w → w ≡ Value (elem P x) → value_of t a ≡ Value z
-  on-left o w e f g = p ∙ ap Value (sym cx) ∙ sym g ∙ sym f ∙ e
+  on-left : (o : InfixOp) (w : Answer) → infix_of P o x y ≡ Some z → infix_of P o x y ≡ w → w ≡ Some (elem P x) → value_of t a ≡ Some z
+  on-left o w e f g = p ∙ ap Some (sym cx) ∙ sym g ∙ sym f ∙ e
 
-  on-right : (o : InfixOp) (w : Answer) → infix_of P o x y ≡ Value z → infix_of P o x y ≡ w → w ≡ Value (elem P y) → value_of t b ≡ Value z
-  on-right o w e f g = q ∙ ap Value (sym cy) ∙ sym g ∙ sym f ∙ e
+  on-right : (o : InfixOp) (w : Answer) → infix_of P o x y ≡ Some z → infix_of P o x y ≡ w → w ≡ Some (elem P y) → value_of t b ≡ Some z
+  on-right o w e f g = q ∙ ap Some (sym cy) ∙ sym g ∙ sym f ∙ e
 
   at_left : (o : InfixOp) (k : ℤ) → x ≡ k → infix_of P o x y ≡ infix_of P o k y
   at_left o k e = ap (λ (w : ℤ). infix_of P o w y) e
@@ -224,13 +223,13 @@ module _ (t : Table) (a b : Expr) (x y z : ℤ) (p : value_of t a ≡ Value x) (
   at_right o k e = ap (infix_of P o x) e
 
   -- 0, on either side
-  zero_left : x ≡ pos 0 → Value (pos 0) ≡ Value (elem P x)
-  zero_left e = ap Value (sym zero-element ∙ ap (elem P) (sym e))
+  zero_left : x ≡ pos 0 → Some (pos 0) ≡ Some (elem P x)
+  zero_left e = ap Some (sym zero-element ∙ ap (elem P) (sym e))
 
-  zero_right : y ≡ pos 0 → Value (pos 0) ≡ Value (elem P y)
-  zero_right e = ap Value (sym zero-element ∙ ap (elem P) (sym e))
+  zero_right : y ≡ pos 0 → Some (pos 0) ≡ Some (elem P y)
+  zero_right e = ap Some (sym zero-element ∙ ap (elem P) (sym e))
 
-  pub infix-value : (o : InfixOp) → infix_of P o x y ≡ Value z → value_of t (infix_op o a b).0 ≡ Value z
+  pub infix-value : (o : InfixOp) → infix_of P o x y ≡ Some z → value_of t (infix_op o a b).0 ≡ Some z
   unfolding infix_op Q value_of
   infix-value Multiply e =
       cond-case _ _ _ Q (λ c. on-right Multiply _ e (at_left Multiply (pos 1) (is_one t a x c p)) (one-multiply P P-prime y))
@@ -252,7 +251,7 @@ module _ (t : Table) (a b : Expr) (x y z : ℤ) (p : value_of t a ≡ Value x) (
       cond-case _ _ _ Q (λ c. on-left IntDivide _ e (at_right IntDivide (pos 1) (is_one t b y c q)) (int-divide-one P P-prime x))
       λ _. binary-value t IntDivide a b x y z p q e
   infix-value Modulo e =
-      cond-case _ _ _ Q (λ c. ap Value zero-element ∙ sym (modulo-one P P-prime x) ∙ sym (at_right Modulo (pos 1) (is_one t b y c q)) ∙ e)
+      cond-case _ _ _ Q (λ c. ap Some zero-element ∙ sym (modulo-one P P-prime x) ∙ sym (at_right Modulo (pos 1) (is_one t b y c q)) ∙ e)
       λ _. binary-value t Modulo a b x y z p q e
   infix-value Add e =
       cond-case _ _ _ Q (λ c. on-right Add _ e (at_left Add (pos 0) (is_zero t a x c p)) (zero-add P P-prime y))

@@ -7,12 +7,11 @@ use Prim.Native.Nat.{ℕ}
 use lib.IntN.{ℤ}
 use lib.Dec.{eqb}
 use borrow.Author.Tests.{eqb-false}
-use Rattle.field.specs.declared.Answer.{Answer}
-use Rattle.field.specs.declared.Answer.TheVariants.{Value}
+use Rattle.std.specs.Prelude.{Some}
 use Rattle.field.specs.declared.InfixOp.{InfixOp}
 use Rattle.field.specs.declared.InfixOp.TheVariants.{Divide, DivideZ, Multiply, Add, Subtract, Equal, Exponentiate, IntDivide, Modulo}
 use Rattle.field.specs.Prime.{P}
-use Rattle.field.specs.Operations.{infix_of}
+use Rattle.field.specs.Operations.{infix_of, Answer}
 use Rattle.field.proofs.Primality.{P-prime}
 use Rattle.field.proofs.Values.{zero-value, divide-valued, int-divide-valued, modulo-valued}
 use Rattle.flat.specs.Trees.{Flat, Definition, Equation, defines}
@@ -48,7 +47,7 @@ unfolding value
 same-value σ τ (Flat.infixed o a b) h = ap₂ (on_values o) (same-value σ τ a h.0) (same-value σ τ b h.1)
 same-value σ τ (Flat.negate a) h = ap negated (same-value σ τ a h)
 same-value σ τ (Flat.constant c) h = refl
-same-value σ τ (Flat.variable v) h = ap Value h
+same-value σ τ (Flat.variable v) h = ap Some h
 
 kept-value : (ds : List Definition) (ρ : Assignment) (f : Flat) → Every (λ v. defines ds v ≡ false) f → Every (λ v. worked_out ds ρ v ≡ ρ v) f
 kept-value ds ρ (Flat.infixed o a b) h = (kept-value ds ρ a h.0, kept-value ds ρ b h.1)
@@ -62,12 +61,12 @@ definitions-hold [] ρ o w = tt
 definitions-hold (d ∷ ds) ρ o w = (
   same-value (worked_out (d ∷ ds) ρ) ρ d.right (kept-value (d ∷ ds) ρ d.right o.1)
       ∙ w.0.1
-      ∙ ap Value (sym (worked-keeps ds _ d.id o.0 ∙ update_same ρ d.id _ ∙ ap or_zero w.0.1)),
+      ∙ ap Some (sym (worked-keeps ds _ d.id o.0 ∙ update_same ρ d.id _ ∙ ap or_zero w.0.1)),
   definitions-hold ds _ o.2 w.1,
 )
 
 -- a division with a value has a divisor that is not zero
-pub divisor-not-zero : (o : InfixOp) (x y z : ℤ) → infix_of P o x y ≡ Value z → DivisorNotZero o (Value y)
+pub divisor-not-zero : (o : InfixOp) (x y z : ℤ) → infix_of P o x y ≡ Some z → DivisorNotZero o (Some y)
 divisor-not-zero Divide x y z h = λ e. (divide-valued P P-prime x y).0 (z, h) (zero-value P P-prime y e)
 divisor-not-zero DivideZ x y z h = tt
 divisor-not-zero Multiply x y z h = tt
@@ -78,10 +77,10 @@ divisor-not-zero Exponentiate x y z h = tt
 divisor-not-zero IntDivide x y z h = λ e. (int-divide-valued P P-prime x y).0 (z, h) (zero-value P P-prime y e)
 divisor-not-zero Modulo x y z h = λ e. (modulo-valued P P-prime x y).0 (z, h) (zero-value P P-prime y e)
 
-divisor-of : (o : InfixOp) (v : Answer) (y : ℤ) → v ≡ Value y → DivisorNotZero o (Value y) → DivisorNotZero o v
+divisor-of : (o : InfixOp) (v : Answer) (y : ℤ) → v ≡ Some y → DivisorNotZero o (Some y) → DivisorNotZero o v
 divisor-of o v y e h = subst (DivisorNotZero o) (sym e) h
 
-no_zero : (σ : Assignment) (f : Flat) (z : ℤ) → value σ f ≡ Value z → NoZeroDivisor σ f
+no_zero : (σ : Assignment) (f : Flat) (z : ℤ) → value σ f ≡ Some z → NoZeroDivisor σ f
 unfolding value
 no_zero σ (Flat.infixed o a b) z h =
     let w = values-back o (value σ a) (value σ b) z h in (

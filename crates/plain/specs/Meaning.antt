@@ -1,7 +1,6 @@
 -- What a plain module says, "worked out from the top": a table of names, the values of expressions, when no divisor is zero, when the equations hold.
-use Rattle.std.specs.Prelude.{◌≡◌, List, [], ◌∷◌, ℕ, ℤ, pos, negsuc}
-use Rattle.field.specs.declared.Answer.{Answer}
-use Rattle.field.specs.declared.Answer.TheVariants.{Value, Nothing}
+use Rattle.std.specs.Prelude.{◌≡◌, List, [], ◌∷◌, ℕ, ℤ, pos, negsuc, Some, None}
+use Rattle.field.specs.Operations.{Answer}
 use Rattle.field.specs.declared.InfixOp.{InfixOp}
 use Rattle.field.specs.declared.InfixOp.TheVariants.{Divide, DivideZ, Multiply, Add, Subtract, Equal, Exponentiate, IntDivide, Modulo}
 use Rattle.field.specs.Prime.{P}
@@ -12,7 +11,7 @@ use Rattle.source.specs.Forms.{on_infix, on_variable_p}
 use Rattle.flat.specs.Rules.{All}
 use Rattle.flat.specs.Meaning.{update, on_values, negated, DivisorNotZero}
 
--- an entry, as a value, is Nothing where an operation had no value
+-- an entry, as a value, is None where an operation had no value
 abbrev pub Table : Type 0
 Table = ℕ → Answer
 
@@ -23,26 +22,26 @@ write p v t = on_variable_p p (λ x. update t x v) t
 
 -- what follows a value; nothing follows nothing
 unfoldable pub through : Answer → (ℤ → Answer) → Answer
-through Nothing f = Nothing
-through (Value z) f = f z
+through None f = None
+through (Some z) f = f z
 
 -- "A constant is its element, a variable what the table says; negation and infix are the field's, on their sides' values. A let writes its
 -- value for its body only". No other expression stands in a plain module
 unfoldable pub value_of : Table → Expr → Answer
-value_of t (constant n) = Value (elem P n)
+value_of t (constant n) = Some (elem P n)
 value_of t (variable x) = t x
 value_of t (negate a) = negated (value_of t a)
 value_of t (binary o a b) = on_values o (value_of t a) (value_of t b)
-value_of t (letting p v b) = through (value_of t v) (λ z. value_of (write p (Value z) t) b)
-value_of t unit = Nothing
-value_of t nil = Nothing
-value_of t (sequence is) = Nothing
-value_of t (product a b) = Nothing
-value_of t (cons a b) = Nothing
-value_of t (application a b) = Nothing
-value_of t (function ps b env) = Nothing
-value_of t (intrinsic w k ps env) = Nothing
-value_of t (matching v arms) = Nothing
+value_of t (letting p v b) = through (value_of t v) (λ z. value_of (write p (Some z) t) b)
+value_of t unit = None
+value_of t nil = None
+value_of t (sequence is) = None
+value_of t (product a b) = None
+value_of t (cons a b) = None
+value_of t (application a b) = None
+value_of t (function ps b env) = None
+value_of t (intrinsic w k ps env) = None
+value_of t (matching v arms) = None
 
 -- "Each definition in order has its value read, then written"
 unfoldable pub defined : Table → List (Pat × Expr) → Table
@@ -52,7 +51,7 @@ defined t (d ∷ ds) = defined (write d.0 (value_of t d.1) t) ds
 -- "then the equations are read": the values of both sides of each
 unfoldable pub sides_of : Table → Expr → Answer × Answer
 unfolding on_infix
-sides_of t e = on_infix e (λ o a b. (value_of t a, value_of t b)) (Nothing, Nothing)
+sides_of t e = on_infix e (λ o a b. (value_of t a, value_of t b)) (None, None)
 
 unfoldable pub sides : Table → List Expr → List (Answer × Answer)
 sides t [] = []
@@ -60,12 +59,12 @@ sides t (e ∷ es) = sides_of t e ∷ sides t es
 
 -- "An equation holds when its sides' values are equal"
 abbrev pub Equal-sides : Answer × Answer → Type 0
-Equal-sides s = (z : ℤ) × (s.0 ≡ Value z) × (s.1 ≡ Value z)
+Equal-sides s = (z : ℤ) × (s.0 ≡ Some z) × (s.1 ≡ Some z)
 
 -- "a table of names starts with the inputs' elements": ρ gives each name one. What ρ says of other names is never read (`InputsAlone`,
 -- specs/Statements.antt)
 abbrev pub start : (ℕ → ℤ) → Table
-start ρ = λ x. Value (ρ x)
+start ρ = λ x. Some (ρ x)
 
 abbrev pub Holds : Module → (ℕ → ℤ) → Type 0
 Holds m ρ = All Equal-sides (sides (defined (start ρ) m.definitions) m.expressions)
@@ -79,7 +78,7 @@ NotZeroAt Multiply x y = DivisorNotZero Multiply y
 NotZeroAt Add x y = DivisorNotZero Add y
 NotZeroAt Subtract x y = DivisorNotZero Subtract y
 NotZeroAt Equal x y = DivisorNotZero Equal y
-NotZeroAt Exponentiate x y = (n : ℕ) → y ≡ Value (negsuc n) → x ≡ Value (pos 0) → ⊥
+NotZeroAt Exponentiate x y = (n : ℕ) → y ≡ Some (negsuc n) → x ≡ Some (pos 0) → ⊥
 NotZeroAt IntDivide x y = DivisorNotZero IntDivide y
 NotZeroAt Modulo x y = DivisorNotZero Modulo y
 
@@ -108,7 +107,7 @@ NoDivisorZero m ρ = NotZeroInDefinitions (start ρ) m.definitions × All (NotZe
 
 -- what this condition is for: every definition in its turn, and both sides of every equation, have a value, so that no operation in them has none
 abbrev pub Valued : Answer → Type 0
-Valued v = (z : ℤ) × (v ≡ Value z)
+Valued v = (z : ℤ) × (v ≡ Some z)
 
 abbrev pub DefinitionsValued : Table → List (Pat × Expr) → Type 0
 DefinitionsValued t [] = Unit {0}

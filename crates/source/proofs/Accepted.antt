@@ -7,6 +7,7 @@ use native.Mathlib.Omega.{arith}
 use lib.ListN.{length}
 use lib.Dec.{leb, ltb, eqb}
 use borrow.Author.Tests.{leb-true}
+use Rattle.records.specs.declared.refusals.Refusal.{Refusal}
 use Rattle.source.specs.Trees.{Module}
 use Rattle.source.specs.Layout.{counted, listed, names, publics, definitions, expressions}
 use Rattle.source.specs.Layout.{nodes, publics_offset, definitions_offset, expressions_offset, nodes_offset, text_offset}
@@ -26,11 +27,11 @@ pub record Passed (b : List ℕ) : Type 0 where
   pub shapes : shaped b ≡ true
   pub used-once : used_once b ≡ true
 
-no : {A : Type 0} {m : Module} {n : ℕ} → Read.refused n ≡ Read.module-of m → A
+no : {A : Type 0} {m : Module} {n : Refusal} → Read.refused n ≡ Read.module-of m → A
 no e = let z : ◌≡◌ {A = ℕ} 0 1 = cc in absurd (omega arith)
 
 -- a test that was passed
-pass : (t : Bool) (n : ℕ) (r : Read) (m : Module) → unless t n r ≡ Read.module-of m → (t ≡ true) × (r ≡ Read.module-of m)
+pass : (t : Bool) (n : Refusal) (r : Read) (m : Module) → unless t n r ≡ Read.module-of m → (t ≡ true) × (r ≡ Read.module-of m)
 unfolding unless
 pass true n r m e = (refl, e)
 pass false n r m e = no e
@@ -39,19 +40,19 @@ pub passed : (b : List ℕ) (m : Module) → source_of b ≡ Read.module-of m �
 unfolding source_of
 passed b m q =
     let r7 = Read.module-of (module_of b) in
-    let r6 = unless (used_once b) 6 r7 in
-    let r5 = unless (shaped b) 5 r6 in
-    let r4 = unless (names_differ b (text_offset b) (names b)) 4 r5 in
-    let r3 = unless (names_fit b (text_offset b) (names b)) 3 r4 in
-    let r2 = unless (listed b) 1 r3 in
-    let r1 = unless (counted b) 2 r2 in
-    let p1 = pass (leb 20 (length b)) 1 r1 m q in
-    let p2 = pass (counted b) 2 r2 m p1.1 in
-    let p3 = pass (listed b) 1 r3 m p2.1 in
-    let p4 = pass (names_fit b (text_offset b) (names b)) 3 r4 m p3.1 in
-    let p5 = pass (names_differ b (text_offset b) (names b)) 4 r5 m p4.1 in
-    let p6 = pass (shaped b) 5 r6 m p5.1 in
-    let p7 = pass (used_once b) 6 r7 m p6.1 in
+    let r6 = unless (used_once b) Refusal.Uses r7 in
+    let r5 = unless (shaped b) Refusal.Entry r6 in
+    let r4 = unless (names_differ b (text_offset b) (names b)) Refusal.EqualNames r5 in
+    let r3 = unless (names_fit b (text_offset b) (names b)) Refusal.Name r4 in
+    let r2 = unless (listed b) Refusal.Length r3 in
+    let r1 = unless (counted b) Refusal.Count r2 in
+    let p1 = pass (leb 20 (length b)) Refusal.Length r1 m q in
+    let p2 = pass (counted b) Refusal.Count r2 m p1.1 in
+    let p3 = pass (listed b) Refusal.Length r3 m p2.1 in
+    let p4 = pass (names_fit b (text_offset b) (names b)) Refusal.Name r4 m p3.1 in
+    let p5 = pass (names_differ b (text_offset b) (names b)) Refusal.EqualNames r5 m p4.1 in
+    let p6 = pass (shaped b) Refusal.Entry r6 m p5.1 in
+    let p7 = pass (used_once b) Refusal.Uses r7 m p6.1 in
     let e : Read.module-of (module_of b) ≡ Read.module-of m = p7.1 in
     (record { header = p1.0; counts = p2.0; lists = p3.0; names-fit = p4.0; names-differ = p5.0; shapes = p6.0; used-once = p7.0 }, cc)
 

@@ -1,4 +1,4 @@
--- What a source record is: its module, or the first of the numbers 1 to 6. For a reader with document 01, "Source record" and "Numbers by place of the check",
+-- What a source record is: its module, or the first of the refusals 1 to 6. For a reader with document 01, "Source record" and "Numbers by place of the check",
 -- beside it.
 use Rattle.std.specs.Prelude.{ℕ, zero, suc, ◌+◌, List, [], ◌∷◌, Bool, true, false, ◌&&◌, length, leb, eqb}
 use Rattle.source.specs.declared.Entry.{Entry}
@@ -11,6 +11,7 @@ use Rattle.source.specs.Layout.{public_at, definition_entry, expression_root, co
 use Rattle.source.specs.Names.{names_fit, names_differ, name_of}
 use Rattle.source.specs.Nodes.{entry_of, nodes_fit, publics_fit, definitions_fit, expressions_fit}
 use Rattle.source.specs.Uses.{by_nodes, by_definitions, by_expressions}
+use Rattle.records.specs.declared.refusals.Refusal.{Refusal}
 use Rattle.records.specs.SourceRecord.{NO-LINK}
 
 -- ---- trees
@@ -101,7 +102,7 @@ module_of b = record {
   expressions = rows (expressions b) 0 (expression_at b (nodes_offset b) (nodes b) (expressions_offset b));
 }
 
--- ---- the numbers
+-- ---- the refusals
 
 -- not 5: "nodes by index, then publics, definitions, expressions"
 unfoldable pub shaped : List ℕ → Bool
@@ -119,21 +120,21 @@ used_once b =
 
 pub data Read : Type 0 where
   module-of : Module → Read
-  refused : ℕ → Read
+  refused : Refusal → Read
 
--- the number where a test fails, else what follows
-unfoldable pub unless : Bool → ℕ → Read → Read
+-- the refusal where a test fails, else what follows
+unfoldable pub unless : Bool → Refusal → Read → Read
 unless true n r = r
 unless false n r = Read.refused n
 
 -- in the order of the table
 unfoldable pub source_of : List ℕ → Read
 source_of b =
-    unless (leb 20 (length b)) 1
-    (unless (counted b) 2
-    (unless (listed b) 1
-    (unless (names_fit b (text_offset b) (names b)) 3
-    (unless (names_differ b (text_offset b) (names b)) 4
-    (unless (shaped b) 5
-    (unless (used_once b) 6
+    unless (leb 20 (length b)) Refusal.Length
+    (unless (counted b) Refusal.Count
+    (unless (listed b) Refusal.Length
+    (unless (names_fit b (text_offset b) (names b)) Refusal.Name
+    (unless (names_differ b (text_offset b) (names b)) Refusal.EqualNames
+    (unless (shaped b) Refusal.Entry
+    (unless (used_once b) Refusal.Uses
     (Read.module-of (module_of b))))))))

@@ -15,8 +15,9 @@ use Rattle.source.specs.Nodes.{nodes_fit, publics_fit, definitions_fit, expressi
 use Rattle.source.specs.Uses.{by_nodes, by_definitions, by_expressions}
 use Rattle.source.specs.Record.{shaped, used_once, unless, source_of}
 use Rattle.source.proofs.Laws.{and_left, and_right}
-use Rattle.source_check.specs.declared.Checked.{Checked}
-use Rattle.source_check.specs.Answer.{checked}
+use Rattle.std.specs.Prelude.{Ok, Err}
+use Rattle.records.specs.declared.refusals.Refusal.{Refusal}
+use Rattle.source_check.specs.Answer.{Checked, checked}
 use Rattle.source_check.specs.Marks.{verdict, outcome, Adds, no_marks}
 use Rattle.source_check.proofs.Marks.{accepted, refused, adds-more, counted-once}
 use Rattle.records.specs.SourceRecord.{HEADER}
@@ -39,31 +40,31 @@ room b size e h = rw e (room_of b size (rw e at h))
 
 -- ---- 5 and 6
 
-module _ (b : List ℕ) {l : Layout} (e : l ≡ layout_of b) {r1 : Checked} (p1 : r1 ≡ verdict 5 (nodes_fit b l.nodes_at l.names l.nodes)) where
-  pub trees-nodes : {n : ℕ} → r1 ≡ Checked.Refused n → Checked.Refused 5 ≡ outcome (shaped b) (used_once b)
+module _ (b : List ℕ) {l : Layout} (e : l ≡ layout_of b) {r1 : Checked} (p1 : r1 ≡ verdict Refusal.Entry (nodes_fit b l.nodes_at l.names l.nodes)) where
+  pub trees-nodes : {n : Refusal} → r1 ≡ Err n → Err Refusal.Entry ≡ outcome (shaped b) (used_once b)
   unfolding shaped outcome layout_of
-  trees-nodes f = rw (rw e at (refused 5 _ p1 f))
+  trees-nodes f = rw (rw e at (refused Refusal.Entry _ p1 f))
 
-  module _ {r2 : Checked} (a1 : r1 ≡ Checked.Accepted) (p2 : r2 ≡ verdict 5 (publics_fit b l.names l.publics_at l.publics)) where
-    pub trees-publics : {n : ℕ} → r2 ≡ Checked.Refused n → Checked.Refused 5 ≡ outcome (shaped b) (used_once b)
+  module _ {r2 : Checked} (a1 : r1 ≡ Ok tt) (p2 : r2 ≡ verdict Refusal.Entry (publics_fit b l.names l.publics_at l.publics)) where
+    pub trees-publics : {n : Refusal} → r2 ≡ Err n → Err Refusal.Entry ≡ outcome (shaped b) (used_once b)
     unfolding shaped outcome layout_of
-    trees-publics f = rw (rw e at (accepted 5 _ p1 a1), rw e at (refused 5 _ p2 f))
+    trees-publics f = rw (rw e at (accepted Refusal.Entry _ p1 a1), rw e at (refused Refusal.Entry _ p2 f))
 
-    module _ {r3 : Checked} (a2 : r2 ≡ Checked.Accepted)
-        (p3 : r3 ≡ verdict 5 (definitions_fit b l.nodes_at l.nodes l.definitions_at l.definitions)) where
-      pub trees-definitions : {n : ℕ} → r3 ≡ Checked.Refused n → Checked.Refused 5 ≡ outcome (shaped b) (used_once b)
+    module _ {r3 : Checked} (a2 : r2 ≡ Ok tt)
+        (p3 : r3 ≡ verdict Refusal.Entry (definitions_fit b l.nodes_at l.nodes l.definitions_at l.definitions)) where
+      pub trees-definitions : {n : Refusal} → r3 ≡ Err n → Err Refusal.Entry ≡ outcome (shaped b) (used_once b)
       unfolding shaped outcome layout_of
-      trees-definitions f = rw (rw e at (accepted 5 _ p1 a1), rw e at (accepted 5 _ p2 a2), rw e at (refused 5 _ p3 f))
+      trees-definitions f = rw (rw e at (accepted Refusal.Entry _ p1 a1), rw e at (accepted Refusal.Entry _ p2 a2), rw e at (refused Refusal.Entry _ p3 f))
 
-      module _ {r4 : Checked} (a3 : r3 ≡ Checked.Accepted)
-          (p4 : r4 ≡ verdict 5 (expressions_fit b l.nodes_at l.nodes l.expressions_at l.expressions)) where
-        pub trees-expressions : {n : ℕ} → r4 ≡ Checked.Refused n → Checked.Refused 5 ≡ outcome (shaped b) (used_once b)
+      module _ {r4 : Checked} (a3 : r3 ≡ Ok tt)
+          (p4 : r4 ≡ verdict Refusal.Entry (expressions_fit b l.nodes_at l.nodes l.expressions_at l.expressions)) where
+        pub trees-expressions : {n : Refusal} → r4 ≡ Err n → Err Refusal.Entry ≡ outcome (shaped b) (used_once b)
         unfolding shaped outcome layout_of
-        trees-expressions f = rw (rw e at (accepted 5 _ p1 a1), rw e at (accepted 5 _ p2 a2), rw e at (accepted 5 _ p3 a3), rw e at (refused 5 _ p4 f))
+        trees-expressions f = rw (rw e at (accepted Refusal.Entry _ p1 a1), rw e at (accepted Refusal.Entry _ p2 a2), rw e at (accepted Refusal.Entry _ p3 a3), rw e at (refused Refusal.Entry _ p4 f))
 
-        pub trees-shaped : r4 ≡ Checked.Accepted → shaped b ≡ true
+        pub trees-shaped : r4 ≡ Ok tt → shaped b ≡ true
         unfolding shaped layout_of
-        trees-shaped a4 = rw (rw e at (accepted 5 _ p1 a1), rw e at (accepted 5 _ p2 a2), rw e at (accepted 5 _ p3 a3), rw e at (accepted 5 _ p4 a4))
+        trees-shaped a4 = rw (rw e at (accepted Refusal.Entry _ p1 a1), rw e at (accepted Refusal.Entry _ p2 a2), rw e at (accepted Refusal.Entry _ p3 a3), rw e at (accepted Refusal.Entry _ p4 a4))
 
 -- the marks, from none to the end's test
 pub trees-marked : (b : List ℕ) {l : Layout} {m m1 m2 m3 : List ℕ} {t : Bool} → l ≡ layout_of b → l.nodes ≤ 2048 → m ≡ no_marks
@@ -76,17 +77,17 @@ trees-marked b {l} e few z u1 u2 u3 q =
     rw e at (q ∙ counted-once l.nodes f few z (adds-more f u1 (adds-more (λ k.
     by_definitions b l.definitions_at l.definitions k + by_expressions b l.expressions_at l.expressions k) u2 u3 (λ k. refl)) (λ k. refl)))
 
-pub trees-once : (b : List ℕ) {t : Bool} → shaped b ≡ true → t ≡ used_once b → t ≡ true → Checked.Accepted ≡ outcome (shaped b) (used_once b)
+pub trees-once : (b : List ℕ) {t : Bool} → shaped b ≡ true → t ≡ used_once b → t ≡ true → Ok tt ≡ outcome (shaped b) (used_once b)
 unfolding outcome verdict
 trees-once b s e h = rw (s, ← e, h)
 
-pub trees-not-once : (b : List ℕ) {t : Bool} → shaped b ≡ true → t ≡ used_once b → t ≡ false → Checked.Refused 6 ≡ outcome (shaped b) (used_once b)
+pub trees-not-once : (b : List ℕ) {t : Bool} → shaped b ≡ true → t ≡ used_once b → t ≡ false → Err Refusal.Uses ≡ outcome (shaped b) (used_once b)
 unfolding outcome verdict
 trees-not-once b s e h = rw (s, ← e, h)
 
 -- ---- the numbers in their order
 
-pub is-short : (b : List ℕ) → length b < 20 → Checked.Refused 1 ≡ checked (source_of b)
+pub is-short : (b : List ℕ) → length b < 20 → Err Refusal.Length ≡ checked (source_of b)
 unfolding source_of checked unless
 is-short b h = rw (lt-leb 20 (length b) h)
 
@@ -96,7 +97,7 @@ module _ (b : List ℕ) (long : 20 ≤ length b) {l : Layout} (e : l ≡ layout_
   unfolding counted layout_of
   counts = rw e at c
 
-  pub is-over : t ≡ false → Checked.Refused 2 ≡ checked (source_of b)
+  pub is-over : t ≡ false → Err Refusal.Count ≡ checked (source_of b)
   unfolding source_of checked unless
   is-over f = rw (le-leb 20 (length b) long, sym counts ∙ f)
 
@@ -105,7 +106,7 @@ module _ (b : List ℕ) (long : 20 ≤ length b) {l : Layout} (e : l ≡ layout_
     unfolding listed layout_of
     lists = rw e at c2
 
-    pub is-unlisted : t2 ≡ false → Checked.Refused 1 ≡ checked (source_of b)
+    pub is-unlisted : t2 ≡ false → Err Refusal.Length ≡ checked (source_of b)
     unfolding source_of checked unless
     is-unlisted f = rw (le-leb 20 (length b) long, sym counts ∙ y1, sym lists ∙ f)
 
@@ -114,7 +115,7 @@ module _ (b : List ℕ) (long : 20 ≤ length b) {l : Layout} (e : l ≡ layout_
       unfolding layout_of
       named = rw e at c3
 
-      pub is-unnamed : t3 ≡ false → Checked.Refused 3 ≡ checked (source_of b)
+      pub is-unnamed : t3 ≡ false → Err Refusal.Name ≡ checked (source_of b)
       unfolding source_of checked unless
       is-unnamed f = rw (le-leb 20 (length b) long, sym counts ∙ y1, sym lists ∙ y2, sym named ∙ f)
 
@@ -123,7 +124,7 @@ module _ (b : List ℕ) (long : 20 ≤ length b) {l : Layout} (e : l ≡ layout_
         unfolding layout_of
         differ = rw e at c4
 
-        pub is-equal : t4 ≡ false → Checked.Refused 4 ≡ checked (source_of b)
+        pub is-equal : t4 ≡ false → Err Refusal.EqualNames ≡ checked (source_of b)
         unfolding source_of checked unless
         is-equal f = rw (le-leb 20 (length b) long, sym counts ∙ y1, sym lists ∙ y2, sym named ∙ y3, sym differ ∙ f)
 

@@ -13,7 +13,9 @@ use Rattle.source.specs.Indices.{pick}
 use Rattle.source.specs.Nodes.{entry_of, item_fits, result_fits, link_fits, chain_fits}
 use Rattle.source.specs.Uses.{same, result_uses, link_uses, chain_uses}
 use Rattle.source.proofs.Links.{chain-late, chain-is, uses-is}
-use Rattle.source_check.specs.declared.Checked.{Checked}
+use Rattle.std.specs.Prelude.{Ok, Err}
+use Rattle.records.specs.declared.refusals.Refusal.{Refusal}
+use Rattle.source_check.specs.Answer.{Checked}
 use Rattle.source_check.specs.Marks.{verdict, bump, Adds}
 use Rattle.source_check.proofs.Marks.{accepted, refused, adds-use, adds_none, adds-more, adds_same}
 
@@ -65,14 +67,14 @@ module _ (b : List ℕ) (at : ℕ) (h : Owner) (k first above x : ℕ) (i : chai
       unfolding link_fits
       link-is = i ∙ chain-is b at h above x l ∙ ap (link_fits b at h (chain_fits b at h x) x) (sym q ∙ w)
 
-      pub way-item : {r : Checked} {n : ℕ} → r ≡ verdict 5 (item_fits b at h x item) → r ≡ Checked.Refused n → chain_fits b at h k first ≡ false
-      way-item p f = link-is ∙ rw (refused 5 _ p f)
+      pub way-item : {r : Checked} {n : Refusal} → r ≡ verdict Refusal.Entry (item_fits b at h x item) → r ≡ Err n → chain_fits b at h k first ≡ false
+      way-item p f = link-is ∙ rw (refused Refusal.Entry _ p f)
 
-      module _ {r : Checked} (p1 : r ≡ verdict 5 (item_fits b at h x item)) (a1 : r ≡ Checked.Accepted) where
-        pub way-result : {r2 : Checked} {n : ℕ} → r2 ≡ verdict 5 (result_fits b at h x result) → r2 ≡ Checked.Refused n → chain_fits b at h k first ≡ false
-        way-result p f = link-is ∙ rw (accepted 5 _ p1 a1, refused 5 _ p f)
+      module _ {r : Checked} (p1 : r ≡ verdict Refusal.Entry (item_fits b at h x item)) (a1 : r ≡ Ok tt) where
+        pub way-result : {r2 : Checked} {n : Refusal} → r2 ≡ verdict Refusal.Entry (result_fits b at h x result) → r2 ≡ Err n → chain_fits b at h k first ≡ false
+        way-result p f = link-is ∙ rw (accepted Refusal.Entry _ p1 a1, refused Refusal.Entry _ p f)
 
-        module _ {r2 : Checked} {m₀ m m1 m2 m3 : List ℕ} (p2 : r2 ≡ verdict 5 (result_fits b at h x result)) (a2 : r2 ≡ Checked.Accepted)
+        module _ {r2 : Checked} {m₀ m m1 m2 m3 : List ℕ} (p2 : r2 ≡ verdict Refusal.Entry (result_fits b at h x result)) (a2 : r2 ≡ Ok tt)
             (j : Onward m₀ m (chain_uses b at h k first) (chain_uses b at h above x)) (u1 : m1 ≡ set m x (bump (get_or m x 0))) (u2 : Adds m1 m2 (same item))
             (u3 : Adds m2 m3 (result_uses h result)) where
           used : (y : ℕ)
@@ -86,7 +88,7 @@ module _ (b : List ℕ) (at : ℕ) (h : Owner) (k first above x : ℕ) (i : chai
           pub way_end : next ≡ 4294967295 → (chain_fits b at h k first ≡ true) × Adds m₀ m3 (chain_uses b at h k first)
           unfolding pick
           way_end z = (
-            link-is ∙ rw (accepted 5 _ p1 a1, accepted 5 _ p2 a2, eq-eqb next 4294967295 z),
+            link-is ∙ rw (accepted Refusal.Entry _ p1 a1, accepted Refusal.Entry _ p2 a2, eq-eqb next 4294967295 z),
             j.onward m3
                 (adds_same (chain_uses b at h above x) three (λ y. let v : chain_uses b at h above x y ≡ same x y + (same item y + (result_uses h result y + 0)) =
                 used y ∙ rw (eq-eqb next 4294967295 z) in omega arith)),
@@ -96,7 +98,7 @@ module _ (b : List ℕ) (at : ℕ) (h : Owner) (k first above x : ℕ) (i : chai
               → (chain_fits b at h k first ≡ chain_fits b at h x next) × Onward m₀ m3 (chain_uses b at h k first) (chain_uses b at h x next)
           unfolding pick
           way_on z = (
-            link-is ∙ rw (accepted 5 _ p1 a1, accepted 5 _ p2 a2, ne_eqb next 4294967295 z),
+            link-is ∙ rw (accepted Refusal.Entry _ p1 a1, accepted Refusal.Entry _ p2 a2, ne_eqb next 4294967295 z),
             record {
               onward = λ m' a.
                   j.onward m' (adds-more (chain_uses b at h above x) three a

@@ -14,31 +14,52 @@ use Rattle.source.specs.Indices.{every}
 use Rattle.source.specs.Uses.{same}
 use Rattle.source.proofs.Laws.{alike, every-same}
 use Rattle.source.proofs.Uses.{same-yes, same-no}
-use Rattle.source_check.specs.declared.Checked.{Checked}
+use Rattle.std.specs.Prelude.{Ok, Err}
+use Rattle.std.specs.Result.{IsErrAnd}
+use Rattle.std.proofs.lemmas.Result.{err_from_is_err_and}
+use Rattle.records.specs.declared.refusals.Refusal.{Refusal}
+use Rattle.source_check.specs.Answer.{Checked}
 use Rattle.source_check.specs.Marks.{verdict, capped, bump, Marked, Adds, no_marks}
 
 -- ---- a test's outcome
 
-pub accepts : (n : ℕ) (t : Bool) → t ≡ true → Checked.Accepted ≡ verdict n t
+pub accepts : (n : Refusal) (t : Bool) → t ≡ true → Ok tt ≡ verdict n t
 unfolding verdict
 accepts n t e = rw e
 
-pub refuses : (n : ℕ) (t : Bool) → t ≡ false → Checked.Refused n ≡ verdict n t
+pub refuses : (n : Refusal) (t : Bool) → t ≡ false → Err n ≡ verdict n t
 unfolding verdict
 refuses n t e = rw e
 
-pub accepted : (n : ℕ) (t : Bool) {r : Checked} → r ≡ verdict n t → r ≡ Checked.Accepted → t ≡ true
+pub accepted : (n : Refusal) (t : Bool) {r : Checked} → r ≡ verdict n t → r ≡ Ok tt → t ≡ true
 unfolding verdict
 accepted n true e q = refl
 accepted n false {r} e q = let z : ◌≡◌ {A = ℕ} 0 1 = cc in absurd (omega arith)
 
-pub refused : (n : ℕ) (t : Bool) {r : Checked} {m : ℕ} → r ≡ verdict n t → r ≡ Checked.Refused m → t ≡ false
+pub refused : (n : Refusal) (t : Bool) {r : Checked} {m : Refusal} → r ≡ verdict n t → r ≡ Err m → t ≡ false
 unfolding verdict
 refused n true {r} e q = let z : ◌≡◌ {A = ℕ} 0 1 = cc in absurd (omega arith)
 refused n false e q = refl
 
-pub not-accepted : {A : Type 0} {n : ℕ} → Checked.Refused n ≡ Checked.Accepted → A
+pub not-accepted : {A : Type 0} {n : Refusal} → ◌≡◌ {A = Checked} (Err n) (Ok tt) → A
 not-accepted e = let z : ◌≡◌ {A = ℕ} 0 1 = cc in absurd (omega arith)
+
+-- ---- the exit of a `?`, whose callee refused an entry
+
+refused-entry : (t : Bool) {r : Checked} {n : Refusal} → r ≡ verdict Refusal.Entry t → r ≡ Err n → n ≡ Refusal.Entry
+unfolding verdict
+refused-entry true e q = let z : ◌≡◌ {A = ℕ} 0 1 = cc in absurd (omega arith)
+refused-entry false e q = cc
+
+pub passes-on : (t : Bool) {r v : Checked} {n : Refusal} → v ≡ verdict Refusal.Entry t → v ≡ Err n → IsErrAnd r (λ x. x ≡ n) → r ≡ Err Refusal.Entry
+passes-on t {r} e q h =
+    let p = err_from_is_err_and r h in
+    let z = refused-entry t e q in
+    p.1 ∙ ap (λ (x : Refusal). Err x) (p.2 ∙ z)
+
+pub stops : (t u : Bool) {r v : Checked} {n : Refusal} {A : Type 0} → v ≡ verdict Refusal.Entry t → v ≡ Err n → IsErrAnd r (λ x. x ≡ n) → u ≡ false
+    → (r ≡ verdict Refusal.Entry u) × (r ≡ Ok tt → A)
+stops t u e q h f = let z = passes-on t e q h in (z ∙ refuses Refusal.Entry u f, λ g. not-accepted (sym z ∙ g))
 
 -- ---- one use
 

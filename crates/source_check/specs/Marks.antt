@@ -1,17 +1,18 @@
 -- For the contracts of the reader's private functions: its array of marks, and a test's outcome as an answer.
-use Rattle.std.specs.Prelude.{ℕ, zero, suc, ◌+◌, ◌<◌, ◌≡◌, List, Bool, true, false, length, get_or, replicate}
-use Rattle.source_check.specs.declared.Checked.{Checked}
+use Rattle.std.specs.Prelude.{ℕ, zero, suc, ◌+◌, ◌<◌, ◌≡◌, List, Bool, true, false, length, get_or, replicate, Ok, Err}
+use Rattle.records.specs.declared.refusals.Refusal.{Refusal}
+use Rattle.source_check.specs.Answer.{Checked}
 use Rattle.records.specs.SourceRecord.{NODES}
 
--- accepted where a test holds, else refused with a number
-unfoldable pub verdict : ℕ → Bool → Checked
-verdict n true = Checked.Accepted
-verdict n false = Checked.Refused n
+-- accepted where a test holds, else refused
+unfoldable pub verdict : Refusal → Bool → Checked
+verdict r true = Ok tt
+verdict r false = Err r
 
--- refused 5 where the first test fails, else 6 where the second does
+-- an entry that does not fit where the first test fails, else uses that are not one where the second does
 unfoldable pub outcome : Bool → Bool → Checked
-outcome true once = verdict 6 once
-outcome false once = Checked.Refused 5
+outcome true once = verdict Refusal.Uses once
+outcome false once = Err Refusal.Entry
 
 -- a mark is 0, 1, or 2 for more uses
 unfoldable pub capped : ℕ → ℕ

@@ -12,25 +12,19 @@ ghost use Rattle.source_check.specs.Answer.{checked};
 
 use naming::{names_differ, names_fit};
 use reading::read_trees;
+use records::refusals::Refusal;
 use records::source_record::{DEFINITIONS, EXPRESSIONS, HEADER, NAMES, NODES, PUBLICS};
 use source::layout_of;
 
 const HEADER_BYTES: usize = 4 * HEADER;
 
-// What the check of a source record answers.
-#[derive(Clone, Copy)]
-pub enum Checked {
-    Accepted,
-    Refused(u32),
-}
-
-// A source record: accepted, or refused with the first of the numbers 1 to 6.
-pub fn check_source(s: &[u8]) -> Checked
+// A source record: accepted, or refused with the first of the refusals 1 to 6.
+pub fn check_source(s: &[u8]) -> Result<(), Refusal>
     ensures { result ≡ checked (source_of s.now) }
 {
     let size = s.len();
     if size < HEADER_BYTES {
-        return Checked::Refused(1);
+        return Err(Refusal::Length);
     }
     let l = layout_of(s);
     let counted = (l.names <= NAMES)
@@ -38,19 +32,19 @@ pub fn check_source(s: &[u8]) -> Checked
             & ((l.definitions <= DEFINITIONS)
                 & ((l.expressions <= EXPRESSIONS) & (l.nodes <= NODES))));
     if !counted {
-        return Checked::Refused(2);
+        return Err(Refusal::Count);
     }
     let text = l.text_at;
     let names = l.names;
     let listed = (text <= size) & ((0 < names) | (size == text));
     if !listed {
-        return Checked::Refused(1);
+        return Err(Refusal::Length);
     }
     if !names_fit(s, text, names) {
-        return Checked::Refused(3);
+        return Err(Refusal::Name);
     }
     if !names_differ(s, text, names) {
-        return Checked::Refused(4);
+        return Err(Refusal::EqualNames);
     }
     read_trees(s, l)
 }

@@ -9,8 +9,8 @@ ghost use Rattle.source.specs.Layout.{layout_of, DEFINITION-WORDS};
 ghost use Rattle.source.specs.Record.{shaped, used_once};
 ghost use Rattle.records.specs.SourceRecord.{NODES};
 
-use super::Checked;
 use super::asking::children_of;
+use records::refusals::Refusal;
 use records::source_record::{NO_LINK, NODES};
 use source::lists::{definition_at, expression_at, public_at};
 use source::{Chain, Child, Children, Entry, Layout, node_at};
@@ -37,33 +37,45 @@ fn use_node(marks: &mut [u32; NODES], x: usize)
 }
 
 // Node k uses x, which must be an expression before it.
-fn use_expression(s: &[u8], at: usize, k: usize, x: usize, marks: &mut [u32; NODES]) -> Checked
+fn use_expression(
+    s: &[u8],
+    at: usize,
+    k: usize,
+    x: usize,
+    marks: &mut [u32; NODES],
+) -> Result<(), Refusal>
     requires { (4 * (at + 4 * k) ≤ length s.now) × (k ≤ NODES) }
-    ensures { (result ≡ verdict 5 (expression_fits s.now at k x)) × (result ≡ Checked.Accepted → Adds marks.old marks.new (same x)) }
+    ensures { (result ≡ verdict Refusal.Entry (expression_fits s.now at k x)) × (result ≡ Ok tt → Adds marks.old marks.new (same x)) }
 {
     if k <= x {
-        return Checked::Refused(5);
+        return Err(Refusal::Entry);
     }
     let Entry::Expression(_) = node_at(s, at, x) else {
-        return Checked::Refused(5);
+        return Err(Refusal::Entry);
     };
     use_node(marks, x);
-    Checked::Accepted
+    Ok(())
 }
 
 // Node k uses x, which must be a pattern before it.
-fn use_pattern(s: &[u8], at: usize, k: usize, x: usize, marks: &mut [u32; NODES]) -> Checked
+fn use_pattern(
+    s: &[u8],
+    at: usize,
+    k: usize,
+    x: usize,
+    marks: &mut [u32; NODES],
+) -> Result<(), Refusal>
     requires { (4 * (at + 4 * k) ≤ length s.now) × (k ≤ NODES) }
-    ensures { (result ≡ verdict 5 (pattern_fits s.now at k x)) × (result ≡ Checked.Accepted → Adds marks.old marks.new (same x)) }
+    ensures { (result ≡ verdict Refusal.Entry (pattern_fits s.now at k x)) × (result ≡ Ok tt → Adds marks.old marks.new (same x)) }
 {
     if k <= x {
-        return Checked::Refused(5);
+        return Err(Refusal::Entry);
     }
     let Entry::Pattern(_) = node_at(s, at, x) else {
-        return Checked::Refused(5);
+        return Err(Refusal::Entry);
     };
     use_node(marks, x);
-    Checked::Accepted
+    Ok(())
 }
 
 // Link k uses its item.
@@ -74,9 +86,9 @@ fn use_item(
     k: usize,
     x: usize,
     marks: &mut [u32; NODES],
-) -> Checked
+) -> Result<(), Refusal>
     requires { (4 * (at + 4 * k) ≤ length s.now) × (k ≤ NODES) }
-    ensures { (result ≡ verdict 5 (item_fits s.now at chain k x)) × (result ≡ Checked.Accepted → Adds marks.old marks.new (same x)) }
+    ensures { (result ≡ verdict Refusal.Entry (item_fits s.now at chain k x)) × (result ≡ Ok tt → Adds marks.old marks.new (same x)) }
 {
     match chain {
         Chain::Parameters => use_pattern(s, at, k, x, marks),
@@ -93,19 +105,15 @@ fn use_result(
     k: usize,
     x: usize,
     marks: &mut [u32; NODES],
-) -> Checked
+) -> Result<(), Refusal>
     requires { (4 * (at + 4 * k) ≤ length s.now) × (k ≤ NODES) }
-    ensures { (result ≡ verdict 5 (result_fits s.now at chain k x))
-        × (result ≡ Checked.Accepted → Adds marks.old marks.new (result_uses chain x)) }
+    ensures { (result ≡ verdict Refusal.Entry (result_fits s.now at chain k x))
+        × (result ≡ Ok tt → Adds marks.old marks.new (result_uses chain x)) }
 {
     if let Chain::Arms = chain {
         return use_expression(s, at, k, x, marks);
     }
-    if x == 0 {
-        Checked::Accepted
-    } else {
-        Checked::Refused(5)
-    }
+    if x == 0 { Ok(()) } else { Err(Refusal::Entry) }
 }
 
 // Node k uses a chain of links, from its first link on, with what they use. Each next link stands before the one that names it.
@@ -116,31 +124,27 @@ fn use_chain(
     k: usize,
     first: usize,
     marks: &mut [u32; NODES],
-) -> Checked
+) -> Result<(), Refusal>
     requires { (4 * (at + 4 * k) ≤ length s.now) × (k ≤ NODES) }
-    ensures { (result ≡ verdict 5 (chain_fits s.now at chain k first))
-        × (result ≡ Checked.Accepted → Adds marks.old marks.new (chain_uses s.now at chain k first)) }
+    ensures { (result ≡ verdict Refusal.Entry (chain_fits s.now at chain k first))
+        × (result ≡ Ok tt → Adds marks.old marks.new (chain_uses s.now at chain k first)) }
 {
     let mut above = k;
     let mut link = first;
     while link < above {
         let Entry::Link(item, next, result) = node_at(s, at, link) else {
-            return Checked::Refused(5);
+            return Err(Refusal::Entry);
         };
         use_node(marks, link);
-        let Checked::Accepted = use_item(s, at, chain, link, item, marks) else {
-            return Checked::Refused(5);
-        };
-        let Checked::Accepted = use_result(s, at, chain, link, result, marks) else {
-            return Checked::Refused(5);
-        };
+        use_item(s, at, chain, link, item, marks)?;
+        use_result(s, at, chain, link, result, marks)?;
         if next == NO_LINK {
-            return Checked::Accepted;
+            return Ok(());
         }
         above = link;
         link = next;
     }
-    Checked::Refused(5)
+    Err(Refusal::Entry)
 }
 
 // Node k, of a record with so many names, uses what one of its words names.
@@ -151,24 +155,24 @@ fn use_child(
     k: usize,
     child: Child,
     marks: &mut [u32; NODES],
-) -> Checked
+) -> Result<(), Refusal>
     requires { (4 * (at + 4 * k) ≤ length s.now) × (k ≤ NODES) }
-    ensures { (result ≡ verdict 5 (child_fits s.now at names k child))
-        × (result ≡ Checked.Accepted → Adds marks.old marks.new (child_uses s.now at k child)) }
+    ensures { (result ≡ verdict Refusal.Entry (child_fits s.now at names k child))
+        × (result ≡ Ok tt → Adds marks.old marks.new (child_uses s.now at k child)) }
 {
     match child {
-        Child::Nothing => Checked::Accepted,
+        Child::Nothing => Ok(()),
         Child::Name(v) => {
             if v < names {
-                Checked::Accepted
+                Ok(())
             } else {
-                Checked::Refused(5)
+                Err(Refusal::Entry)
             }
         }
         Child::Expression(x) => use_expression(s, at, k, x, marks),
         Child::Pattern(x) => use_pattern(s, at, k, x, marks),
         Child::Links(chain, x) => use_chain(s, at, chain, k, x, marks),
-        Child::Wrong => Checked::Refused(5),
+        Child::Wrong => Err(Refusal::Entry),
     }
 }
 
@@ -179,53 +183,53 @@ fn use_children(
     k: usize,
     c: Children,
     marks: &mut [u32; NODES],
-) -> Checked
+) -> Result<(), Refusal>
     requires { (4 * (at + 4 * k) ≤ length s.now) × (k ≤ NODES) }
-    ensures { (result ≡ verdict 5 (children_fit s.now at names k c))
-        × (result ≡ Checked.Accepted → Adds marks.old marks.new (children_use s.now at k c)) }
+    ensures { (result ≡ verdict Refusal.Entry (children_fit s.now at names k c))
+        × (result ≡ Ok tt → Adds marks.old marks.new (children_use s.now at k c)) }
 {
     let first = c.first;
-    let Checked::Accepted = use_child(s, at, names, k, first, marks) else {
-        return Checked::Refused(5);
-    };
+    use_child(s, at, names, k, first, marks)?;
     let second = c.second;
-    let Checked::Accepted = use_child(s, at, names, k, second, marks) else {
-        return Checked::Refused(5);
-    };
+    use_child(s, at, names, k, second, marks)?;
     let third = c.third;
     use_child(s, at, names, k, third, marks)
 }
 
 // Whether n nodes fit; then what they use is marked.
-fn read_nodes(s: &[u8], at: usize, names: usize, n: usize, marks: &mut [u32; NODES]) -> Checked
+fn read_nodes(
+    s: &[u8],
+    at: usize,
+    names: usize,
+    n: usize,
+    marks: &mut [u32; NODES],
+) -> Result<(), Refusal>
     requires { (4 * (at + 4 * n) ≤ length s.now) × (n ≤ NODES) }
-    ensures { (result ≡ verdict 5 (nodes_fit s.now at names n))
-        × (result ≡ Checked.Accepted → Adds marks.old marks.new (by_nodes s.now at n)) }
+    ensures { (result ≡ verdict Refusal.Entry (nodes_fit s.now at names n))
+        × (result ≡ Ok tt → Adds marks.old marks.new (by_nodes s.now at n)) }
 {
     let mut k = 0usize;
     while k < n {
         let c = children_of(node_at(s, at, k));
-        let Checked::Accepted = use_children(s, at, names, k, c, marks) else {
-            return Checked::Refused(5);
-        };
+        use_children(s, at, names, k, c, marks)?;
         k += 1;
     }
-    Checked::Accepted
+    Ok(())
 }
 
 // Whether n words from word `list` on are names.
-fn read_publics(s: &[u8], names: usize, list: usize, n: usize) -> Checked
+fn read_publics(s: &[u8], names: usize, list: usize, n: usize) -> Result<(), Refusal>
     requires { 4 * (list + n) ≤ length s.now }
-    ensures { result ≡ verdict 5 (publics_fit s.now names list n) }
+    ensures { result ≡ verdict Refusal.Entry (publics_fit s.now names list n) }
 {
     let mut k = 0usize;
     while k < n {
         if names <= public_at(s, list, k) as usize {
-            return Checked::Refused(5);
+            return Err(Refusal::Entry);
         }
         k += 1;
     }
-    Checked::Accepted
+    Ok(())
 }
 
 // Whether n pairs from word `list` on are a pattern and an expression of the nodes; then these are marked.
@@ -236,23 +240,19 @@ fn read_definitions(
     list: usize,
     n: usize,
     marks: &mut [u32; NODES],
-) -> Checked
+) -> Result<(), Refusal>
     requires { (4 * (list + DEFINITION-WORDS * n) ≤ length s.now) × ((4 * (at + 4 * nodes) ≤ length s.now) × (nodes ≤ NODES)) }
-    ensures { (result ≡ verdict 5 (definitions_fit s.now at nodes list n))
-        × (result ≡ Checked.Accepted → Adds marks.old marks.new (by_definitions s.now list n)) }
+    ensures { (result ≡ verdict Refusal.Entry (definitions_fit s.now at nodes list n))
+        × (result ≡ Ok tt → Adds marks.old marks.new (by_definitions s.now list n)) }
 {
     let mut k = 0usize;
     while k < n {
         let d = definition_at(s, list, k);
-        let Checked::Accepted = use_pattern(s, at, nodes, d.pattern as usize, marks) else {
-            return Checked::Refused(5);
-        };
-        let Checked::Accepted = use_expression(s, at, nodes, d.value as usize, marks) else {
-            return Checked::Refused(5);
-        };
+        use_pattern(s, at, nodes, d.pattern as usize, marks)?;
+        use_expression(s, at, nodes, d.value as usize, marks)?;
         k += 1;
     }
-    Checked::Accepted
+    Ok(())
 }
 
 // Whether n words from word `list` on are expressions of the nodes; then these are marked.
@@ -263,20 +263,18 @@ fn read_expressions(
     list: usize,
     n: usize,
     marks: &mut [u32; NODES],
-) -> Checked
+) -> Result<(), Refusal>
     requires { (4 * (list + n) ≤ length s.now) × ((4 * (at + 4 * nodes) ≤ length s.now) × (nodes ≤ NODES)) }
-    ensures { (result ≡ verdict 5 (expressions_fit s.now at nodes list n))
-        × (result ≡ Checked.Accepted → Adds marks.old marks.new (by_expressions s.now list n)) }
+    ensures { (result ≡ verdict Refusal.Entry (expressions_fit s.now at nodes list n))
+        × (result ≡ Ok tt → Adds marks.old marks.new (by_expressions s.now list n)) }
 {
     let mut k = 0usize;
     while k < n {
         let x = expression_at(s, list, k) as usize;
-        let Checked::Accepted = use_expression(s, at, nodes, x, marks) else {
-            return Checked::Refused(5);
-        };
+        use_expression(s, at, nodes, x, marks)?;
         k += 1;
     }
-    Checked::Accepted
+    Ok(())
 }
 
 // Whether each of the first n marks is 1.
@@ -295,42 +293,20 @@ fn all_once(marks: &[u32; NODES], n: usize) -> bool
 }
 
 // Whether nodes, publics, definitions and expressions fit (not 5), and then every node is used once (not 6).
-pub fn read_trees(s: &[u8], l: Layout) -> Checked
+pub fn read_trees(s: &[u8], l: Layout) -> Result<(), Refusal>
     requires { (l ≡ layout_of s.now) × ((l.text_at ≤ length s.now) × (l.nodes ≤ NODES)) }
     ensures { result ≡ outcome (shaped s.now) (used_once s.now) }
 {
     let mut marks = no_marks();
     let at = l.nodes_at;
     let nodes = l.nodes;
-    let Checked::Accepted = read_nodes(s, at, l.names, nodes, &mut marks) else {
-        return Checked::Refused(5);
-    };
-    let Checked::Accepted = read_publics(s, l.names, l.publics_at, l.publics) else {
-        return Checked::Refused(5);
-    };
-    let Checked::Accepted = read_definitions(
-        s,
-        at,
-        nodes,
-        l.definitions_at,
-        l.definitions,
-        &mut marks,
-    ) else {
-        return Checked::Refused(5);
-    };
-    let Checked::Accepted = read_expressions(
-        s,
-        at,
-        nodes,
-        l.expressions_at,
-        l.expressions,
-        &mut marks,
-    ) else {
-        return Checked::Refused(5);
-    };
+    read_nodes(s, at, l.names, nodes, &mut marks)?;
+    read_publics(s, l.names, l.publics_at, l.publics)?;
+    read_definitions(s, at, nodes, l.definitions_at, l.definitions, &mut marks)?;
+    read_expressions(s, at, nodes, l.expressions_at, l.expressions, &mut marks)?;
     if all_once(&marks, nodes) {
-        Checked::Accepted
+        Ok(())
     } else {
-        Checked::Refused(6)
+        Err(Refusal::Uses)
     }
 }

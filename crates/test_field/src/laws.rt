@@ -5,7 +5,7 @@ ghost use Rattle.field.specs.Prime.{P};
 ghost use Rattle.field.specs.Desk.{chained};
 
 use crate::differs;
-use field::{Answer, InfixOp};
+use field::InfixOp;
 
 // The fields of `DeskLaws`, in their order.
 #[derive(Clone, Copy)]
@@ -58,8 +58,8 @@ const LAW_ROW: usize = 6;
 // The two sides of a law.
 #[derive(Clone, Copy)]
 struct Sides {
-    left: Answer,
-    right: Answer,
+    left: Option<i64>,
+    right: Option<i64>,
 }
 
 // How often laws were tried, and how often their sides differ.
@@ -95,107 +95,107 @@ fn law_of(number: i64) -> Law {
 }
 
 // An operation on two answers.
-fn chained(op: InfixOp, x: Answer, y: Answer) -> Answer
+fn chained(op: InfixOp, x: Option<i64>, y: Option<i64>) -> Option<i64>
     ensures { result ≡ chained P op x y }
 {
     match x {
-        Answer::Value(a) => match y {
-            Answer::Value(b) => field::infix(op, a, b),
-            Answer::Nothing => Answer::Nothing,
+        Some(a) => match y {
+            Some(b) => field::infix(op, a, b),
+            None => None,
         },
-        Answer::Nothing => Answer::Nothing,
+        None => None,
     }
 }
 
-fn add(x: Answer, y: Answer) -> Answer {
+fn add(x: Option<i64>, y: Option<i64>) -> Option<i64> {
     chained(InfixOp::Add, x, y)
 }
 
-fn multiply(x: Answer, y: Answer) -> Answer {
+fn multiply(x: Option<i64>, y: Option<i64>) -> Option<i64> {
     chained(InfixOp::Multiply, x, y)
 }
 
-fn canonical(a: i64) -> Answer {
+fn canonical(a: i64) -> Option<i64> {
     let c = field::canonical(a);
-    Answer::Value(c)
+    Some(c)
 }
 
-fn negate(a: i64) -> Answer {
+fn negate(a: i64) -> Option<i64> {
     let n = field::negate(a);
-    Answer::Value(n)
+    Some(n)
 }
 
-fn both(left: Answer, right: Answer) -> Sides {
+fn both(left: Option<i64>, right: Option<i64>) -> Sides {
     Sides {
         left: left,
         right: right,
     }
 }
 
-fn commuted(op: InfixOp, x: Answer, y: Answer) -> Sides {
+fn commuted(op: InfixOp, x: Option<i64>, y: Option<i64>) -> Sides {
     both(chained(op, x, y), chained(op, y, x))
 }
 
-fn regrouped(op: InfixOp, x: Answer, y: Answer, z: Answer) -> Sides {
+fn regrouped(op: InfixOp, x: Option<i64>, y: Option<i64>, z: Option<i64>) -> Sides {
     both(
         chained(op, chained(op, x, y), z),
         chained(op, x, chained(op, y, z)),
     )
 }
 
-fn distributed(x: Answer, y: Answer, z: Answer) -> Sides {
+fn distributed(x: Option<i64>, y: Option<i64>, z: Option<i64>) -> Sides {
     both(multiply(x, add(y, z)), add(multiply(x, y), multiply(x, z)))
 }
 
-fn distributed_right(x: Answer, y: Answer, z: Answer) -> Sides {
+fn distributed_right(x: Option<i64>, y: Option<i64>, z: Option<i64>) -> Sides {
     both(multiply(add(x, y), z), add(multiply(x, z), multiply(y, z)))
 }
 
 // The sum is 0 just if b is the opposite: 1 where it is, else 0.
 fn opposed(a: i64, b: i64) -> Sides {
     both(
-        alike(add(Answer::Value(a), Answer::Value(b)), Answer::Value(0)),
+        alike(add(Some(a), Some(b)), Some(0)),
         alike(canonical(b), negate(a)),
     )
 }
 
 // What dividing a product by its factor gives: the other, or what is given at 0.
-fn given_back(other: i64, factor: i64, at_zero: Answer) -> Answer {
+fn given_back(other: i64, factor: i64, at_zero: Option<i64>) -> Option<i64> {
     if field::canonical(factor) == 0 {
         return at_zero;
     }
     canonical(other)
 }
 
-fn over_second(op: InfixOp, a: i64, b: i64, at_zero: Answer) -> Sides {
-    let y = Answer::Value(b);
+fn over_second(op: InfixOp, a: i64, b: i64, at_zero: Option<i64>) -> Sides {
+    let y = Some(b);
     both(
-        chained(op, multiply(Answer::Value(a), y), y),
+        chained(op, multiply(Some(a), y), y),
         given_back(a, b, at_zero),
     )
 }
 
-fn over_first(op: InfixOp, a: i64, b: i64, at_zero: Answer) -> Sides {
-    let x = Answer::Value(a);
+fn over_first(op: InfixOp, a: i64, b: i64, at_zero: Option<i64>) -> Sides {
+    let x = Some(a);
     both(
-        chained(op, multiply(x, Answer::Value(b)), x),
+        chained(op, multiply(x, Some(b)), x),
         given_back(b, a, at_zero),
     )
 }
 
 // By b - b.
-fn over_zero(op: InfixOp, x: Answer, y: Answer, at_zero: Answer) -> Sides {
+fn over_zero(op: InfixOp, x: Option<i64>, y: Option<i64>, at_zero: Option<i64>) -> Sides {
     both(chained(op, x, chained(InfixOp::Subtract, y, y)), at_zero)
 }
 
 // Laws with a condition are tried without it: where a factor is 0 the right side is what division by 0 gives, and "no other is the
 // opposite" is tried as "just the opposite is". Of the last two c is the sum or the product.
 fn sides_of(law: Law, a: i64, b: i64, c: i64) -> Sides {
-    let x = Answer::Value(a);
-    let y = Answer::Value(b);
-    let z = Answer::Value(c);
-    let none = Answer::Nothing;
-    let zero = Answer::Value(0);
+    let x = Some(a);
+    let y = Some(b);
+    let z = Some(c);
+    let none = None;
+    let zero = Some(0);
     match law {
         Law::SumsCommute => commuted(InfixOp::Add, x, y),
         Law::ProductsCommute => commuted(InfixOp::Multiply, x, y),
@@ -221,21 +221,21 @@ fn sides_of(law: Law, a: i64, b: i64, c: i64) -> Sides {
 }
 
 // 0 where two answers are one, else 1.
-fn unlike(x: Answer, y: Answer) -> u64
+fn unlike(x: Option<i64>, y: Option<i64>) -> u64
     ensures { result ≤ 1 }
 {
     match x {
-        Answer::Value(a) => differs(y, 1, a),
-        Answer::Nothing => differs(y, 0, 0),
+        Some(a) => differs(y, 1, a),
+        None => differs(y, 0, 0),
     }
 }
 
 // 1 where two answers are one, else 0.
-fn alike(x: Answer, y: Answer) -> Answer {
+fn alike(x: Option<i64>, y: Option<i64>) -> Option<i64> {
     if unlike(x, y) == 0 {
-        return Answer::Value(1);
+        return Some(1);
     }
-    Answer::Value(0)
+    Some(0)
 }
 
 fn law_broken(number: i64, a: i64, b: i64, c: i64) -> u64

@@ -8,7 +8,7 @@ mod vectors;
 
 ghost use Rattle.std.specs.Prelude.{◌≤◌};
 
-use field::{Answer, InfixOp};
+use field::InfixOp;
 use law_vectors::{LAW_ROWS, LAW_VECTORS};
 use laws::{differing_laws, laws_at_edges};
 use streams::{Opened, open_standard};
@@ -29,14 +29,14 @@ fn operation(number: i64) -> InfixOp {
     }
 }
 
-fn worked(number: i64, a: i64, b: i64) -> Answer {
+fn worked(number: i64, a: i64, b: i64) -> Option<i64> {
     if number == 9 {
         let c = field::canonical(a);
-        return Answer::Value(c);
+        return Some(c);
     }
     if number == 10 {
         let n = field::negate(a);
-        return Answer::Value(n);
+        return Some(n);
     }
     if number == 11 {
         return field::inverse(a);
@@ -45,11 +45,11 @@ fn worked(number: i64, a: i64, b: i64) -> Answer {
 }
 
 // 0 where an answer is the one given, else 1.
-fn differs(answer: Answer, there: i64, value: i64) -> u64
+fn differs(answer: Option<i64>, there: i64, value: i64) -> u64
     ensures { result ≤ 1 }
 {
     match answer {
-        Answer::Value(z) => {
+        Some(z) => {
             if there == 1 {
                 if z == value {
                     return 0;
@@ -57,7 +57,7 @@ fn differs(answer: Answer, there: i64, value: i64) -> u64
             }
             1
         }
-        Answer::Nothing => {
+        None => {
             if there == 0 {
                 return 0;
             }

@@ -1,6 +1,6 @@
 -- `field::divide_z` meets its contract. Assumes nothing.
 use mathlib.Core.Path.{◌≡◌, ap, sym, ◌∙◌}
-use Rattle.field.specs.declared.Answer.TheVariants.{Value}
+use Rattle.std.specs.Prelude.{Some}
 use Rattle.field.specs.Prime.{P}
 use Rattle.field.specs.Element.{res}
 use Rattle.field.specs.Operations.{quotient, divide_z_of}
@@ -21,5 +21,5 @@ returns-then-residue-eq0 c =
 pub returns : goal.returns
 unfolding divide_z_of
 returns c =
-    ap Value (returned _ c.over-z.type_inv (passed2 (quotient P) _ _ c.ranges.a c.ranges.b c.over-z.ensures))
+    ap Some (returned _ c.over-z.type_inv (passed2 (quotient P) _ _ c.ranges.a c.ranges.b c.over-z.ensures))
     ∙ sym (pick-else (res P c.args.b) _ _ (λ z. c.if-residue-eq0.false (divisor (goal.at.returns c).After-residue ∙ z)))

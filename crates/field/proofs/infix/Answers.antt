@@ -1,6 +1,6 @@
 -- `field::infix` meets its contract. Assumes nothing.
 use mathlib.Core.Path.{ap, sym, ◌∙◌}
-use Rattle.field.specs.declared.Answer.TheVariants.{Value}
+use Rattle.std.specs.Prelude.{Some}
 use Rattle.field.specs.declared.InfixOp.{InfixOp}
 use Rattle.field.specs.Prime.{P}
 use Rattle.field.specs.Operations.{sum, difference, product, infix_of, divide_of, divide_z_of, exponentiate_of, int_divide_of, modulo_of}
@@ -22,19 +22,19 @@ returns-in-DivideZ c =
 pub returns-in-Multiply : goal.returns-in-Multiply
 unfolding infix_of
 returns-in-Multiply c =
-    ap Value (returned _ c.multiply.type_inv (passed2 (product P) _ _ c.ranges.a c.ranges.b c.multiply.ensures))
+    ap Some (returned _ c.multiply.type_inv (passed2 (product P) _ _ c.ranges.a c.ranges.b c.multiply.ensures))
     ∙ sym (ap (λ (o : InfixOp). infix_of P o c.args.a c.args.b) c.in-Multiply.is)
 
 pub returns-in-Add : goal.returns-in-Add
 unfolding infix_of
 returns-in-Add c =
-    ap Value (returned _ c.add.type_inv (passed2 (sum P) _ _ c.ranges.a c.ranges.b c.add.ensures))
+    ap Some (returned _ c.add.type_inv (passed2 (sum P) _ _ c.ranges.a c.ranges.b c.add.ensures))
     ∙ sym (ap (λ (o : InfixOp). infix_of P o c.args.a c.args.b) c.in-Add.is)
 
 pub returns-in-Subtract : goal.returns-in-Subtract
 unfolding infix_of
 returns-in-Subtract c =
-    ap Value (returned _ c.subtract.type_inv (passed2 (difference P) _ _ c.ranges.a c.ranges.b c.subtract.ensures))
+    ap Some (returned _ c.subtract.type_inv (passed2 (difference P) _ _ c.ranges.a c.ranges.b c.subtract.ensures))
     ∙ sym (ap (λ (o : InfixOp). infix_of P o c.args.a c.args.b) c.in-Subtract.is)
 
 pub returns-in-Equal : goal.returns-in-Equal

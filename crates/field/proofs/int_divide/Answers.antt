@@ -3,7 +3,7 @@ use mathlib.Core.Path.{◌≡◌, ap, ap₂, sym, subst⁻¹, ◌∙◌}
 use Prim.Native.Nat.{◌≤◌}
 use native.Mathlib.Omega.{arith}
 use lib.IntN.{ℤ, nat_abs}
-use Rattle.field.specs.declared.Answer.TheVariants.{Value}
+use Rattle.std.specs.Prelude.{Some}
 use Rattle.field.specs.Prime.{P}
 use Rattle.field.specs.Element.{res, elem}
 use Rattle.field.specs.Operations.{whole_quotient, int_divide_of}
@@ -42,7 +42,7 @@ unfolding int_divide_of
 returns c =
     let a : ℤ = c.args.a in
     let b : ℤ = c.args.b in
-    ap Value
+    ap Some
     (returned _ c.canonical-q.type_inv
     (c.canonical-q.ensures
     ∙ ap (elem P)

@@ -2,7 +2,7 @@
 use mathlib.Core.Path.{◌≡◌, ap, sym, ◌∙◌}
 use native.Mathlib.Nat.{pos_of_ne-zero}
 use native.Mathlib.Omega.{arith}
-use Rattle.field.specs.declared.Answer.TheVariants.{Value}
+use Rattle.std.specs.Prelude.{Some}
 use Rattle.field.specs.Prime.{P}
 use Rattle.field.specs.Element.{inv, res, centre}
 use Rattle.field.specs.Operations.{inverse, inverse_of}
@@ -30,7 +30,7 @@ centred-z-requires c = omega (arith, c.inverse_of.ensures, inv-lt P P-prime _ (b
 pub returns : goal.returns
 unfolding inverse_of inverse
 returns c =
-    ap Value
+    ap Some
     (returned _ c.centred-z.type_inv
     (c.centred-z.ensures ∙ ap (centre P) (c.inverse_of.ensures ∙ ap (inv P) (divisor (goal.at.returns c).After-residue-d))))
     ∙ sym (pick-else _ _ _ (λ z. c.if-d-eq0.false (divisor (goal.at.returns c).After-residue-d ∙ z)))

@@ -3,7 +3,7 @@ use mathlib.Core.Path.{◌≡◌, ap, ap₂, sym, subst⁻¹, ◌∙◌}
 use Prim.Native.Nat.{◌≤◌}
 use native.Mathlib.Omega.{arith}
 use lib.IntN.{ℤ, nat_abs}
-use Rattle.field.specs.declared.Answer.TheVariants.{Value}
+use Rattle.std.specs.Prelude.{Some}
 use Rattle.field.specs.Prime.{P}
 use Rattle.field.specs.Element.{res, elem}
 use Rattle.field.specs.Operations.{whole_quotient, product, difference, modulo_of}
@@ -49,7 +49,7 @@ returns c =
     returned _ c.whole_quotient.type_inv (c.whole_quotient.ensures ∙ ap₂ whole_quotient x y) in
     let w : back c.multiply.result ≡ product P (elem P b) (whole_quotient (elem P a) (elem P b)) =
     returned _ c.multiply.type_inv (c.multiply.ensures ∙ ap₂ (product P) y q) in
-    ap Value
+    ap Some
     (returned _ c.subtract-z.type_inv
     (c.subtract-z.ensures
     ∙ ap₂ (difference P) x w))

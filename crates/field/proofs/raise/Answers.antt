@@ -5,7 +5,7 @@ use native.Mathlib.Nat.{pos_of_ne-zero, mod-lt}
 use native.Mathlib.Omega.{arith}
 use lib.IntN.{negsuc}
 use lib.Signed.{mag}
-use Rattle.field.specs.declared.Answer.TheVariants.{Value}
+use Rattle.std.specs.Prelude.{Some}
 use Rattle.field.specs.Prime.{P}
 use Rattle.field.specs.Element.{inv, res, centre}
 use Rattle.field.specs.Operations.{inverse, power}
@@ -59,7 +59,7 @@ centred-y-requires c = subst⁻¹ (λ (k : ℕ). k < P) c.inverse_of.ensures (in
 pub returns-then-n-lt0 : goal.returns-then-n-lt0
 unfolding inverse
 returns-then-n-lt0 c =
-    ap Value (returned _ c.centred-y.type_inv (c.centred-y.ensures
+    ap Some (returned _ c.centred-y.type_inv (c.centred-y.ensures
     ∙ ap (centre P)
     (c.inverse_of.ensures ∙ ap (inv P) (powered (goal.at.returns-then-n-lt0 c).After-power_of ∙ sym (res-power P P-prime c.args.a (suc (mag c.args.n)))))))
     ∙ sym (pick-else _ _ _ (λ z. c.if-b-eq0.false (base (goal.at.returns-then-n-lt0 c).After-residue-b ∙ z)))
@@ -71,6 +71,6 @@ power_of-requires-2 c = below-P _ (base (goal.at.power_of-requires-2 c).After-re
 pub returns : goal.returns
 unfolding power
 returns c =
-    ap Value (returned _ c.centred-z.type_inv
+    ap Some (returned _ c.centred-z.type_inv
     (c.centred-z.ensures ∙ ap (centre P) (c.power_of-2.ensures ∙ ap₂ (λ (b n : ℕ). b ^ n % P) (base (goal.at.returns c).After-residue-b) (size (goal.at.returns c).After-magnitude-m))))
     ∙ sym (power-above P _ _ _ (positive _ c.ranges.n c.if-n-lt0.false))

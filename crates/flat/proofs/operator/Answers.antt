@@ -3,7 +3,7 @@ use native.Mathlib.Omega.{arith}
 use mathlib.Core.Path.{refl, ap, sym}
 use borrow.Author.Tests.{ne_eqb}
 use Rattle.flat.specs.Record.{operator_of, pick}
-use Rattle.flat.proofs.Laws.{pick_no}
+use Rattle.marks.proofs.Indices.{pick_no}
 use Rattle.flat.proofs.operator.Goals as goal
 
 pub returns-in-0 : goal.returns-in-0

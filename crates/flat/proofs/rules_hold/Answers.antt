@@ -1,7 +1,7 @@
 -- `flat::rules_hold` meets its contract. Assumes nothing.
 use mathlib.Core.Path.{◌∙◌, sym}
 use borrow.Author.Tests.{le-leb, lt-leb}
-use Rattle.flat.proofs.Laws.{and_no, and-on}
+use Rattle.marks.proofs.Indices.{and_no, and-on}
 use Rattle.flat.proofs.Answers.{hold-definitions, hold-nodes, rules-by, laid}
 use Rattle.flat.proofs.rules_hold.Goals as goal
 

@@ -1,6 +1,6 @@
 -- `pass_classify::cuttable` meets its contract. Assumes nothing.
 use mathlib.Core.Path.{◌∙◌, sym}
-use Rattle.flat.proofs.Laws.{and_no, and-on}
+use Rattle.marks.proofs.Indices.{and_no, and-on}
 use Rattle.pass_classify.proofs.cuttable.Goals as goal
 
 pub returns-then-not-cuttable_defs : goal.returns-then-not-cuttable_defs

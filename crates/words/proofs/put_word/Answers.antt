@@ -1,8 +1,7 @@
 -- `words::put_word` meets its contract. Assumes nothing.
-use native.Mathlib.Omega.{arith}
-use Rattle.words.specs.Words.{set_word}
-use mathlib.Core.Path.{refl}
+use Rattle.std.proofs.Common.{◌≡◌, ◌/◌, ◌%◌, arith}
 use lib.ListN.{length-set}
+use Rattle.words.specs.Words.{set_word}
 use Rattle.words.proofs.put_word.Goals as goal
 
 pub bounds-s-at-2 : goal.bounds-s-at-2
@@ -16,4 +15,6 @@ bounds-s-at-4 c = simp length-set (omega arith)
 
 pub returns : goal.returns
 unfolding set_word
-returns c = refl
+returns c =
+    let last : c.args.w / 16777216 % 256 ≡ c.args.w / 16777216 = omega arith in
+    rw (c.to_le_bytes.ensures, last)

@@ -1,34 +1,18 @@
 -- `flat::lists::rises` meets its contract. Assumes nothing.
+use Prim.Native.Nat.{◌+◌, ◌-◌}
+use mathlib.Core.Path.{◌≡◌, refl}
+use lib.Dec.{ltb}
+use borrow.Author.Tests.{tests}
+use borrow.Author.Rules.{rules}
 use native.Mathlib.Omega.{arith}
-use Prim.Native.Nat.{◌-◌, ◌+◌}
-use mathlib.Core.Path.{refl}
-use borrow.Author.Tests.{lt-ltb, le-ltb}
 use Rattle.words.specs.Words.{word_at}
-use Rattle.flat.specs.Record.{every, rising}
-use Rattle.flat.proofs.Laws.{every-fails, every_more, every-all}
+use Rattle.flat.specs.Record.{rising}
+use Rattle.marks.proofs.Indices.{every-from_all}
 use Rattle.flat.proofs.lists.rises.Goals as goal
-
-pub returns-then-n-eq0 : goal.returns-then-n-eq0
-unfolding rising every
-returns-then-n-eq0 c = every-all (c.args.n - 1) 0 _ refl (omega arith)
-
-pub loop-k-init : goal.loop-k-init
-unfolding every
-loop-k-init c = (refl, omega arith)
-
-pub returns-then-high-low : goal.returns-then-high-low
-unfolding rising
-returns-then-high-low c =
-    every-fails _ c.loop-k.k _ c.loop-k-test.true (le-ltb
-    (word_at c.args.s.now (c.args.at + c.loop-k.k)) (word_at c.args.s.now (c.args.at + c.loop-k.k + 1)) (omega arith))
-
-pub loop-k-preserved : goal.loop-k-preserved
-loop-k-preserved c = (
-  every_more _ _ c.loop-k.invariant.0 (lt-ltb (word_at c.args.s.now (c.args.at + c.loop-k.k))
-      (word_at c.args.s.now (c.args.at + c.loop-k.k + 1)) (omega arith)),
-  omega arith,
-)
 
 pub returns : goal.returns
 unfolding rising
-returns c = every-all _ _ _ c.loop-k.invariant.0 (omega (arith, c.loop-k-test.false))
+returns c =
+    let at = c.args.at in
+    every-from_all _ _ _ _ _ (λ k. ltb (word_at c.args.s.now (at + k - 1)) (word_at c.args.s.now (at + k))) _ _ _ _ c.all.ensures.ran (λ x b q k. search (rules, tests))
+    refl refl (λ k l. let e : at + (1 + k) - 1 ≡ at + k = omega arith in let f : at + (1 + k) ≡ at + k + 1 = omega arith in rw (e, f))

@@ -3,7 +3,7 @@ use native.Mathlib.Omega.{arith}
 use mathlib.Core.Path.{refl}
 use borrow.Author.Tests.{eq-eqb, ne_eqb}
 use Rattle.flat.specs.Record.{every}
-use Rattle.flat.proofs.Laws.{every-fails, every_more, every-all}
+use Rattle.marks.proofs.Indices.{every-fails, every_more, every-all}
 use Rattle.flat.proofs.uses.all_once.Goals as goal
 
 pub loop-k-init : goal.loop-k-init

@@ -2,7 +2,7 @@
 use mathlib.Core.Path.{refl}
 use borrow.Author.Tests.{eq-eqb, ne_eqb}
 use Rattle.flat.specs.Record.{node_fits}
-use Rattle.flat.proofs.Laws.{pick_yes, pick_no}
+use Rattle.marks.proofs.Indices.{pick_yes, pick_no}
 use Rattle.flat.proofs.uses.node_fits.Goals as goal
 
 pub returns-then-kind-eq-INFIX_KIND : goal.returns-then-kind-eq-INFIX_KIND

@@ -2,7 +2,7 @@
 use native.Mathlib.Omega.{arith}
 use mathlib.Core.Path.{◌≡◌, refl, sym}
 use Rattle.flat.proofs.Parts.{id-is, node-is}
-use Rattle.flat.proofs.Laws.{not-both}
+use Rattle.std.proofs.lemmas.Bool.{both_ways}
 use Rattle.flat.proofs.Marks.{defs-fail, defs-more, defs-none, both_below}
 use Rattle.flat.proofs.uses.read_definitions.Goals as goal
 
@@ -12,7 +12,7 @@ loop-k-init c = (defs-none _ _ _ _ _, omega arith)
 pub returns-then-not-fits : goal.returns-then-not-fits
 returns-then-not-fits c =
     let read = c.definition_at-d.ensures in
-    (defs-fail _ _ _ _ _ _ _ _ c.loop-k-test.true (id-is read) (node-is read) c.if-not-fits.true, λ e. absurd (not-both refl e))
+    (defs-fail _ _ _ _ _ _ _ _ c.loop-k-test.true (id-is read) (node-is read) c.if-not-fits.true, λ e. absurd (both_ways _ refl e))
 
 pub use_node-requires : goal.use_node-requires
 use_node-requires c =

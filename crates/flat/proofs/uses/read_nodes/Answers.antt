@@ -1,7 +1,7 @@
 -- `flat::uses::read_nodes` meets its contract. Assumes nothing.
 use native.Mathlib.Omega.{arith}
 use mathlib.Core.Path.{◌≡◌, refl, sym}
-use Rattle.flat.proofs.Laws.{not-both}
+use Rattle.std.proofs.lemmas.Bool.{both_ways}
 use Rattle.flat.proofs.Marks.{children-below, nodes-none, nodes-more, nodes-fail}
 use Rattle.flat.proofs.uses.read_nodes.Goals as goal
 
@@ -12,7 +12,7 @@ pub returns-then-not-fits : goal.returns-then-not-fits
 returns-then-not-fits c = (
   nodes-fail _ _ _ _ _ c.loop-k-test.true c.count-kind.ensures.0 c.count-x.ensures.0
       c.count-y.ensures.0 c.count-z.ensures.0 c.node_fits-fits.ensures c.if-not-fits.true,
-  λ e. absurd (not-both refl e),
+  λ e. absurd (both_ways _ refl e),
 )
 
 pub use_children-requires : goal.use_children-requires

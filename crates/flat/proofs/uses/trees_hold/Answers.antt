@@ -1,7 +1,7 @@
 -- `flat::uses::trees_hold` meets its contract. Assumes nothing.
 use mathlib.Core.Path.{◌∙◌, sym}
 use Rattle.flat.specs.Record.{trees_hold}
-use Rattle.flat.proofs.Laws.{and_no, and-on}
+use Rattle.marks.proofs.Indices.{and_no, and-on}
 use Rattle.flat.proofs.Answers.{all-marks}
 use Rattle.flat.proofs.uses.trees_hold.Goals as goal
 

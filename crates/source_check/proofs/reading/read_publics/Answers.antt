@@ -1,4 +1,5 @@
 -- `source_check::reading::read_publics` meets its contract. Assumes nothing.
+use Rattle.records.specs.declared.refusals.Refusal.{Refusal}
 use native.Mathlib.Omega.{arith}
 use mathlib.Core.Path.{◌≡◌, ◌∙◌, ap, sym}
 use Rattle.source.specs.Nodes.{publics_fit}
@@ -13,7 +14,7 @@ pub returns-then-names-public_at : goal.returns-then-names-public_at
 returns-then-names-public_at c =
     let b = c.args.s.now in
     let read = c.public_at.ensures in
-    refuses 5 _ (publics-fail b _ _ _ c.loop-k.k c.loop-k-test.true read c.if-names-public_at.true)
+    refuses Refusal.Entry _ (publics-fail b _ _ _ c.loop-k.k c.loop-k-test.true read c.if-names-public_at.true)
 
 pub loop-k-preserved : goal.loop-k-preserved
 loop-k-preserved c =
@@ -23,6 +24,6 @@ loop-k-preserved c =
 pub returns : goal.returns
 returns c =
     let e : c.loop-k.k ≡ c.args.n = omega (arith, c.loop-k-test.false) in
-    accepts 5 _
+    accepts Refusal.Entry _
     (ap (publics_fit c.args.s.now c.args.names c.args.list) (sym e)
     ∙ c.loop-k.invariant.0)

@@ -1,4 +1,5 @@
 -- `source_check::reading::use_child` meets its contract. Assumes nothing.
+use Rattle.records.specs.declared.refusals.Refusal.{Refusal}
 use mathlib.Core.Path.{◌∙◌, ap}
 use borrow.Author.Tests.{lt-ltb, le-ltb}
 use Rattle.source.specs.Nodes.{child_fits}
@@ -10,7 +11,7 @@ use Rattle.source_check.proofs.reading.use_child.Goals as goal
 pub returns-in-Nothing : goal.returns-in-Nothing
 unfolding child_fits child_uses
 returns-in-Nothing c = (
-  accepts 5 _ (ap (child_fits c.args.s.now c.args.at c.args.names
+  accepts Refusal.Entry _ (ap (child_fits c.args.s.now c.args.at c.args.names
       c.args.k) c.in-Nothing.is),
   λ _. no-use c.args.s.now _ _ _ c.in-Nothing.is,
 )
@@ -18,7 +19,7 @@ returns-in-Nothing c = (
 pub returns-then-v-names : goal.returns-then-v-names
 unfolding child_fits child_uses
 returns-then-v-names c = (
-  accepts 5 _ (ap (child_fits c.args.s.now c.args.at c.args.names c.args.k) c.in-Name.is
+  accepts Refusal.Entry _ (ap (child_fits c.args.s.now c.args.at c.args.names c.args.k) c.in-Name.is
       ∙ lt-ltb _ _ c.if-v-names.true),
   λ _. name-use c.args.s.now _ _ _ c.in-Name.is,
 )
@@ -26,7 +27,7 @@ returns-then-v-names c = (
 pub returns-else-v-names : goal.returns-else-v-names
 unfolding child_fits child_uses
 returns-else-v-names c = (
-  refuses 5 _ (ap (child_fits c.args.s.now c.args.at c.args.names c.args.k) c.in-Name.is
+  refuses Refusal.Entry _ (ap (child_fits c.args.s.now c.args.at c.args.names c.args.k) c.in-Name.is
       ∙ le-ltb _ _ c.if-v-names.false),
   λ e. not-accepted e,
 )
@@ -46,7 +47,7 @@ returns-in-Links c = rw c.in-Links.is c.use_chain.ensures
 pub returns-in-Wrong : goal.returns-in-Wrong
 unfolding child_fits child_uses
 returns-in-Wrong c = (
-  refuses 5 _ (ap (child_fits c.args.s.now c.args.at c.args.names
+  refuses Refusal.Entry _ (ap (child_fits c.args.s.now c.args.at c.args.names
       c.args.k) c.in-Wrong.is),
   λ e. not-accepted e,
 )
