@@ -1,12 +1,15 @@
 -- The operators' numbers, there and back. Assumes nothing.
-use mathlib.Core.Path.{◌≡◌, refl}
+use mathlib.Core.Path.{◌≡◌, refl, sym, ap, ◌∙◌}
 use mathlib.Core.Bool.{false}
 use Prim.Native.Nat.{ℕ, zero, suc, ◌<◌}
 use native.Mathlib.Omega.{arith}
 use lib.Dec.{eqb}
 use borrow.Author.Tests.{ne_eqb}
+use Rattle.std.specs.Prelude.{Result, Ok, Err}
+use Rattle.std.specs.Result.{result_unwrap_or}
 use Rattle.field.specs.declared.InfixOp.{InfixOp}
-use Rattle.field.specs.Operators.{operator_number, operator_of}
+use Rattle.field.specs.declared.operators.NoOperator.{NoOperator}
+use Rattle.field.specs.Operators.{operator_number, operator_of, Numbers}
 
 pub operator-reads : (o : InfixOp) → operator_of (operator_number o) ≡ o
 unfolding operator_of
@@ -53,3 +56,11 @@ operator-above n h =
   where
     no : (k : ℕ) → k < 8 → eqb n k ≡ false
     no k l = ne_eqb n k (λ e. omega (arith, h, l, e))
+
+-- the operator that a number is read as
+pub operator-is : (o : InfixOp) (n : ℕ) → operator_number o ≡ n → o ≡ operator_of n
+operator-is o n e = sym (operator-reads o) ∙ ap operator_of e
+
+pub operator-or_modulo : (n : ℕ) (r : Result InfixOp NoOperator) → Numbers n r → result_unwrap_or r InfixOp.Modulo ≡ operator_of n
+operator-or_modulo n (Ok o) e = operator-is o n e
+operator-or_modulo n (Err x) e = sym (operator-above n e.1)
