@@ -13,16 +13,18 @@ use Rattle.flat.specs.Rules.{All}
 use Rattle.flat.specs.Record.{rows, pick, definition_at}
 use Rattle.flat.specs.Layout.{public_at, prover_at}
 pub use Rattle.flat.proofs.Standing.{Stands, stands-left, stands-right, at_place}
-pub use Rattle.flat.proofs.WriteBack.{operator-reads, operator-below, root_below, next-below, next-words, ids-read, moved, tree-reads, definitions-back}
+pub use Rattle.flat.proofs.WriteBack.{root_below, next-below, next-words, ids-read, moved, tree-reads, definitions-back}
 use Rattle.constraint.specs.declared.Term.{Term}
 use Rattle.constraint.specs.Trees.{Side, Equality, ConstraintModule, operation, first, second, written}
-use Rattle.constraint.specs.Record.{number_word, term_words, operator_word, operation_word, written_words, equality_words, equalities_words}
+use Rattle.constraint.specs.Record.{number_word, term_words, operation_word, written_words, equality_words, equalities_words}
 use Rattle.constraint.specs.Record.{definitions_words, definitions_trees, header_words, constraint_words, constraint_bytes}
 use Rattle.constraint.specs.Record.{EQUALITY-WORDS, KEPT-WORDS}
 use Rattle.constraint.specs.Reading.{HEADER, next, publics, provers, equalities, kept, nodes, provers_offset, equalities_offset, kept_offset, nodes_offset, size}
 use Rattle.constraint.specs.Reading.{term_at, side_for, equality_for, equality_at, constraint_of}
 use Rattle.constraint.specs.Reading.{SignedTerm, SignedSide, SignedEquality, SignedTree, ReadBack}
 use Rattle.constraint.proofs.Lengths.{length-term, length-equality, length-equalities, length-definitions, length-bytes}
+use Rattle.field.specs.Operators.{operator_number}
+use Rattle.field.proofs.Numbered.{operator-reads, operator-below}
 
 module _ (b : List ℕ) where
   -- a term
@@ -42,7 +44,7 @@ side-reads : (s : Side) → side_for (operation_word (operation s)) (first s) (s
 unfolding side_for operation_word operation first second pick
 side-reads (Side.infixed o x y) =
     let l = operator-below o in
-    rw (ne_eqb (operator_word o) 9 (λ e. omega arith), ne_eqb (operator_word o) 10 (λ e. omega arith), operator-reads o)
+    rw (ne_eqb (operator_number o) 9 (λ e. omega arith), ne_eqb (operator_number o) 10 (λ e. omega arith), operator-reads o)
 side-reads (Side.negate x) = refl
 side-reads (Side.copy x) = refl
 

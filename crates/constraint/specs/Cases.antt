@@ -4,7 +4,7 @@ use Rattle.field.specs.declared.InfixOp.{InfixOp}
 use Rattle.flat.specs.Trees.{Flat, tree_nodes, definitions_nodes}
 use Rattle.constraint.specs.declared.Term.{Term}
 use Rattle.constraint.specs.Trees.{Side, ConstraintModule, operation, first, second, written}
-use Rattle.constraint.specs.Record.{number_word, term_words, operator_word, operation_word, written_words, equality_words, equalities_words, next_from}
+use Rattle.constraint.specs.Record.{number_word, term_words, operation_word, written_words, equality_words, equalities_words, next_from}
 use Rattle.constraint.specs.Record.{root_from, node_words, nodes_from, definition_words, definitions_words, definitions_trees, header_words, constraint_words}
 
 abbrev pub example : ConstraintModule
@@ -35,6 +35,6 @@ example-words =
     ++ (5 ∷ 2 ∷ 0 ∷ 0 ∷ [])))))))))
 
 pub example-written : constraint_words example ≡ example-words
-unfolding operation first second written number_word term_words operator_word operation_word written_words equality_words equalities_words next_from root_from node_words
+unfolding operation first second written number_word term_words operation_word written_words equality_words equalities_words next_from root_from node_words
     nodes_from definition_words definitions_words definitions_trees tree_nodes definitions_nodes header_words constraint_words
 example-written = refl

@@ -4,11 +4,12 @@ use Rattle.words.specs.Words.{bytes_of}
 use Rattle.flat.specs.Trees.{definitions_nodes}
 use Rattle.flat.specs.Layout.{DEFINITION-WORDS}
 unfoldable pub use Rattle.flat.specs.Layout.{node_words, definition_words, header_words}
-unfoldable pub use Rattle.flat.specs.Writer.{number_word, operator_word, next_from, root_from, nodes_from, definitions_words, definitions_trees}
+unfoldable pub use Rattle.flat.specs.Writer.{number_word, next_from, root_from, nodes_from, definitions_words, definitions_trees}
 use Rattle.constraint.specs.declared.Operation.{Operation}
 use Rattle.constraint.specs.declared.Equality.{Equality as Written}
 use Rattle.constraint.specs.declared.Term.{Term}
 use Rattle.constraint.specs.Trees.{Equality, ConstraintModule, written}
+use Rattle.field.specs.Operators.{operator_number}
 
 -- the operations that are no operators
 abbrev pub NEGATE : ℕ
@@ -34,7 +35,7 @@ term_words (Term.Constant c) = 1 ∷ number_word c ∷ []
 
 -- "operation (0 to 8, 9 negate, 10 copy)"
 unfoldable pub operation_word : Operation → ℕ
-operation_word (Operation.Infix o) = operator_word o
+operation_word (Operation.Infix o) = operator_number o
 operation_word Operation.Negate = NEGATE
 operation_word Operation.Copy = COPY
 

@@ -6,14 +6,11 @@ pub mod reading;
 
 ghost use Rattle.std.specs.Prelude.{◌≡◌, ◌+◌, ◌*◌, ◌≤◌, length};
 ghost use Rattle.words.specs.Words.{set_words};
-ghost use Rattle.constraint.specs.Record.{EQUALITY-WORDS, TERM-WORDS, term_words, operator_word, operation_word, written_words};
+ghost use Rattle.constraint.specs.Record.{EQUALITY-WORDS, TERM-WORDS, term_words, operation_word, written_words};
 
 use field::InfixOp;
 use flat::entries::DEFINITION_WORDS;
 use records::flat_record;
-use records::operators::{
-    ADD, DIVIDE, DIVIDE_Z, EQUAL, EXPONENTIATE, INT_DIVIDE, MODULO, MULTIPLY, SUBTRACT,
-};
 use words::{put_word, unsigned};
 
 // Words of the record's header.
@@ -53,29 +50,12 @@ pub struct Equality {
     pub second: Term,
 }
 
-// The operator's number, 0 to 8.
-pub fn operator_number(op: InfixOp) -> u32
-    ensures { result ≡ operator_word op }
-{
-    match op {
-        InfixOp::Divide => DIVIDE,
-        InfixOp::DivideZ => DIVIDE_Z,
-        InfixOp::Multiply => MULTIPLY,
-        InfixOp::Add => ADD,
-        InfixOp::Subtract => SUBTRACT,
-        InfixOp::Equal => EQUAL,
-        InfixOp::Exponentiate => EXPONENTIATE,
-        InfixOp::IntDivide => INT_DIVIDE,
-        InfixOp::Modulo => MODULO,
-    }
-}
-
 // The operation's number, 0 to 10.
 fn operation_number(operation: Operation) -> u32
     ensures { result ≡ operation_word operation }
 {
     match operation {
-        Operation::Infix(op) => operator_number(op),
+        Operation::Infix(op) => u32::from(op),
         Operation::Negate => NEGATE,
         Operation::Copy => COPY,
     }

@@ -39,10 +39,8 @@ fn write_publics(out: &mut FlatBytes, publics: &[u32; PUBLICS], count: usize)
     requires { count ≤ PUBLICS }
     ensures { out.new ≡ set_words out.old HEADER (firsts publics.now count) }
 {
-    let mut i = 0usize;
-    while i < count {
+    for i in 0..count {
         put(out, HEADER + i, publics[i]);
-        i += 1;
     }
 }
 
@@ -64,11 +62,9 @@ fn write_provers(out: &mut FlatBytes, marks: &Marks, at: usize)
     requires { at ≤ LAST-PROVERS-AT }
     ensures { out.new ≡ set_words out.old at (marked marks.now IDS) }
 {
-    let mut i = 0u32;
     let mut to = at;
-    while i < IDS {
+    for i in 0..IDS {
         to = write_prover(out, marks, to, i);
-        i += 1;
     }
 }
 
@@ -87,12 +83,10 @@ fn write_definitions(
         ≡ write_definitions fixed.now store.now at rows.now list count (written 0 out.old)) × (result ≤ NODES) }
 {
     let mut k = 0u32;
-    let mut d = 0u32;
-    while d < count {
+    for d in 0..count {
         k = write_tree(fixed, store, out, at, listed(rows, DEFINED_NODES, d), k);
         let to = list + DEFINITION_WORDS * (d as usize);
         put_definition(out, to, listed(rows, DEFINED_IDS, d), below(k));
-        d += 1;
     }
     k
 }
@@ -113,13 +107,11 @@ fn write_equations(
         ≡ write_equations fixed.now store.now at rows.now list count (written from out.old)) × (result ≤ NODES) }
 {
     let mut k = from;
-    let mut e = 0u32;
-    while e < count {
+    for e in 0..count {
         let one = write_tree(fixed, store, out, at, listed(rows, LEFT_SIDES, e), k);
         k = write_tree(fixed, store, out, at, listed(rows, RIGHT_SIDES, e), one);
         let to = list + EQUATION_WORDS * (e as usize);
         put_equation(out, to, below(one), below(k));
-        e += 1;
     }
     k
 }

@@ -2,6 +2,7 @@ pub mod Primality
 pub mod Modular
 pub mod Elements
 pub mod ByResidues
+pub mod Numbered
 pub mod Laws
 pub mod Answers
 pub mod Values

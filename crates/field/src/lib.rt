@@ -4,6 +4,7 @@
 
 pub mod counts;
 mod inverses;
+pub mod operators;
 mod residues;
 mod whole;
 
@@ -18,7 +19,7 @@ use residues::{P, centred, magnitude, power_of, residue};
 use whole::whole_quotient;
 
 // The operations on two elements, in the order of their numbers: / | * + - = ^ \ %
-#[derive(Clone, Copy)]
+#[derive(Clone, Copy, Debug, PartialEq, Eq, Hash)]
 pub enum InfixOp {
     Divide,
     DivideZ,

@@ -5,8 +5,7 @@ use Rattle.std.specs.Prelude.{ℕ, zero, suc, ◌+◌, ◌-◌, ◌*◌, List, [
 use Rattle.std.proofs.Common.{to_z}
 use Rattle.std.specs.Int.{w32}
 use Rattle.words.specs.Words.{word_at}
-use Rattle.field.specs.declared.InfixOp.{InfixOp}
-use Rattle.field.specs.declared.InfixOp.TheVariants.{Divide, DivideZ, Multiply, Add, Subtract, Equal, Exponentiate, IntDivide, Modulo}
+unfoldable pub use Rattle.field.specs.Operators.{operator_of}
 unfoldable pub use Rattle.marks.specs.Indices.{every, total, rows, pick, same}
 use Rattle.flat.specs.Trees.{Flat, Definition, Equation, FlatModule, defines, every_id}
 use Rattle.flat.specs.declared.Node.{Node}
@@ -17,7 +16,7 @@ use Rattle.flat.specs.declared.Checked.{Checked}
 use Rattle.flat.specs.declared.Checked.TheVariants.{Accepted, Refused}
 use Rattle.records.specs.FlatRecord.{HEADER, IDS, LISTED, NODES, PUBLICS}
 use Rattle.records.specs.Kinds.{CONSTANT, INFIX, NEGATE, VARIABLE}
-use Rattle.records.specs.Operators.{ADD, DIVIDE, DIVIDE-Z, EQUAL, EXPONENTIATE, INT-DIVIDE, MODULO, MULTIPLY, SUBTRACT}
+use Rattle.records.specs.Operators.{MODULO}
 
 -- ---- 20
 
@@ -33,18 +32,6 @@ measured b =
     && eqb (length b) (4 * size b))))))
 
 -- ---- nodes
-
--- "Operators 0 to 8 in the order of `InfixOp`"
-unfoldable pub operator_of : ℕ → InfixOp
-operator_of c =
-    pick (eqb c DIVIDE) Divide
-    (pick (eqb c DIVIDE-Z) DivideZ
-    (pick (eqb c MULTIPLY) Multiply
-    (pick (eqb c ADD) Add
-    (pick (eqb c SUBTRACT) Subtract
-    (pick (eqb c EQUAL) Equal
-    (pick (eqb c EXPONENTIATE) Exponentiate
-    (pick (eqb c INT-DIVIDE) IntDivide Modulo)))))))
 
 -- "4 infix(a, b, operator c), 5 negate(a), 7 constant a, 8 variable"; constants are signed. What is no node of a flat record reads as a variable
 unfoldable pub node_for : ℕ → ℕ → ℕ → ℕ → Node

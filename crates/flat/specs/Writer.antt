@@ -4,9 +4,8 @@ use Rattle.std.specs.Prelude.{List, [], ◌∷◌, ◌++◌, ℕ, ◌+◌, ◌-�
 use Rattle.std.proofs.Common.{of_z, SFits}
 use Rattle.std.specs.Int.{w32}
 use Rattle.words.specs.Words.{bytes_of}
-use Rattle.field.specs.declared.InfixOp.{InfixOp}
+use Rattle.field.specs.Operators.{operator_number}
 use Rattle.records.specs.Kinds.{CONSTANT, INFIX, NEGATE, VARIABLE}
-use Rattle.records.specs.Operators.{ADD, DIVIDE, DIVIDE-Z, EQUAL, EXPONENTIATE, INT-DIVIDE, MODULO, MULTIPLY, SUBTRACT}
 use Rattle.flat.specs.Trees.{Flat, Definition, Equation, FlatModule, tree_nodes, definitions_nodes, module_nodes}
 use Rattle.flat.specs.Layout.{header_words, definition_words, equation_words, node_words}
 use Rattle.flat.specs.Rules.{All}
@@ -14,18 +13,6 @@ use Rattle.flat.specs.Rules.{All}
 -- a number's 32 bits
 unfoldable pub number_word : ℤ → ℕ
 number_word c = of_z w32 c
-
--- "operators 0 to 8 in the order of `InfixOp`"
-unfoldable pub operator_word : InfixOp → ℕ
-operator_word InfixOp.Divide = DIVIDE
-operator_word InfixOp.DivideZ = DIVIDE-Z
-operator_word InfixOp.Multiply = MULTIPLY
-operator_word InfixOp.Add = ADD
-operator_word InfixOp.Subtract = SUBTRACT
-operator_word InfixOp.Equal = EQUAL
-operator_word InfixOp.Exponentiate = EXPONENTIATE
-operator_word InfixOp.IntDivide = INT-DIVIDE
-operator_word InfixOp.Modulo = MODULO
 
 -- "nodes stand children first, left to right": where a tree's first node has the index `base`, the index after it, and that of its root, its last node
 unfoldable pub next_from : ℕ → Flat → ℕ
@@ -37,7 +24,7 @@ root_from base e = next_from base e - 1
 unfoldable pub nodes_from : ℕ → Flat → List ℕ
 nodes_from base (Flat.infixed o a b) =
     let middle = next_from base a in
-    nodes_from base a ++ (nodes_from middle b ++ node_words INFIX (root_from base a) (root_from middle b) (operator_word o))
+    nodes_from base a ++ (nodes_from middle b ++ node_words INFIX (root_from base a) (root_from middle b) (operator_number o))
 nodes_from base (Flat.negate a) = nodes_from base a ++ node_words NEGATE (root_from base a) 0 0
 nodes_from base (Flat.constant c) = node_words CONSTANT (number_word c) 0 0
 nodes_from base (Flat.variable v) = node_words VARIABLE v 0 0

@@ -19,9 +19,6 @@ use ordering::in_order;
 use records::NODE_WORDS;
 use records::flat_record::{HEADER, ID_COUNT, LISTED, NODES, PUBLICS};
 use records::kinds::{CONSTANT, INFIX, NEGATE};
-use records::operators::{
-    ADD, DIVIDE, DIVIDE_Z, EQUAL, EXPONENTIATE, INT_DIVIDE, MULTIPLY, SUBTRACT,
-};
 use uses::trees_hold;
 use words::count;
 
@@ -59,21 +56,11 @@ pub struct Layout {
     pub size: usize,
 }
 
-// The operator with a number.
+// The operator with a number, which reads as Modulo from 8 on.
 pub fn operator(c: u32) -> InfixOp
     ensures { result ≡ operator_of c }
 {
-    match c {
-        DIVIDE => InfixOp::Divide,
-        DIVIDE_Z => InfixOp::DivideZ,
-        MULTIPLY => InfixOp::Multiply,
-        ADD => InfixOp::Add,
-        SUBTRACT => InfixOp::Subtract,
-        EQUAL => InfixOp::Equal,
-        EXPONENTIATE => InfixOp::Exponentiate,
-        INT_DIVIDE => InfixOp::IntDivide,
-        _ => InfixOp::Modulo,
-    }
+    InfixOp::try_from(c).unwrap_or(InfixOp::Modulo)
 }
 
 // Node k of the nodes that start at word `at`.

@@ -11,6 +11,7 @@ use mir.Syntax.{w32}
 use Rattle.words.specs.Words.{set_words}
 use Rattle.words.proofs.Laws.{length-set_words, set_words-append}
 use Rattle.field.specs.declared.InfixOp.{InfixOp}
+use Rattle.field.specs.Operators.{operator_number}
 use Rattle.records.specs.Kinds.{NODE-WORDS}
 use Rattle.flat.specs.Trees.{Flat, tree_nodes}
 use Rattle.flat.specs.Record.{node_of, tree}
@@ -18,7 +19,7 @@ use Rattle.flat.specs.Readable.{Inside}
 use Rattle.flat.specs.declared.Node.TheVariants.{Infix, Negate}
 use Rattle.flat.proofs.Nodes.{tree-infix, tree-negate}
 use Rattle.constraint.specs.declared.Term.{Term}
-use Rattle.constraint.specs.Record.{number_word, operator_word, root_from, next_from, node_words, nodes_from}
+use Rattle.constraint.specs.Record.{number_word, root_from, next_from, node_words, nodes_from}
 use Rattle.constraint.proofs.Lengths.{length-nodes, tree-positive}
 use Rattle.pass_trees.specs.Passes.{Substitutions, walk, to_expr, copy_propagate_expr}
 use Rattle.pass_classify.proofs.Walks.{left-inside, right-inside, child-inside}
@@ -89,11 +90,11 @@ unfolding next_from root_from
 leaf-next base t = omega (arith, term-nodes t)
 
 pub put-infix : (l : List ℕ) (base : ℕ) {l₁ l₂ l₃ : List ℕ} {a b o : ℕ} {op : InfixOp} {e x y : Flat} → e ≡ Flat.infixed op x y → l₁ ≡ put_tree l base x
-    → a ≡ next_from base x → l₂ ≡ put_tree l₁ a y → b ≡ next_from a y → o ≡ operator_word op → l₃ ≡ set_words l₂ (4 * b) (node_words 4 (a - 1) (b - 1) o)
+    → a ≡ next_from base x → l₂ ≡ put_tree l₁ a y → b ≡ next_from a y → o ≡ operator_number op → l₃ ≡ set_words l₂ (4 * b) (node_words 4 (a - 1) (b - 1) o)
     → (l₃ ≡ put_tree l base e) × (b + 1 ≡ next_from base e)
 unfolding put_tree nodes_from
 put-infix l base {l₁} {l₂} {l₃} {a} {b} {o} {op} {e} {x} {y} q p₁ qa p₂ qb qo p₃ =
-    let node : List ℕ = node_words 4 (root_from base x) (root_from (next_from base x) y) (operator_word op) in
+    let node : List ℕ = node_words 4 (root_from base x) (root_from (next_from base x) y) (operator_number op) in
     let same : node_words 4 (a - 1) (b - 1) o ≡ node = rw (root_is a base x qa, root_is b a y qb, qo, qa) in
     let move : set_words l₁ (4 * a) (nodes_from (next_from base x) y ++ node) ≡ set_words l₁ (4 * a) (nodes_from a y ++ node) =
     ap (λ (i : ℕ). set_words l₁ (4 * a) (nodes_from i y ++ node)) (sym qa) in

@@ -13,7 +13,7 @@ ghost use Rattle.pass_copies.specs.Substituted.{subst_of, put_definitions, SUBST
 ghost use Rattle.pass_keep.specs.Keeping.{record_kept, put_tree, put_kept, put_nodes, kept_from, Keeps, NodeRoom, WordRoom};
 ghost use Rattle.records.specs.FlatRecord.{IDS};
 
-use constraint::{KEPT_WORDS, Term, operator_number};
+use constraint::{KEPT_WORDS, Term};
 use flat::Node;
 use flat::entries::{definition_at, put_definition, put_node};
 use pass_classify::{NEVER, Provers, Usages};
@@ -56,7 +56,7 @@ fn put_tree(
         Node::Infix(op, x, y) => {
             let a = put_tree(s, nodes, x, subs, steps, list, base);
             let b = put_tree(s, nodes, y, subs, steps, list, a);
-            let o = operator_number(op);
+            let o = u32::from(op);
             put_node(
                 list,
                 NODE_WORDS * b,

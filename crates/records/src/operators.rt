@@ -1,18 +1,20 @@
-// The operators in the order of InfixOp, as the records number them.
-pub const DIVIDE: u32 = 0;
+// The operators, as the records number them.
+use field::InfixOp;
 
-pub const DIVIDE_Z: u32 = 1;
+pub const DIVIDE: u32 = InfixOp::Divide as u32;
 
-pub const MULTIPLY: u32 = 2;
+pub const DIVIDE_Z: u32 = InfixOp::DivideZ as u32;
 
-pub const ADD: u32 = 3;
+pub const MULTIPLY: u32 = InfixOp::Multiply as u32;
 
-pub const SUBTRACT: u32 = 4;
+pub const ADD: u32 = InfixOp::Add as u32;
 
-pub const EQUAL: u32 = 5;
+pub const SUBTRACT: u32 = InfixOp::Subtract as u32;
 
-pub const EXPONENTIATE: u32 = 6;
+pub const EQUAL: u32 = InfixOp::Equal as u32;
 
-pub const INT_DIVIDE: u32 = 7;
+pub const EXPONENTIATE: u32 = InfixOp::Exponentiate as u32;
 
-pub const MODULO: u32 = 8;
+pub const INT_DIVIDE: u32 = InfixOp::IntDivide as u32;
+
+pub const MODULO: u32 = InfixOp::Modulo as u32;

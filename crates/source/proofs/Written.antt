@@ -1,15 +1,16 @@
 -- The trees that are written: their nodes fit, each is used once, and they are read back. Assumes nothing.
 use Prim.Native.Nat.{ℕ, ◌+◌, ◌*◌, ◌≤◌, ◌<◌}
-use mathlib.Core.Path.{◌≡◌, refl, ap, ◌∙◌}
+use mathlib.Core.Path.{◌≡◌, refl, ap, sym, ◌∙◌}
 use mathlib.Core.List.{List, [], ◌∷◌, ◌++◌}
 use mathlib.Core.Bool.{true, false, ◌||◌}
 use native.Mathlib.Omega.{arith}
 use lib.ListN.{length, length-append}
 use lib.Dec.{eqb}
-use borrow.Author.Tests.{ne_eqb, lt-ltb}
+use borrow.Author.Tests.{ne_eqb, lt-ltb, le-leb}
 use mir.Syntax.{w32}
 use mir.ValLaws.{to_z-of_z}
 use Rattle.field.specs.declared.InfixOp.{InfixOp}
+use Rattle.field.specs.Operators.{operator_number}
 use Rattle.source.specs.declared.Entry.{Entry}
 use Rattle.source.specs.declared.Form.{Form}
 use Rattle.source.specs.declared.Shape.{Shape}
@@ -18,12 +19,14 @@ use Rattle.source.specs.declared.Child.{Child}
 use Rattle.source.specs.declared.Children.{Children}
 use Rattle.source.specs.Trees.{Pat, Expr, Items, Arms, Env}
 use Rattle.source.specs.Indices.{pick}
-use Rattle.source.specs.Nodes.{operator_of, infix_for, entry_for, entry_of, is_expression, is_pattern, expression_fits, pattern_fits}
+use Rattle.source.specs.Nodes.{infix_for, entry_for, entry_of, is_expression, is_pattern, expression_fits, pattern_fits}
 use Rattle.source.specs.Nodes.{item_fits, result_fits, link_fits, chain_fits, child_fits, form_children, shape_children, children_fit}
 use Rattle.source.specs.Uses.{same, result_uses, link_uses, chain_uses, child_uses, children_use}
 use Rattle.source.specs.Record.{Tree, expression_of, pattern_of, link_of, tree, node_tree}
-use Rattle.source.specs.Encoding.{root_of, link_to, operator_number, pat_count, pats_count, expr_count, items_count, arms_count}
+use Rattle.source.specs.Encoding.{root_of, link_to, pat_count, pats_count, expr_count, items_count, arms_count}
 use Rattle.source.specs.Encoding.{pat_nodes, pats_nodes, expr_nodes, items_nodes, arms_nodes, All, PatFits, ExprFits, ItemsFit, ArmsFit}
+use Rattle.field.proofs.Numbered.{operator-reads, operator-below}
+use Rattle.source.proofs.Laws.{pick_yes}
 use Rattle.source.proofs.Nodes.{settled, expression-is, pattern-is, link-is}
 use Rattle.source.proofs.Links.{chain-is, uses-is}
 use Rattle.source.proofs.Spans.{Holds, holds-left, nodes-after, node-held, Span, span_none, span-join}
@@ -359,16 +362,9 @@ module _ (b : List ℕ) (at names : ℕ) where
 -- ---- every expression
 
 operator-read : (o : InfixOp) (x y : ℕ) → infix_for (operator_number o) x y ≡ Entry.Expression (Form.Infix o x y)
-unfolding infix_for operator_number operator_of pick
-operator-read InfixOp.Divide x y = refl
-operator-read InfixOp.DivideZ x y = refl
-operator-read InfixOp.Multiply x y = refl
-operator-read InfixOp.Add x y = refl
-operator-read InfixOp.Subtract x y = refl
-operator-read InfixOp.Equal x y = refl
-operator-read InfixOp.Exponentiate x y = refl
-operator-read InfixOp.IntDivide x y = refl
-operator-read InfixOp.Modulo x y = refl
+unfolding infix_for
+operator-read o x y =
+    sym (pick_yes _ _ (le-leb _ _ (omega (arith, operator-below o))) (ap (λ (p : InfixOp). Entry.Expression (Form.Infix p x y)) (sym (operator-reads o))))
 
 pats-some : (ps : List Pat) → 1 ≤ length ps → 1 ≤ pats_count ps
 unfolding pats_count

@@ -4,11 +4,10 @@ use Rattle.std.specs.Prelude.{ℕ, zero, suc, ◌+◌, ◌-◌, ◌≤◌, ◌<�
 use Rattle.std.proofs.Common.{of_z, SFits}
 use Rattle.std.specs.Int.{w32}
 use Rattle.words.specs.Words.{bytes_of}
-use Rattle.field.specs.declared.InfixOp.{InfixOp}
+use Rattle.field.specs.Operators.{operator_number}
 use Rattle.source.specs.Trees.{Pat, Expr, Items, Arms, Env, Text, Module}
 use Rattle.records.specs.Kinds.{APPLICATION, AS-PATTERN, CONS, CONS-PATTERN, CONSTANT, CONSTANT-PATTERN, FUNCTION, INFIX, LET, LINK, MATCH}
 use Rattle.records.specs.Kinds.{NEGATE, NIL, NIL-PATTERN, PRODUCT, PRODUCT-PATTERN, SEQUENCE, UNIT, UNIT-PATTERN, VARIABLE, VARIABLE-PATTERN}
-use Rattle.records.specs.Operators.{ADD, DIVIDE, DIVIDE-Z, EQUAL, EXPONENTIATE, INT-DIVIDE, MODULO, MULTIPLY, SUBTRACT}
 use Rattle.records.specs.SourceRecord.{DEFINITIONS, EXPRESSIONS, NAME-BYTES, NAMES, NO-LINK, NODES, PUBLICS}
 use Rattle.source.specs.Names.{FIRST-BYTE, LAST-BYTE}
 
@@ -24,17 +23,6 @@ root_of s n = s + n - 1
 unfoldable pub link_to : ℕ → ℕ → ℕ
 link_to s zero = NO-LINK
 link_to s (suc n) = s + n
-
-unfoldable pub operator_number : InfixOp → ℕ
-operator_number InfixOp.Divide = DIVIDE
-operator_number InfixOp.DivideZ = DIVIDE-Z
-operator_number InfixOp.Multiply = MULTIPLY
-operator_number InfixOp.Add = ADD
-operator_number InfixOp.Subtract = SUBTRACT
-operator_number InfixOp.Equal = EQUAL
-operator_number InfixOp.Exponentiate = EXPONENTIATE
-operator_number InfixOp.IntDivide = INT-DIVIDE
-operator_number InfixOp.Modulo = MODULO
 
 -- how many nodes a tree has, with its links
 unfoldable pub pat_count : Pat → ℕ

@@ -3,7 +3,7 @@
 use Rattle.std.specs.Prelude.{ℕ, zero, suc, List, Bool, true, false, ◌&&◌, ◌||◌, leb, ltb, eqb}
 use Rattle.std.proofs.Common.{to_z}
 use Rattle.std.specs.Int.{w32}
-use Rattle.field.specs.declared.InfixOp.{InfixOp}
+unfoldable pub use Rattle.field.specs.Operators.{operator_of}
 use Rattle.source.specs.declared.Entry.{Entry}
 use Rattle.source.specs.declared.Form.{Form}
 use Rattle.source.specs.declared.Shape.{Shape}
@@ -14,22 +14,9 @@ use Rattle.source.specs.Indices.{every, pick}
 use Rattle.source.specs.Layout.{public_at, definition_entry, expression_root, node_entry}
 use Rattle.records.specs.Kinds.{APPLICATION, AS-PATTERN, CONS, CONS-PATTERN, CONSTANT, CONSTANT-PATTERN, FUNCTION, INFIX, LET, LINK, MATCH}
 use Rattle.records.specs.Kinds.{NEGATE, NIL, NIL-PATTERN, PRODUCT, PRODUCT-PATTERN, SEQUENCE, UNIT, UNIT-PATTERN, VARIABLE, VARIABLE-PATTERN}
-use Rattle.records.specs.Operators.{ADD, DIVIDE, DIVIDE-Z, EQUAL, EXPONENTIATE, INT-DIVIDE, MULTIPLY, SUBTRACT}
 use Rattle.records.specs.SourceRecord.{NO-LINK}
 
 -- ---- what a node says
-
--- "Operators 0 to 8 in the order of `InfixOp`"
-unfoldable pub operator_of : ℕ → InfixOp
-operator_of c =
-    pick (eqb c DIVIDE) InfixOp.Divide
-    (pick (eqb c DIVIDE-Z) InfixOp.DivideZ
-    (pick (eqb c MULTIPLY) InfixOp.Multiply
-    (pick (eqb c ADD) InfixOp.Add
-    (pick (eqb c SUBTRACT) InfixOp.Subtract
-    (pick (eqb c EQUAL) InfixOp.Equal
-    (pick (eqb c EXPONENTIATE) InfixOp.Exponentiate
-    (pick (eqb c INT-DIVIDE) InfixOp.IntDivide InfixOp.Modulo)))))))
 
 -- "Unused words are 0"
 abbrev pub unused : ℕ → Entry → Entry

@@ -2,7 +2,7 @@
 ghost use Rattle.std.specs.Prelude.{◌≡◌};
 ghost use Rattle.std.proofs.Common.{to_z};
 ghost use Rattle.std.specs.Int.{w32};
-ghost use Rattle.source.specs.Nodes.{operator_of, unused, infix_for, entry_for};
+ghost use Rattle.source.specs.Nodes.{unused, infix_for, entry_for};
 
 use super::{Entry, Form, Shape};
 use field::InfixOp;
@@ -11,26 +11,6 @@ use records::kinds::{
     LINK, MATCH, NEGATE, NIL, NIL_PATTERN, PRODUCT, PRODUCT_PATTERN, SEQUENCE, UNIT, UNIT_PATTERN,
     VARIABLE, VARIABLE_PATTERN,
 };
-use records::operators::{
-    ADD, DIVIDE, DIVIDE_Z, EQUAL, EXPONENTIATE, INT_DIVIDE, MODULO, MULTIPLY, SUBTRACT,
-};
-
-// The operator with a number.
-fn operator(c: u32) -> InfixOp
-    ensures { result ≡ operator_of c }
-{
-    match c {
-        DIVIDE => InfixOp::Divide,
-        DIVIDE_Z => InfixOp::DivideZ,
-        MULTIPLY => InfixOp::Multiply,
-        ADD => InfixOp::Add,
-        SUBTRACT => InfixOp::Subtract,
-        EQUAL => InfixOp::Equal,
-        EXPONENTIATE => InfixOp::Exponentiate,
-        INT_DIVIDE => InfixOp::IntDivide,
-        _ => InfixOp::Modulo,
-    }
-}
 
 // A constant's number.
 fn number(a: u32) -> i64
@@ -50,10 +30,9 @@ fn blank(w: u32, e: Entry) -> Entry
 fn operation(c: u32, x: usize, y: usize) -> Entry
     ensures { result ≡ infix_for c x y }
 {
-    if c <= MODULO {
-        Entry::Expression(Form::Infix(operator(c), x, y))
-    } else {
-        Entry::Bad
+    match InfixOp::try_from(c) {
+        Ok(op) => Entry::Expression(Form::Infix(op, x, y)),
+        Err(_) => Entry::Bad,
     }
 }
 

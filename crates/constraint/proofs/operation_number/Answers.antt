@@ -5,7 +5,7 @@ use Rattle.constraint.proofs.operation_number.Goals as goal
 
 pub returns-in-Infix : goal.returns-in-Infix
 unfolding operation_word
-returns-in-Infix c = c.operator_number.ensures ∙ sym (ap operation_word c.in-Infix.is)
+returns-in-Infix c = c.from.ensures ∙ sym (ap operation_word c.in-Infix.is)
 
 pub returns-in-Negate : goal.returns-in-Negate
 unfolding operation_word

@@ -4,22 +4,19 @@ use Rattle.eval_write.proofs.Ways.{definitions-none, definitions-more, definitio
 use Rattle.eval_write.proofs.write_definitions.Goals as goal
 
 pub loop-d-init : goal.loop-d-init
-loop-d-init c = ((definitions-none _ _ _ _ _ _, omega arith), omega arith)
+loop-d-init c = (definitions-none _ _ _ _ _ _, omega arith)
 
 pub write_tree-k-requires : goal.write_tree-k-requires
-write_tree-k-requires c = (c.requires.0, c.loop-d.invariant.0.1)
+write_tree-k-requires c = (c.requires.0, c.loop-d.invariant.1)
 
 pub loop-d-preserved : goal.loop-d-preserved
 loop-d-preserved c =
     let was = c.loop-d.invariant in
     let put = c.put_definition.ensures in (
-      (
-        definitions-more _ _ _ _ _ _ _ was.0.0 c.listed.ensures c.write_tree-k.ensures.0 c.listed-in-loop-d.ensures
-            c.below.ensures put,
-        c.write_tree-k.ensures.1,
-      ),
-      omega (arith, c.loop-d-test.true),
+      definitions-more _ _ _ _ _ _ _ was.0 c.listed.ensures c.write_tree-k.ensures.0 c.listed-in-loop-d.ensures
+          c.below.ensures put,
+      c.write_tree-k.ensures.1,
     )
 
 pub returns : goal.returns
-returns c = (definitions-all _ _ _ _ _ _ c.loop-d.invariant.0.0 c.loop-d.invariant.1 c.loop-d-test.false, c.loop-d.invariant.0.1)
+returns c = (definitions-all _ _ _ _ _ _ c.loop-d.invariant.0 (omega arith) c.loop-d-test.false, c.loop-d.invariant.1)

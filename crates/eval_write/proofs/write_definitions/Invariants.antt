@@ -1,11 +1,8 @@
 use mathlib.Core.Path.{◌≡◌}
-use Prim.Native.Nat.{◌-◌, ◌≤◌}
+use Prim.Native.Nat.{◌≤◌}
 use Rattle.eval_write.specs.Written.{written, write_definitions}
 use Rattle.eval_write.proofs.write_definitions.Given as goal
 
 abbrev pub invariant-loop-d : goal.invariant-loop-d
 invariant-loop-d l =
-    ((written l.k l.out ≡ write_definitions l.fixed l.store l.at l.rows l.list l.d (written 0 l.initial.out)) × (l.k ≤ 16384)) × (l.d ≤ l.count)
-
-abbrev pub decreases-loop-d : goal.decreases-loop-d
-decreases-loop-d l = l.count - l.d
+    (written l.k l.out ≡ write_definitions l.fixed l.store l.at l.rows l.list l.d (written 0 l.initial.out)) × (l.k ≤ 16384)

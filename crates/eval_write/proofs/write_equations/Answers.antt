@@ -4,10 +4,10 @@ use Rattle.eval_write.proofs.Ways.{equations-none, equations-more, equations-all
 use Rattle.eval_write.proofs.write_equations.Goals as goal
 
 pub loop-e-init : goal.loop-e-init
-loop-e-init c = ((equations-none _ _ _ _ _ _, c.requires.0.1), omega arith)
+loop-e-init c = (equations-none _ _ _ _ _ _, c.requires.0.1)
 
 pub write_tree-one-requires : goal.write_tree-one-requires
-write_tree-one-requires c = (c.requires.0.0, c.loop-e.invariant.0.1)
+write_tree-one-requires c = (c.requires.0.0, c.loop-e.invariant.1)
 
 pub write_tree-k-requires : goal.write_tree-k-requires
 write_tree-k-requires c = (c.requires.0.0, c.write_tree-one.ensures.1)
@@ -15,13 +15,10 @@ write_tree-k-requires c = (c.requires.0.0, c.write_tree-one.ensures.1)
 pub loop-e-preserved : goal.loop-e-preserved
 loop-e-preserved c =
     let was = c.loop-e.invariant in (
-      (
-        equations-more _ _ _ _ _ _ _ was.0.0 c.listed.ensures c.write_tree-one.ensures.0 c.listed-in-loop-e.ensures
-            c.write_tree-k.ensures.0 c.below.ensures c.below-in-loop-e.ensures c.put_equation.ensures,
-        c.write_tree-k.ensures.1,
-      ),
-      omega (arith, c.loop-e-test.true),
+      equations-more _ _ _ _ _ _ _ was.0 c.listed.ensures c.write_tree-one.ensures.0 c.listed-in-loop-e.ensures
+          c.write_tree-k.ensures.0 c.below.ensures c.below-in-loop-e.ensures c.put_equation.ensures,
+      c.write_tree-k.ensures.1,
     )
 
 pub returns : goal.returns
-returns c = (equations-all _ _ _ _ _ _ c.loop-e.invariant.0.0 c.loop-e.invariant.1 c.loop-e-test.false, c.loop-e.invariant.0.1)
+returns c = (equations-all _ _ _ _ _ _ c.loop-e.invariant.0 (omega arith) c.loop-e-test.false, c.loop-e.invariant.1)

@@ -1,11 +1,8 @@
 use mathlib.Core.Path.{◌≡◌}
-use Prim.Native.Nat.{◌-◌, ◌≤◌}
+use Prim.Native.Nat.{◌≤◌}
 use Rattle.eval_write.specs.Written.{written, write_equations}
 use Rattle.eval_write.proofs.write_equations.Given as goal
 
 abbrev pub invariant-loop-e : goal.invariant-loop-e
 invariant-loop-e l =
-    ((written l.k l.out ≡ write_equations l.fixed l.store l.at l.rows l.list l.e (written l.from l.initial.out)) × (l.k ≤ 16384)) × (l.e ≤ l.count)
-
-abbrev pub decreases-loop-e : goal.decreases-loop-e
-decreases-loop-e l = l.count - l.e
+    (written l.k l.out ≡ write_equations l.fixed l.store l.at l.rows l.list l.e (written l.from l.initial.out)) × (l.k ≤ 16384)

@@ -6,11 +6,11 @@ use Rattle.eval_write.proofs.write_publics.Goals as goal
 
 pub loop-i-init : goal.loop-i-init
 unfolding firsts
-loop-i-init c = (none_yet _ _ _, omega arith)
+loop-i-init c = none_yet _ _ _
 
 pub loop-i-preserved : goal.loop-i-preserved
-loop-i-preserved c = (firsts_more _ _ _ c.loop-i.invariant.0 c.put.ensures, omega (arith, c.loop-i-test.true))
+loop-i-preserved c = firsts_more _ _ _ c.loop-i.invariant c.put.ensures
 
 pub returns : goal.returns
 unfolding firsts
-returns c = all_ids _ _ _ c.loop-i.invariant.0 c.loop-i.invariant.1 c.loop-i-test.false
+returns c = all_ids _ _ _ c.loop-i.invariant (omega arith) c.loop-i-test.false

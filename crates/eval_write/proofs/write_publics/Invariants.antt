@@ -1,11 +1,7 @@
 use mathlib.Core.Path.{◌≡◌}
-use Prim.Native.Nat.{◌-◌, ◌≤◌}
 use Rattle.words.specs.Words.{set_words}
 use Rattle.eval_write.specs.Written.{firsts}
 use Rattle.eval_write.proofs.write_publics.Given as goal
 
 abbrev pub invariant-loop-i : goal.invariant-loop-i
-invariant-loop-i l = (l.out ≡ set_words l.initial.out 6 (firsts l.publics l.i)) × (l.i ≤ l.count)
-
-abbrev pub decreases-loop-i : goal.decreases-loop-i
-decreases-loop-i l = l.count - l.i
+invariant-loop-i l = l.out ≡ set_words l.initial.out 6 (firsts l.publics l.i)

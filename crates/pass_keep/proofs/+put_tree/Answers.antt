@@ -140,7 +140,7 @@ pub returns-in-Infix : goal.returns-in-Infix
 returns-in-Infix t c =
     put-infix c.args.list.now c.args.base (copy-infix c.requires.0 _ _ (sym c.node_at-node.ensures ∙ c.in-Infix.is))
     c.put_tree-a.ensures.0 c.put_tree-a.ensures.1 c.put_tree-b.ensures.0 c.put_tree-b.ensures.1
-    c.operator_number-o.ensures c.put_node.ensures
+    c.from-o.ensures c.put_node.ensures
 
 pub returns-in-Negate : goal.returns-in-Negate
 returns-in-Negate t c =

@@ -1,19 +1,22 @@
 -- `source::entries::operation` meets its contract. Assumes nothing.
 use mathlib.Core.Path.{refl, ap}
+use native.Mathlib.Omega.{arith}
 use borrow.Author.Tests.{le-leb, lt-leb}
-use Rattle.source.specs.Nodes.{infix_for}
-use Rattle.source.proofs.Laws.{pick_no, pick_yes}
 use Rattle.field.specs.declared.InfixOp.{InfixOp}
+use Rattle.field.proofs.Numbered.{operator-is, operator-below}
+use Rattle.source.specs.Nodes.{infix_for}
 use Rattle.source.specs.declared.Entry.{Entry}
 use Rattle.source.specs.declared.Form.{Form}
+use Rattle.source.proofs.Laws.{pick_no, pick_yes}
 use Rattle.source.proofs.entries.operation.Goals as goal
 
-pub returns-then-c-le-MODULO : goal.returns-then-c-le-MODULO
+pub returns-in-Ok : goal.returns-in-Ok
 unfolding infix_for
-returns-then-c-le-MODULO c =
-    pick_yes _ _ (le-leb _ _ c.if-c-le-MODULO.true)
-    (ap (λ (o : InfixOp). Entry.Expression (Form.Infix o c.args.x c.args.y)) c.operator.ensures)
+returns-in-Ok c =
+    let e = c.in-Ok.ensures in
+    pick_yes _ _ (le-leb _ _ (omega (arith, e, operator-below c.in-Ok.op)))
+    (ap (λ (o : InfixOp). Entry.Expression (Form.Infix o c.args.x c.args.y)) (operator-is _ _ e))
 
-pub returns-else-c-le-MODULO : goal.returns-else-c-le-MODULO
+pub returns-in-Err : goal.returns-in-Err
 unfolding infix_for
-returns-else-c-le-MODULO c = pick_no _ _ (lt-leb _ _ c.if-c-le-MODULO.false) refl
+returns-in-Err c = pick_no _ _ (lt-leb _ _ c.in-Err.ensures.1) refl
