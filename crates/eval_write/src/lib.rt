@@ -10,10 +10,8 @@ ghost use Rattle.eval_write.specs.Written.{firsts, if_marked, marked, written, w
 ghost use Rattle.records.specs.FlatRecord.{HEADER, IDS, LISTED, NODES, PUBLICS};
 ghost use Rattle.records.specs.Kinds.{NODE-WORDS};
 
-use eval_memory::columns::{DEFINED_IDS, DEFINED_NODES, LEFT_SIDES, RIGHT_SIDES, listed};
-use eval_memory::nodes::below;
-use eval_memory::steps::is_prover;
-use eval_memory::{Fixed, Marks, Rows, State};
+use eval_memory::Memory;
+use eval_memory::columns::Listed;
 use flat::entries::{
     BYTES, DEFINITION_WORDS, EQUATION_WORDS, put_definition, put_equation, put_header,
 };
@@ -45,12 +43,12 @@ fn write_publics(out: &mut FlatBytes, publics: &[u32; PUBLICS], count: usize)
 }
 
 // Id i, where it has a mark: the word behind it.
-fn write_prover(out: &mut FlatBytes, marks: &Marks, to: usize, i: u32) -> usize
+fn write_prover(out: &mut FlatBytes, memory: &Memory, to: usize, i: u32) -> usize
     requires { to < WORDS }
-    ensures { (out.new ≡ set_words out.old to (if_marked marks.now i))
-        × ((result ≡ to + length (if_marked marks.now i)) × (result ≤ to + 1)) }
+    ensures { (out.new ≡ set_words out.old to (if_marked memory.now.marks i))
+        × ((result ≡ to + length (if_marked memory.now.marks i)) × (result ≤ to + 1)) }
 {
-    if is_prover(marks, i) {
+    if memory.is_prover(i) {
         put(out, to, i);
         return to + 1;
     }
@@ -58,21 +56,19 @@ fn write_prover(out: &mut FlatBytes, marks: &Marks, to: usize, i: u32) -> usize
 }
 
 // The ids with a mark, from word `at` on.
-fn write_provers(out: &mut FlatBytes, marks: &Marks, at: usize)
+fn write_provers(out: &mut FlatBytes, memory: &Memory, at: usize)
     requires { at ≤ LAST-PROVERS-AT }
-    ensures { out.new ≡ set_words out.old at (marked marks.now IDS) }
+    ensures { out.new ≡ set_words out.old at (marked memory.now.marks IDS) }
 {
     let mut to = at;
     for i in 0..IDS {
-        to = write_prover(out, marks, to, i);
+        to = write_prover(out, memory, to, i);
     }
 }
 
 // The definitions' ids and roots from word `list` on, and their nodes from word `at` on: how many nodes there are then.
 fn write_definitions(
-    fixed: &Fixed,
-    store: &[u8],
-    rows: &Rows,
+    memory: &Memory,
     out: &mut FlatBytes,
     at: usize,
     list: usize,
@@ -80,22 +76,20 @@ fn write_definitions(
 ) -> u32
     requires { (at ≤ LAST-NODES-AT) × ((list ≤ LAST-DEFINITIONS-AT) × (count ≤ LISTED)) }
     ensures { (written result out.new
-        ≡ write_definitions fixed.now store.now at rows.now list count (written 0 out.old)) × (result ≤ NODES) }
+        ≡ write_definitions memory.now.fixed memory.now.store.now at memory.now.rows list count (written 0 out.old)) × (result ≤ NODES) }
 {
     let mut k = 0u32;
     for d in 0..count {
-        k = write_tree(fixed, store, out, at, listed(rows, DEFINED_NODES, d), k);
+        k = write_tree(memory, out, at, memory.listed(Listed::DefinedNode, d), k);
         let to = list + DEFINITION_WORDS * (d as usize);
-        put_definition(out, to, listed(rows, DEFINED_IDS, d), below(k));
+        put_definition(out, to, memory.listed(Listed::DefinedId, d), k.saturating_sub(1));
     }
     k
 }
 
 // The equations' roots and nodes, behind k nodes.
 fn write_equations(
-    fixed: &Fixed,
-    store: &[u8],
-    rows: &Rows,
+    memory: &Memory,
     out: &mut FlatBytes,
     at: usize,
     list: usize,
@@ -104,35 +98,32 @@ fn write_equations(
 ) -> u32
     requires { ((at ≤ LAST-NODES-AT) × (from ≤ NODES)) × ((list ≤ LAST-EQUATIONS-AT) × (count ≤ LISTED)) }
     ensures { (written result out.new
-        ≡ write_equations fixed.now store.now at rows.now list count (written from out.old)) × (result ≤ NODES) }
+        ≡ write_equations memory.now.fixed memory.now.store.now at memory.now.rows list count (written from out.old)) × (result ≤ NODES) }
 {
     let mut k = from;
     for e in 0..count {
-        let one = write_tree(fixed, store, out, at, listed(rows, LEFT_SIDES, e), k);
-        k = write_tree(fixed, store, out, at, listed(rows, RIGHT_SIDES, e), one);
+        let one = write_tree(memory, out, at, memory.listed(Listed::LeftSide, e), k);
+        k = write_tree(memory, out, at, memory.listed(Listed::RightSide, e), one);
         let to = list + EQUATION_WORDS * (e as usize);
-        put_equation(out, to, below(one), below(k));
+        put_equation(out, to, one.saturating_sub(1), k.saturating_sub(1));
     }
     k
 }
 
 // The whole record: how many bytes it has.
 pub fn write_flat(
-    fixed: &Fixed,
-    store: &[u8],
-    rows: &Rows,
-    marks: &Marks,
-    s: State,
+    memory: &Memory,
     publics: &[u32; PUBLICS],
     count: u32,
     out: &mut FlatBytes,
 ) -> usize
-    requires { ((count ≤ PUBLICS) × (s.provers ≤ LISTED)) × ((s.definitions ≤ LISTED) × (s.equations ≤ LISTED)) }
-    ensures { (out.new ≡ (write_flat fixed.now store.now
-        rows.now marks.now s publics.now count out.old).bytes)
-        × (result ≡ 4 * (nodes_from s count + NODE-WORDS * (write_flat fixed.now store.now rows.now marks.now s
+    requires { ((count ≤ PUBLICS) × (memory.now.state.provers ≤ LISTED)) × ((memory.now.state.definitions ≤ LISTED) × (memory.now.state.equations ≤ LISTED)) }
+    ensures { (out.new ≡ (write_flat memory.now.fixed memory.now.store.now
+        memory.now.rows memory.now.marks memory.now.state publics.now count out.old).bytes)
+        × (result ≡ 4 * (nodes_from memory.now.state count + NODE-WORDS * (write_flat memory.now.fixed memory.now.store.now memory.now.rows memory.now.marks memory.now.state
         publics.now count out.old).nodes)) }
 {
+    let s = memory.state;
     put_header(
         out,
         s.next,
@@ -144,11 +135,11 @@ pub fn write_flat(
     );
     write_publics(out, publics, count as usize);
     let provers = HEADER + count as usize;
-    write_provers(out, marks, provers);
+    write_provers(out, memory, provers);
     let list = provers + (s.provers as usize);
     let sides = list + DEFINITION_WORDS * (s.definitions as usize);
     let at = sides + EQUATION_WORDS * (s.equations as usize);
-    let one = write_definitions(fixed, store, rows, out, at, list, s.definitions);
-    let all = write_equations(fixed, store, rows, out, at, sides, s.equations, one);
+    let one = write_definitions(memory, out, at, list, s.definitions);
+    let all = write_equations(memory, out, at, sides, s.equations, one);
     4 * (at + NODE_WORDS * (all as usize))
 }

@@ -6,8 +6,7 @@ ghost use Rattle.eval_write.specs.Written.{written, add_node, write_body, write_
 ghost use Rattle.records.specs.FlatRecord.{NODES};
 
 use crate::FlatBytes;
-use eval_memory::Fixed;
-use eval_memory::nodes::{below, kind, node_word};
+use eval_memory::Memory;
 use flat::entries::put_node;
 use records::NODE_WORDS;
 use records::flat_record::NODES;
@@ -30,8 +29,7 @@ fn add_node(out: &mut FlatBytes, at: usize, k: u32, kind: u32, x: u32, y: u32, z
 // Of a node below n.
 #[cycle(write_tree)]
 fn write_below(
-    fixed: &Fixed,
-    store: &[u8],
+    memory: &Memory,
     out: &mut FlatBytes,
     at: usize,
     n: u32,
@@ -39,40 +37,39 @@ fn write_below(
     k: u32,
 ) -> u32
     requires { (at ≤ LAST-NODES-AT) × (k ≤ NODES) }
-    ensures { (written result out.new ≡ upto (λ w. w) (write_body fixed.now store.now at) n c (written k out.old))
+    ensures { (written result out.new ≡ upto (λ w. w) (write_body memory.now.fixed memory.now.store.now at) n c (written k out.old))
         × (result ≤ NODES) }
 {
     if n <= c {
         return k;
     }
-    write_tree(fixed, store, out, at, c, k)
+    write_tree(memory, out, at, c, k)
 }
 
 // The nodes of a number's tree, children first, behind k nodes: how many there are then.
 #[cycle(write_tree)]
 pub fn write_tree(
-    fixed: &Fixed,
-    store: &[u8],
+    memory: &Memory,
     out: &mut FlatBytes,
     at: usize,
     n: u32,
     k: u32,
 ) -> u32
     requires { (at ≤ LAST-NODES-AT) × (k ≤ NODES) }
-    ensures { (written result out.new ≡ write_tree fixed.now store.now at n (written k out.old)) × (result ≤ NODES) }
+    ensures { (written result out.new ≡ write_tree memory.now.fixed memory.now.store.now at n (written k out.old)) × (result ≤ NODES) }
 {
-    let sort = kind(fixed, store, n);
-    let a = node_word(fixed, store, n, 1);
+    let sort = memory.kind(n);
+    let a = memory.node_word(n, 1);
     if sort == NEGATE {
-        let one = write_below(fixed, store, out, at, n, a, k);
-        return add_node(out, at, one, NEGATE, below(one), 0, 0);
+        let one = write_below(memory, out, at, n, a, k);
+        return add_node(out, at, one, NEGATE, one.saturating_sub(1), 0, 0);
     }
     if sort != INFIX {
         return add_node(out, at, k, sort, a, 0, 0);
     }
-    let b = node_word(fixed, store, n, 2);
-    let c = node_word(fixed, store, n, 3);
-    let one = write_below(fixed, store, out, at, n, a, k);
-    let two = write_below(fixed, store, out, at, n, b, one);
-    add_node(out, at, two, INFIX, below(one), below(two), c)
+    let b = memory.node_word(n, 2);
+    let c = memory.node_word(n, 3);
+    let one = write_below(memory, out, at, n, a, k);
+    let two = write_below(memory, out, at, n, b, one);
+    add_node(out, at, two, INFIX, one.saturating_sub(1), two.saturating_sub(1), c)
 }

@@ -14,7 +14,7 @@ loop-d-preserved c =
     let was = c.loop-d.invariant in
     let put = c.put_definition.ensures in (
       definitions-more _ _ _ _ _ _ _ was.0 c.listed.ensures c.write_tree-k.ensures.0 c.listed-in-loop-d.ensures
-          c.below.ensures put,
+          c.saturating_sub.ensures put,
       c.write_tree-k.ensures.1,
     )
 

@@ -5,4 +5,4 @@ use Rattle.eval_write.proofs.write_definitions.Given as goal
 
 abbrev pub invariant-loop-d : goal.invariant-loop-d
 invariant-loop-d l =
-    (written l.k l.out ≡ write_definitions l.fixed l.store l.at l.rows l.list l.d (written 0 l.initial.out)) × (l.k ≤ 16384)
+    (written l.k l.out ≡ write_definitions l.memory.fixed l.memory.store.now l.at l.memory.rows l.list l.d (written 0 l.initial.out)) × (l.k ≤ 16384)

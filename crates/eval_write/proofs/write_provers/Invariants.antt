@@ -7,5 +7,5 @@ use Rattle.eval_write.proofs.write_provers.Given as goal
 
 abbrev pub invariant-loop-i : goal.invariant-loop-i
 invariant-loop-i l =
-    ((l.out ≡ set_words l.initial.out l.at (up_to l.i (if_marked l.marks))) × (l.to ≡ l.at + length (up_to l.i (if_marked l.marks))))
+    ((l.out ≡ set_words l.initial.out l.at (up_to l.i (if_marked l.memory.marks))) × (l.to ≡ l.at + length (up_to l.i (if_marked l.memory.marks))))
     × (l.to ≤ l.at + l.i)

@@ -21,7 +21,7 @@ write_tree-add_node-requires t c = (c.requires.0, c.write_below-one.ensures.1)
 pub write_tree-returns-then-sort-eq-NEGATE : goal.write_tree-returns-then-sort-eq-NEGATE
 write_tree-returns-then-sort-eq-NEGATE t c = (
   tree-negate _ _ _ _ _ _ c.kind-sort.ensures.0 c.node_word-a.ensures c.if-sort-eq-NEGATE.true
-      c.write_below-one.ensures.0 c.below.ensures c.add_node.ensures.0,
+      c.write_below-one.ensures.0 c.saturating_sub.ensures c.add_node.ensures.0,
   c.add_node.ensures.1,
 )
 
@@ -48,6 +48,6 @@ pub write_tree-returns : goal.write_tree-returns
 write_tree-returns t c = (
   tree-infix _ _ _ _ _ _ c.kind-sort.ensures.0 c.node_word-a.ensures c.if-sort-eq-NEGATE.false c.if-sort-ne-INFIX.false
       c.node_word-b.ensures c.node_word-c.ensures c.write_below-one-2.ensures.0
-      c.write_below-two.ensures.0 c.below-2.ensures c.below-3.ensures c.add_node-2.ensures.0,
+      c.write_below-two.ensures.0 c.saturating_sub-2.ensures c.saturating_sub-3.ensures c.add_node-2.ensures.0,
   c.add_node-2.ensures.1,
 )
