@@ -27,7 +27,7 @@ pub const EQUALITY_WORDS: usize = 7;
 pub const KEPT_WORDS: usize = DEFINITION_WORDS;
 
 // "A term is either a variable or a constant."
-#[derive(Clone, Copy)]
+#[derive(Clone, Copy, PartialEq, Eq, Debug)]
 pub enum Term {
     Variable(u32),
     Constant(i32),

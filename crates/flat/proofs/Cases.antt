@@ -6,9 +6,10 @@ use lib.IntN.{pos}
 use lib.ListN.{take}
 use Rattle.words.specs.Words.{word_at, set_word, bytes_of}
 use Rattle.field.specs.declared.InfixOp.TheVariants.{Multiply, Add}
+use Rattle.records.specs.declared.refusals.Refusal.{Refusal}
 use Rattle.flat.specs.Trees.{Flat, FlatModule, defines, every_id}
-use Rattle.flat.specs.Layout.{node_at}
-use Rattle.flat.specs.Record.{every, total, rows, pick, measured, operator_of, node_for, node_of, grown, tree, definition_at}
+use Rattle.flat.specs.Layout.{layout_of, node_at}
+use Rattle.flat.specs.Record.{has_few, ids_hold, every, total, rows, pick, measured, operator_of, node_for, node_of, grown, tree, definition_at}
 use Rattle.flat.specs.Record.{equation_at, module_of, all_below, rising, definitions_fit, equations_fit, node_fits, nodes_fit, same}
 use Rattle.flat.specs.Record.{used_by, by_nodes, by_definitions, by_equations, used_once, trees_hold, ordered, rules, flat_of, Read}
 
@@ -36,16 +37,16 @@ module_f = record {
 }
 
 pub case-F : flat_of record_f ≡ Read.module-of module_f
-unfolding record_f module_f word_at bytes_of defines every_id every total rows pick measured node_at operator_of node_for node_of grown tree definition_at
+unfolding record_f module_f word_at bytes_of defines every_id every total rows pick has_few ids_hold layout_of measured node_at operator_of node_for node_of grown tree definition_at
     equation_at module_of all_below rising definitions_fit equations_fit node_fits nodes_fit same used_by by_nodes by_definitions by_equations used_once
     trees_hold ordered rules flat_of
 case-F = refl
 
-pub case-short : flat_of (take 151 record_f) ≡ Read.refused 20
-unfolding record_f word_at bytes_of pick measured flat_of
+pub case-short : flat_of (take 151 record_f) ≡ Read.refused Refusal.FlatLength
+unfolding record_f word_at bytes_of pick has_few layout_of measured flat_of
 case-short = refl
 
-pub case-next : flat_of (set_word record_f 0 2) ≡ Read.refused 21
-unfolding record_f word_at set_word bytes_of defines every_id every total rows pick measured node_at operator_of node_for node_of grown tree definition_at all_below
+pub case-next : flat_of (set_word record_f 0 2) ≡ Read.refused Refusal.FlatRule
+unfolding record_f word_at set_word bytes_of defines every_id every total rows pick has_few ids_hold layout_of measured node_at operator_of node_for node_of grown tree definition_at all_below
     rising definitions_fit equations_fit node_fits nodes_fit same used_by by_nodes by_definitions by_equations used_once trees_hold ordered rules flat_of
 case-next = refl

@@ -18,7 +18,8 @@ use Rattle.flat.specs.declared.Node.{Node}
 use Rattle.flat.specs.declared.Node.TheVariants.{Infix, Negate, Constant, Variable}
 use Rattle.flat.specs.Trees.{Flat}
 use Rattle.flat.specs.Rules.{Every}
-use Rattle.flat.specs.Layout.{node_at}
+use Rattle.flat.specs.declared.node_entry.NodeEntry.{NodeEntry}
+use Rattle.flat.specs.Layout.{node_at, node_entry}
 use Rattle.flat.specs.Record.{pick, node_fits, nodes_fit, operator_of, node_for, node_of, grown, tree}
 use Rattle.std.proofs.lemmas.Bool.{cases_lt, cases_eq}
 use Rattle.marks.proofs.Indices.{and_left, and_right, every-at}
@@ -97,6 +98,11 @@ module _ (kind x y z : ℕ) where
         ltb-true x limit (last (eqb kind 8) (ltb x limit) (eqb y 0 && eqb z 0) g)
 
 -- a node whose words are known
+pub node-by : {A : Type 0} (b : List ℕ) (at k : ℕ) (f : ℕ → ℕ → ℕ → ℕ → A) {w : NodeEntry} → w ≡ node_entry b at k → node_at b at k f ≡ f w.kind w.a w.b w.c
+unfolding node_at
+node-by b at k f e = rw e
+
+-- the same, word by word
 pub node-is : {A : Type 0} (b : List ℕ) (at k : ℕ) (f : ℕ → ℕ → ℕ → ℕ → A) {kind x y z : ℕ} → kind ≡ word_at b (at + 4 * k) → x ≡ word_at b (at + 4 * k + 1)
     → y ≡ word_at b (at + 4 * k + 2) → z ≡ word_at b (at + 4 * k + 3) → node_at b at k f ≡ f kind x y z
 unfolding node_at

@@ -5,14 +5,14 @@ use mathlib.Core.List.{List, ◌∷◌}
 use mathlib.Core.Bool.{Bool, true, false, not, ◌&&◌, and-false}
 use mathlib.Core.Logic.{⊎_elim}
 use native.Mathlib.Omega.{arith}
-use Rattle.words.proofs.Laws.{get_d-cleared}
 use lib.ListN.{replicate, length-replicate, length, get_or, set}
 use lib.Seq.{get_or-set_same, get_or-set_other}
-use lib.Dec.{eqb, ltb}
+use lib.Dec.{ltb}
 use borrow.Author.Tests.{eq-eqb, ne_eqb, ltb-true}
 use Rattle.flat.specs.Trees.{Flat, Definition, every_id, defines}
-use Rattle.flat.specs.Marks.{Later, no_later}
+use Rattle.flat.specs.Marks.{Later}
 use Rattle.flat.specs.declared.Node.TheVariants.{Infix, Negate, Constant, Variable}
+use Rattle.flat.specs.declared.entries.DefinitionEntry.{DefinitionEntry}
 use Rattle.flat.specs.Layout.{definition_entry}
 use Rattle.flat.specs.Record.{rows, node_of, tree, ordered, definition_at, definitions_fit}
 use Rattle.std.proofs.lemmas.Bool.{cases_eq}
@@ -29,12 +29,12 @@ every_id-same p q h (Flat.constant c) = refl
 every_id-same p q h (Flat.variable v) = h v
 
 -- one definition more
-later-set : (m : List ℕ) (ds : List Definition) (d : Definition) → Later m ds → d.id < length m → Later (set m d.id 1) (d ∷ ds)
+later-set : (m : List Bool) (ds : List Definition) (d : Definition) → Later m ds → d.id < length m → Later (set m d.id true) (d ∷ ds)
 unfolding defines
 later-set m ds d h l v =
     ⊎_elim
-    (λ (e : v ≡ d.id). rw (eq-eqb v d.id e, e, get_or-set_same {A = ℕ} m d.id 1 0 l))
-    (λ (n : v ≡ d.id → ⊥). rw (ne_eqb v d.id n, get_or-set_other {A = ℕ} m d.id v 1 0 n) (h v))
+    (λ (e : v ≡ d.id). rw (eq-eqb v d.id e, e, get_or-set_same m d.id true false l))
+    (λ (n : v ≡ d.id → ⊥). rw (ne_eqb v d.id n, get_or-set_other m d.id v true false n) (h v))
     (cases_eq v d.id)
 
 -- the definitions from k - 1 on are the one there and those from k on
@@ -59,30 +59,30 @@ ordered-cons : (d : Definition) (ds : List Definition) (t : Bool) → not (defin
 unfolding ordered
 ordered-cons d ds t i w = rw (i, w)
 
-none-later : (n v : ℕ) → eqb (get_or (replicate n 0) v 0) 0 ≡ true
-none-later n v = ap (λ (x : ℕ). eqb x 0) (get_d-cleared n v)
+none-later : (n v : ℕ) → get_or (replicate n false) v false ≡ false
+none-later zero v = refl
+none-later (suc n) zero = refl
+none-later (suc n) (suc v) = none-later n v
 
 -- before the loop: no definition, no marks
-pub order-start : (n : ℕ) (f : ℕ → Definition) {m : List ℕ} → m ≡ no_later
-    → ((ordered (rows (n - n) n f) ≡ true) × Later m (rows (n - n) n f)) × ((n ≤ n) × (length m ≡ 65536))
-unfolding ordered rows no_later defines
-order-start n f e =
-    let z : n - n ≡ 0 = omega arith in
-    (rw z (refl, λ v. ap (λ (l : List ℕ). eqb (get_or l v 0) 0) e ∙ none-later 65536 v), (omega arith, ap length e ∙ length-replicate {A = ℕ} 65536 0))
+pub order-start : (n : ℕ) (f : ℕ → Definition)
+    → ((ordered (rows (n - n) n f) ≡ true) × Later (replicate 65536 false) (rows (n - n) n f)) × (length (replicate 65536 false) ≡ 65536)
+unfolding ordered rows defines
+order-start n f = let z : n - n ≡ 0 = omega arith in (rw z (refl, none-later 65536), length-replicate 65536 false)
 
 -- after it
 pub order-end : (n k : ℕ) (f : ℕ → Definition) → k ≡ 0 → ordered (rows (n - k) k f) ≡ true → true ≡ ordered (rows n 0 f)
 order-end n k f z h = let e : n - 0 ≡ n = omega arith in sym (rw (z, e) at h)
 
-module _ (b : List ℕ) (at n trees nodes k : ℕ) (pos : 0 < k) (le : k ≤ n) (m : List ℕ) (known : Later m (rows (n - k) k (definition_at b at trees nodes)))
+module _ (b : List ℕ) (at n trees nodes k : ℕ) (pos : 0 < k) (le : k ≤ n) (m : List Bool) (known : Later m (rows (n - k) k (definition_at b at trees nodes)))
     (id node : ℕ) (e1 : id ≡ (definition_entry b at (k - 1)).id) (e2 : node ≡ (definition_entry b at (k - 1)).node) where
-  pub order-double : (get_or m id 0 ≡ 0 → ⊥) → false ≡ ordered (rows n 0 (definition_at b at trees nodes))
+  pub order-double : get_or m id false ≡ true → false ≡ ordered (rows n 0 (definition_at b at trees nodes))
   unfolding ordered definition_at
-  order-double f = fails n (k - 1) _ (omega arith) (rw (rows_step n k (definition_at b at trees nodes) pos le, ← e1, ← known id, ne_eqb (get_or m id 0) 0 f))
+  order-double f = fails n (k - 1) _ (omega arith) (rw (rows_step n k (definition_at b at trees nodes) pos le, ← e1, ← known id, f))
 
-  module _ (t : Bool) (free : get_or m id 0 ≡ 0) (l : id < length m) (one : node < nodes)
-      (walked : t ≡ every_id (λ v. eqb (get_or (set m id 1) v 0) 0) (tree b trees (node + 1) node)) where
-    later-set-on : Later (set m id 1) (definition_at b at trees nodes (k - 1) ∷ rows (n - k) k (definition_at b at trees nodes))
+  module _ (t : Bool) (free : get_or m id false ≡ false) (l : id < length m) (one : node < nodes)
+      (walked : t ≡ every_id (λ v. not (get_or (set m id true) v false)) (tree b trees (node + 1) node)) where
+    later-set-on : Later (set m id true) (definition_at b at trees nodes (k - 1) ∷ rows (n - k) k (definition_at b at trees nodes))
     unfolding definition_at
     later-set-on = rw e1 (later-set m (rows (n - k) k (definition_at b at trees nodes)) (definition_at b at trees nodes (k - 1)) known (rw e1 at l))
 
@@ -92,10 +92,10 @@ module _ (b : List ℕ) (at n trees nodes k : ℕ) (pos : 0 < k) (le : k ≤ n) 
     first =
         let d = definition_at b at trees nodes (k - 1) in
         let ds = rows (n - k) k (definition_at b at trees nodes) in
-        let i : not (defines ds d.id) ≡ true = rw e1 at (sym (known id) ∙ eq-eqb (get_or m id 0) 0 free) in
+        let i : not (defines ds d.id) ≡ true = rw e1 at (ap not (sym (known id) ∙ free)) in
         let r : d.right ≡ tree b trees (node + 1) node = ap (λ (j : ℕ). tree b trees nodes j) (sym e2) ∙ settled b trees nodes node one in
         let w : every_id (λ v. not (defines (d ∷ ds) v)) d.right ≡ t = ap (λ (x : Flat). every_id (λ v. not (defines (d ∷ ds) v)) x) r
-        ∙ sym (every_id-same (λ v. eqb (get_or (set m id 1) v 0) 0) (λ v. not (defines (d ∷ ds) v)) later-set-on (tree b trees (node + 1) node)) ∙ sym walked in
+        ∙ sym (every_id-same (λ v. not (get_or (set m id true) v false)) (λ v. not (defines (d ∷ ds) v)) (λ v. ap not (later-set-on v)) (tree b trees (node + 1) node)) ∙ sym walked in
         ordered-cons d ds t i w
 
     pub order-used : t ≡ false → false ≡ ordered (rows n 0 (definition_at b at trees nodes))
@@ -103,24 +103,21 @@ module _ (b : List ℕ) (at n trees nodes k : ℕ) (pos : 0 < k) (le : k ≤ n) 
 
     pub order-more : t ≡ true → ordered (rows (n - k) k (definition_at b at trees nodes)) ≡ true
         → (ordered (rows (n - (k - 1)) (k - 1) (definition_at b at trees nodes)) ≡ true)
-        × Later (set m id 1) (rows (n - (k - 1)) (k - 1) (definition_at b at trees nodes))
+        × Later (set m id true) (rows (n - (k - 1)) (k - 1) (definition_at b at trees nodes))
     order-more h g = rw (rows_step n k (definition_at b at trees nodes) pos le) (first ∙ rw (h, g), later-set-on)
 
 -- what the code knows of a definition that fits
-pub definition-fits : (b : List ℕ) (at n limit count k id node : ℕ) → definitions_fit b at n limit count ≡ true → k < n → id ≡ (definition_entry b at k).id
-    → node ≡ (definition_entry b at k).node → (id < limit) × (node < count)
+pub definition-fits : (b : List ℕ) (at n limit count k : ℕ) {d : DefinitionEntry} → definitions_fit b at n limit count ≡ true → k < n → d ≡ definition_entry b at k
+    → (d.id < limit) × (d.node < count)
 unfolding definitions_fit
-definition-fits b at n limit count k id node h l p q =
-    let d = definition_entry b at k in
-    let g = every-at n k (λ j. ltb (definition_entry b at j).id limit && ltb (definition_entry b at j).node count) h l in (
-      ltb-true id limit (rw p (and_left (ltb d.id limit) (ltb d.node count) g)),
-      ltb-true node count (rw q (and_right (ltb d.id limit) (ltb d.node count) g)),
-    )
+definition-fits b at n limit count k {d} h l e =
+    let g : (ltb d.id limit && ltb d.node count) ≡ true = rw e (every-at n k (λ j. ltb (definition_entry b at j).id limit && ltb (definition_entry b at j).node count) h l) in
+    (ltb-true d.id limit (and_left _ _ g), ltb-true d.node count (and_right _ _ g))
 
 -- the walk at a node: what it finds is what its children's walks find
 module _ (b : List ℕ) (at k : ℕ) (p : ℕ → Bool) where
   pub walk-infix-no : {o : InfixOp} {x y : ℕ} {l : Bool} → node_of b at k ≡ Infix o x y → (x < k) × (y < k) → l ≡ every_id p (tree b at (x + 1) x) → l ≡ false
-      → false ≡ every_id p (tree b at (k + 1) k)
+      → l ≡ every_id p (tree b at (k + 1) k)
   unfolding every_id
   walk-infix-no {l = l} e h hl n = rw (tree-infix b at k e h.0 h.1, ← hl, n)
 

@@ -6,28 +6,30 @@ use mathlib.Core.List.{List}
 use mathlib.Core.Bool.{Bool, true, false, ◌&&◌}
 use native.Mathlib.Omega.{arith}
 use lib.ListN.{length}
-use lib.Dec.{ltb, leb}
+use lib.Dec.{ltb}
 use borrow.Author.Tests.{ltb-true, leb-true, lt-ltb, le-leb, eq-eqb, ne_eqb}
+use Rattle.std.proofs.Common.{Ok, Err}
+use Rattle.std.proofs.lemmas.Bool.{and_parts}
 use Rattle.words.specs.Words.{word_at}
+use Rattle.records.specs.declared.refusals.Refusal.{Refusal}
 use Rattle.flat.specs.Trees.{FlatModule}
-use Rattle.flat.specs.Layout.{next, publics, provers, definitions, equations, nodes, provers_offset, definitions_offset}
+use Rattle.flat.specs.Layout.{layout_of, next, publics, provers, definitions, equations, nodes, provers_offset, definitions_offset}
 use Rattle.flat.specs.Layout.{equations_offset, nodes_offset, size, node_at, public_at, prover_at, definition_entry, equation_entry}
-use Rattle.flat.specs.Record.{pick, measured, module_of, all_below, rising, definitions_fit, equations_fit, node_fits, nodes_fit}
-use Rattle.flat.specs.Record.{trees_hold, ordered, definition_at, equation_at, tree, rows, rules, Read, flat_of, checked}
+use Rattle.flat.specs.Record.{pick, has_few, ids_hold, measured, module_of, all_below, rising, definitions_fit, equations_fit, node_fits, nodes_fit}
+use Rattle.flat.specs.Record.{definition_at, equation_at, tree, rules, Read, flat_of, checked}
 use Rattle.flat.specs.Readable.{Readable}
-use Rattle.flat.specs.declared.Checked.TheVariants.{Accepted, Refused}
 use Rattle.marks.proofs.Indices.{and_left, and_right, every-at, every-from}
 use Rattle.flat.proofs.Nodes.{settled}
-use Rattle.flat.proofs.Answers.{measured-has, hold-definitions, hold-equations, hold-nodes}
+use Rattle.flat.proofs.Answers.{measured-has, rules-have, hold-definitions, hold-equations, hold-nodes}
 
 -- ---- accepted records
 
-module-at : (m r : Bool) (g f : FlatModule) → pick m (pick r (Read.module-of g) (Read.refused 21)) (Read.refused 20) ≡ Read.module-of f
+module-at : (m r : Bool) (g f : FlatModule) → pick m (pick r (Read.module-of g) (Read.refused Refusal.FlatRule)) (Read.refused Refusal.FlatLength) ≡ Read.module-of f
     → (m ≡ true) × (r ≡ true) × (g ≡ f)
 unfolding pick
 module-at true true g f h = (refl, refl, cc)
-module-at true false g f h = let z : ◌≡◌ {A = ℕ} 0 1 = cc in absurd (omega arith)
-module-at false r g f h = let z : ◌≡◌ {A = ℕ} 0 1 = cc in absurd (omega arith)
+module-at true false g f h = cc
+module-at false r g f h = cc
 
 module _ (b : List ℕ) (f : FlatModule) (h : flat_of b ≡ Read.module-of f) where
   accepted-tests : (measured b ≡ true) × (rules b ≡ true) × (module_of b ≡ f)
@@ -46,49 +48,47 @@ module _ (b : List ℕ) (f : FlatModule) (h : flat_of b ≡ Read.module-of f) wh
 
 -- ---- the code's answers
 
-answer : (t : Read) → (checked t ≡ Accepted → (f : FlatModule) × (t ≡ Read.module-of f)) × ((n : ℕ) → checked t ≡ Refused n → t ≡ Read.refused n)
+answer : (t : Read) → (checked t ≡ Ok tt → (f : FlatModule) × (t ≡ Read.module-of f)) × ((r : Refusal) → checked t ≡ Err r → t ≡ Read.refused r)
 unfolding checked
-answer (Read.module-of f) = (λ e. (f, refl), λ n e. let z : ◌≡◌ {A = ℕ} 0 1 = cc in absurd (omega arith))
-answer (Read.refused m) = (λ e. let z : ◌≡◌ {A = ℕ} 0 1 = cc in absurd (omega arith), λ n e. let z : m ≡ n = cc in ap (λ (k : ℕ). Read.refused k) z)
+answer (Read.module-of f) = (λ e. (f, refl), λ r e. cc)
+answer (Read.refused q) = (λ e. cc, λ r e. cc)
 
-pub checked-accepted : (b : List ℕ) → checked (flat_of b) ≡ Accepted → flat_of b ≡ Read.module-of (module_of b)
+pub checked-accepted : (b : List ℕ) → checked (flat_of b) ≡ Ok tt → flat_of b ≡ Read.module-of (module_of b)
 checked-accepted b e = let w = (answer (flat_of b)).0 e in w.1 ∙ ap (λ (f : FlatModule). Read.module-of f) (sym (accepted-module b w.0 w.1))
 
-pub checked_refused : (b : List ℕ) (n : ℕ) → checked (flat_of b) ≡ Refused n → flat_of b ≡ Read.refused n
-checked_refused b n e = (answer (flat_of b)).1 n e
+pub checked_refused : (b : List ℕ) (r : Refusal) → checked (flat_of b) ≡ Err r → flat_of b ≡ Read.refused r
+checked_refused b r e = (answer (flat_of b)).1 r e
 
 -- ---- accepted records are readable
 
 pub tests-readable : (b : List ℕ) → measured b ≡ true → rules b ≡ true → Readable b
-unfolding rules
-tests-readable b m r0 =
+unfolding ids_hold layout_of
+tests-readable b m r =
     let w = measured-has b m in
-    let r1 = and_right (leb (next b) 65536) _ r0 in
-    let r2 = and_right (all_below b 6 (publics b) (next b)) _ r1 in
-    let r3 = and_right (all_below b (provers_offset b) (provers b) (next b)) _ r2 in
-    let r4 = and_right (rising b (provers_offset b) (provers b)) _ r3 in
-    let t : trees_hold b (next b) (definitions_offset b) (definitions b) (equations_offset b) (equations b) (nodes_offset b) (nodes b) ≡ true =
-    and_left _ (ordered (rows (definitions b) 0 (definition_at b (definitions_offset b) (nodes_offset b) (nodes b)))) r4 in
+    let q = rules-have b r in
+    let i1 = and_parts _ _ q.ids in
+    let i2 = and_parts _ _ i1.1 in
+    let i3 = and_parts _ _ i2.1 in
     record {
       long = w.long;
-      publics-few = w.publics-few;
-      provers-few = w.provers-few;
-      definitions-few = w.definitions-few;
-      equations-few = w.equations-few;
-      nodes-few = w.nodes-few;
-      next_small = leb-true (next b) 65536 (and_left (leb (next b) 65536) _ r0);
-      publics-below = and_left (all_below b 6 (publics b) (next b)) _ r1;
-      provers-below = and_left (all_below b (provers_offset b) (provers b) (next b)) _ r2;
-      provers-rise = and_left (rising b (provers_offset b) (provers b)) _ r3;
-      definitions-fit = hold-definitions b _ _ _ _ _ _ _ t;
-      equations-fit = hold-equations b _ _ _ _ _ _ _ t;
-      nodes-fit = hold-nodes b _ _ _ _ _ _ _ t;
+      publics-few = w.few.publics;
+      provers-few = w.few.provers;
+      definitions-few = w.few.definitions;
+      equations-few = w.few.equations;
+      nodes-few = w.few.nodes;
+      next_small = leb-true _ _ i1.0;
+      publics-below = i2.0;
+      provers-below = i3.0;
+      provers-rise = i3.1;
+      definitions-fit = hold-definitions b _ _ _ _ _ _ _ q.trees;
+      equations-fit = hold-equations b _ _ _ _ _ _ _ q.trees;
+      nodes-fit = hold-nodes b _ _ _ _ _ _ _ q.trees;
     }
 
 pub accepted-readable : (b : List ℕ) (f : FlatModule) → flat_of b ≡ Read.module-of f → Readable b
 accepted-readable b f h = tests-readable b (accepted-measured b f h) (accepted-rules b f h)
 
-pub checked-readable : (b : List ℕ) → checked (flat_of b) ≡ Accepted → Readable b
+pub checked-readable : (b : List ℕ) → checked (flat_of b) ≡ Ok tt → Readable b
 checked-readable b e = accepted-readable b (module_of b) (checked-accepted b e)
 
 -- ---- a readable record at each index
@@ -155,7 +155,7 @@ module _ {b : List ℕ} (r : Readable b) where
   right-tree k l = settled b (nodes_offset b) (nodes b) _ (equation-below k l).1
 
   pub readable-measured : measured b ≡ true
-  unfolding measured
+  unfolding measured has_few layout_of
   readable-measured =
       rw (
         le-leb 24 (length b) (omega arith),

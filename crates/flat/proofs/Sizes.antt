@@ -7,18 +7,19 @@ use mathlib.Core.Bool.{Bool, true}
 use mathlib.Core.Logic.{⊎_elim}
 use native.Mathlib.Nat.{add-mul, one-mul, zero-mul}
 use native.Mathlib.Omega.{arith}
-use lib.Dec.{eqb, leb}
+use lib.Dec.{eqb}
 use borrow.Author.Tests.{eq-eqb, ne_eqb, eqb-true}
 use Rattle.words.specs.Words.{word_at}
 use Rattle.flat.specs.Trees.{Definition, Equation, FlatModule, tree_nodes, definitions_nodes, equations_nodes, module_nodes}
-use Rattle.flat.specs.Layout.{next, publics, provers, definitions, equations, nodes, provers_offset}
+use Rattle.flat.specs.Layout.{next, definitions, equations, nodes}
 use Rattle.flat.specs.Layout.{definitions_offset, equations_offset, nodes_offset, node_at, definition_entry, equation_entry}
-use Rattle.flat.specs.Record.{pick, total, rows, all_below, rising, definitions_fit, equations_fit, same, used_by, node_of, nodes_fit, tree, by_nodes}
-use Rattle.flat.specs.Record.{by_definitions, by_equations, used_once, trees_hold, ordered, definition_at, equation_at, module_of, rules, Read, flat_of}
+use Rattle.flat.specs.Record.{pick, total, rows, same, used_by, node_of, nodes_fit, tree, by_nodes}
+use Rattle.flat.specs.Record.{by_definitions, by_equations, used_once, definition_at, equation_at, module_of, rules, Read, flat_of}
 use Rattle.flat.specs.Readable.{Readable}
 use Rattle.std.proofs.lemmas.Bool.{cases_eq}
-use Rattle.marks.proofs.Indices.{every-at, and_left, and_right}
+use Rattle.marks.proofs.Indices.{every-at}
 use Rattle.flat.proofs.Nodes.{by_kind, for-4, for-5, for-7, for-8, at-infix, at-negate, at_constant, at-variable, settled}
+use Rattle.flat.proofs.Answers.{rules-have, hold-uses}
 use Rattle.flat.proofs.Reading.{accepted-rules, accepted-readable, definition-below, equation-below}
 
 -- ---- sums
@@ -229,21 +230,8 @@ equations-total (suc n) i f =
 
 -- THE TREES OF AN ACCEPTED RECORD have as many nodes as the record
 module _ (b : List ℕ) (r : rules b ≡ true) where
-  trees-hold : trees_hold b (next b) (definitions_offset b) (definitions b) (equations_offset b) (equations b) (nodes_offset b) (nodes b) ≡ true
-  unfolding rules
-  trees-hold =
-      let r1 = and_right (leb (next b) 65536) _ r in
-      let r2 = and_right (all_below b 6 (publics b) (next b)) _ r1 in
-      let r3 = and_right (all_below b (provers_offset b) (provers b) (next b)) _ r2 in
-      let r4 = and_right (rising b (provers_offset b) (provers b)) _ r3 in
-      and_left _ (ordered (rows (definitions b) 0 (definition_at b (definitions_offset b) (nodes_offset b) (nodes b)))) r4
-
   once-each : used_once b (definitions_offset b) (definitions b) (equations_offset b) (equations b) (nodes_offset b) (nodes b) ≡ true
-  unfolding trees_hold
-  once-each =
-      let h1 = and_right (definitions_fit b (definitions_offset b) (definitions b) (next b) (nodes b)) _ trees-hold in
-      let h2 = and_right (equations_fit b (equations_offset b) (equations b) (nodes b)) _ h1 in
-      and_right (nodes_fit b (nodes_offset b) (nodes b) (next b)) _ h2
+  once-each = hold-uses b _ _ _ _ _ _ _ (rules-have b r).trees
 
   pub module-nodes : Readable b → module_nodes (module_of b) ≡ nodes b
   unfolding module_nodes module_of definition_at equation_at

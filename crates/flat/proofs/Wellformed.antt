@@ -4,15 +4,15 @@ use mathlib.Core.Path.{◌≡◌}
 use mathlib.Core.List.{List, [], ◌∷◌}
 use mathlib.Core.Bool.{Bool, true, not, ◌&&◌}
 use native.Mathlib.Omega.{arith}
-use lib.Dec.{leb}
 use borrow.Author.Tests.{not-true}
 use Rattle.flat.specs.Trees.{Flat, Definition, FlatModule, defines, every_id}
-use Rattle.flat.specs.Layout.{next, publics, provers, definitions, equations, nodes, provers_offset, definitions_offset, equations_offset, nodes_offset}
-use Rattle.flat.specs.Record.{Read, flat_of, measured, rows, all_below, rising, trees_hold, tree, definition_at, equation_at, module_of, ordered, rules}
+use Rattle.flat.specs.Layout.{next, publics, provers, definitions, equations, nodes, provers_offset, nodes_offset}
+use Rattle.flat.specs.Record.{Read, flat_of, measured, rows, tree, definition_at, equation_at, module_of, ordered, rules}
 use Rattle.flat.specs.Rules.{All, Every, Ordered, Rising, WellFormed}
 use Rattle.marks.proofs.Indices.{and_left, and_right}
 use Rattle.flat.proofs.Nodes.{tree-below}
 use Rattle.flat.specs.Readable.{Readable}
+use Rattle.flat.proofs.Answers.{rules-have}
 use Rattle.flat.proofs.Reading.{public-below, prover-below, prover-rises, definition-below, equation-below}
 use Rattle.flat.proofs.Reading.{tests-readable, accepted-measured, accepted-rules, accepted-module}
 
@@ -95,13 +95,8 @@ module _ {b : List ℕ} (r : Readable b) where
 
 -- the last of the rules
 rules-ordered : (b : List ℕ) → rules b ≡ true → ordered (module_of b).definitions ≡ true
-unfolding rules module_of
-rules-ordered b r0 =
-    let r1 = and_right (leb (next b) 65536) _ r0 in
-    let r2 = and_right (all_below b 6 (publics b) (next b)) _ r1 in
-    let r3 = and_right (all_below b (provers_offset b) (provers b) (next b)) _ r2 in
-    let r4 = and_right (rising b (provers_offset b) (provers b)) _ r3 in
-    and_right (trees_hold b (next b) (definitions_offset b) (definitions b) (equations_offset b) (equations b) (nodes_offset b) (nodes b)) _ r4
+unfolding module_of
+rules-ordered b r = (rules-have b r).ordered
 
 well-formed : (b : List ℕ) → measured b ≡ true → rules b ≡ true → WellFormed (module_of b)
 unfolding module_of

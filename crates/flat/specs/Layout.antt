@@ -1,10 +1,11 @@
 -- The layout of a flat record, said once: how wide each entry is, where each list starts, and the words of an entry as they are read and as they are written.
 -- For a reader with document 01, "Flat record", beside it. `b` is the list of the record's bytes; places are counted in words.
-use Rattle.std.specs.Prelude.{ℕ, ◌+◌, ◌*◌, List, [], ◌∷◌}
+use Rattle.std.specs.Prelude.{ℕ, ◌+◌, ◌*◌, ◌≤◌, List, [], ◌∷◌, length}
 use Rattle.words.specs.Words.{word_at}
 use Rattle.flat.specs.declared.Layout.{Layout}
 use Rattle.flat.specs.declared.entries.DefinitionEntry.{DefinitionEntry}
 use Rattle.flat.specs.declared.entries.EquationEntry.{EquationEntry}
+use Rattle.flat.specs.declared.node_entry.NodeEntry.{NodeEntry}
 use Rattle.records.specs.FlatRecord.{HEADER, LISTED, NODES, PUBLICS}
 use Rattle.records.specs.Kinds.{NODE-WORDS}
 
@@ -70,6 +71,15 @@ layout_of b = record {
   size = size b;
 }
 
+-- a layout of which each list ends within the bytes, and has no more nodes than a record may
+pub record Within (b : List ℕ) (l : Layout) : Type 0 where
+  pub publics : 4 * (HEADER + l.publics) ≤ length b
+  pub provers : 4 * (l.provers_at + l.provers) ≤ length b
+  pub definitions : 4 * (l.definitions_at + DEFINITION-WORDS * l.definitions) ≤ length b
+  pub equations : 4 * (l.equations_at + EQUATION-WORDS * l.equations) ≤ length b
+  pub nodes : 4 * (l.nodes_at + NODE-WORDS * l.nodes) ≤ length b
+  pub few : l.nodes ≤ NODES
+
 -- where each list starts at most, and the longest record: "64 publics, 4,096 of each other list, 16,384 nodes"
 abbrev pub LAST-PROVERS-AT : ℕ
 LAST-PROVERS-AT = HEADER + PUBLICS
@@ -102,6 +112,11 @@ definition_entry b at k = record { id = word_at b (at + DEFINITION-WORDS * k); n
 
 abbrev pub equation_entry : List ℕ → ℕ → ℕ → EquationEntry
 equation_entry b at k = record { left = word_at b (at + EQUATION-WORDS * k); right = word_at b (at + EQUATION-WORDS * k + 1) }
+
+abbrev pub node_entry : List ℕ → ℕ → ℕ → NodeEntry
+node_entry b at k =
+    let i = at + NODE-WORDS * k in
+    record { kind = word_at b i; a = word_at b (i + 1); b = word_at b (i + 2); c = word_at b (i + 3) }
 
 -- what a function makes of a node's four words: kind, a, b, c
 unfoldable pub node_at : {A : Type 0} → List ℕ → ℕ → ℕ → (ℕ → ℕ → ℕ → ℕ → A) → A

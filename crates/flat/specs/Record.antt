@@ -1,7 +1,7 @@
 -- What a lent flat record is: its module, or 20 or 21. For a reader with document 01, "Flat record" and "Numbers by place of the check", beside it.
 -- `b` is the list of its bytes, laid out as Layout.antt says. Each rule is a test for all indices below a count; 21 is one number for all its rules, so their
 -- order says nothing.
-use Rattle.std.specs.Prelude.{ℕ, zero, suc, ◌+◌, ◌-◌, ◌*◌, List, [], ◌∷◌, Bool, true, false, not, ◌&&◌, length, leb, ltb, eqb}
+use Rattle.std.specs.Prelude.{ℕ, zero, suc, ◌+◌, ◌-◌, ◌*◌, List, [], ◌∷◌, Bool, true, false, not, ◌&&◌, length, leb, ltb, eqb, Result, Ok, Err}
 use Rattle.std.proofs.Common.{to_z}
 use Rattle.std.specs.Int.{w32}
 use Rattle.words.specs.Words.{word_at}
@@ -10,26 +10,23 @@ unfoldable pub use Rattle.marks.specs.Indices.{every, total, rows, pick, same}
 use Rattle.flat.specs.Trees.{Flat, Definition, Equation, FlatModule, defines, every_id}
 use Rattle.flat.specs.declared.Node.{Node}
 use Rattle.flat.specs.declared.Node.TheVariants.{Infix, Negate, Constant, Variable}
-use Rattle.flat.specs.Layout.{next, publics, provers, definitions, equations, nodes, provers_offset, definitions_offset, equations_offset, nodes_offset, size}
+use Rattle.flat.specs.declared.Layout.{Layout}
+use Rattle.flat.specs.Layout.{layout_of, next, publics, provers, definitions, equations, nodes, provers_offset, definitions_offset, equations_offset, nodes_offset, size}
 use Rattle.flat.specs.Layout.{public_at, prover_at, definition_entry, equation_entry, node_at}
-use Rattle.flat.specs.declared.Checked.{Checked}
-use Rattle.flat.specs.declared.Checked.TheVariants.{Accepted, Refused}
+use Rattle.records.specs.declared.refusals.Refusal.{Refusal}
 use Rattle.records.specs.FlatRecord.{HEADER, IDS, LISTED, NODES, PUBLICS}
 use Rattle.records.specs.Kinds.{CONSTANT, INFIX, NEGATE, VARIABLE}
 use Rattle.records.specs.Operators.{MODULO}
 
 -- ---- 20
 
--- not 20: "64 publics, 4,096 of each other list, 16,384 nodes", and the length is exactly the lists'
+-- "64 publics, 4,096 of each other list, 16,384 nodes"
+unfoldable pub has_few : Layout → Bool
+has_few l = leb l.publics PUBLICS && (leb l.provers LISTED && (leb l.definitions LISTED && (leb l.equations LISTED && leb l.nodes NODES)))
+
+-- not 20: those, and the length is exactly the lists'
 unfoldable pub measured : List ℕ → Bool
-measured b =
-    leb (4 * HEADER) (length b)
-    && (leb (publics b) PUBLICS
-    && (leb (provers b) LISTED
-    && (leb (definitions b) LISTED
-    && (leb (equations b) LISTED
-    && (leb (nodes b) NODES
-    && eqb (length b) (4 * size b))))))
+measured b = leb (4 * HEADER) (length b) && (has_few (layout_of b) && eqb (length b) (4 * size b))
 
 -- ---- nodes
 
@@ -134,27 +131,29 @@ unfoldable pub ordered : List Definition → Bool
 ordered [] = true
 ordered (d ∷ ds) = not (defines ds d.id) && (every_id (λ v. not (defines (d ∷ ds) v)) d.right && ordered ds)
 
+-- "its ids lie below its next id", "to 65,536", "its prover ids rise"
+unfoldable pub ids_hold : List ℕ → Layout → Bool
+ids_hold b l =
+    leb l.next IDS && (all_below b HEADER l.publics l.next && (all_below b l.provers_at l.provers l.next && rising b l.provers_at l.provers))
+
 -- not 21
 unfoldable pub rules : List ℕ → Bool
 rules b =
-    leb (next b) IDS
-    && (all_below b HEADER (publics b) (next b)
-    && (all_below b (provers_offset b) (provers b) (next b)
-    && (rising b (provers_offset b) (provers b)
+    ids_hold b (layout_of b)
     && (trees_hold b (next b) (definitions_offset b) (definitions b) (equations_offset b) (equations b) (nodes_offset b) (nodes b)
-    && ordered (rows (definitions b) 0 (definition_at b (definitions_offset b) (nodes_offset b) (nodes b)))))))
+    && ordered (rows (definitions b) 0 (definition_at b (definitions_offset b) (nodes_offset b) (nodes b))))
 
 -- ---- the answer
 
 pub data Read : Type 0 where
   module-of : FlatModule → Read
-  refused : ℕ → Read
+  refused : Refusal → Read
 
 -- "20 length or count; 21 node, id or order rule"
 unfoldable pub flat_of : List ℕ → Read
-flat_of b = pick (measured b) (pick (rules b) (Read.module-of (module_of b)) (Read.refused 21)) (Read.refused 20)
+flat_of b = pick (measured b) (pick (rules b) (Read.module-of (module_of b)) (Read.refused Refusal.FlatRule)) (Read.refused Refusal.FlatLength)
 
 -- the code's answer for it
-unfoldable pub checked : Read → Checked
-checked (Read.module-of f) = Accepted
-checked (Read.refused n) = Refused n
+unfoldable pub checked : Read → Result (Unit {0}) Refusal
+checked (Read.module-of f) = Ok tt
+checked (Read.refused r) = Err r

@@ -3,33 +3,25 @@
 
 pub mod entries;
 mod lists;
+mod measured;
+mod node_entry;
 mod ordering;
 mod uses;
 
 ghost use Rattle.std.specs.Prelude.{◌≡◌, ◌+◌, ◌*◌, ◌≤◌, length};
-ghost use Rattle.flat.specs.Layout.{layout_of, nodes, size};
-ghost use Rattle.flat.specs.Record.{operator_of, node_of, measured, rules, flat_of, checked};
-ghost use Rattle.records.specs.FlatRecord.{HEADER, NODES};
+ghost use Rattle.flat.specs.Layout.{layout_of};
+ghost use Rattle.flat.specs.Record.{operator_of, node_of, flat_of, checked};
+ghost use Rattle.records.specs.FlatRecord.{HEADER};
 ghost use Rattle.records.specs.Kinds.{NODE-WORDS};
 
 use entries::{DEFINITION_WORDS, EQUATION_WORDS};
 use field::InfixOp;
-use lists::{all_below, rises};
-use ordering::in_order;
+use measured::Measured;
+use node_entry::NodeEntry;
 use records::NODE_WORDS;
-use records::flat_record::{HEADER, ID_COUNT, LISTED, NODES, PUBLICS};
-use records::kinds::{CONSTANT, INFIX, NEGATE};
-use uses::trees_hold;
+use records::flat_record::HEADER;
+use records::refusals::Refusal;
 use words::count;
-
-const HEADER_BYTES: usize = 4 * HEADER;
-
-// What the check of a lent record answers.
-#[derive(Clone, Copy)]
-pub enum Checked {
-    Accepted,
-    Refused(u32),
-}
 
 // A node, with its children by their indices.
 #[derive(Clone, Copy)]
@@ -64,25 +56,12 @@ pub fn operator(c: u32) -> InfixOp
 }
 
 // Node k of the nodes that start at word `at`.
+#[tactic(auto, unfolding(crate::specs::Record::node_of, crate::specs::Layout::node_at))]
 pub fn node_at(s: &[u8], at: usize, k: usize) -> Node
     requires { 4 * (at + NODE-WORDS * k + NODE-WORDS) ≤ length s.now }
     ensures { result ≡ node_of s.now at k }
 {
-    let base = at + NODE_WORDS * k;
-    let kind = words::word_at(s, base);
-    let a = words::word_at(s, base + 1);
-    if kind == INFIX {
-        let b = words::word_at(s, base + 2);
-        let c = words::word_at(s, base + 3);
-        return Node::Infix(operator(c), a as usize, b as usize);
-    }
-    if kind == NEGATE {
-        return Node::Negate(a as usize);
-    }
-    if kind == CONSTANT {
-        return Node::Constant(words::signed(a));
-    }
-    Node::Variable(a)
+    NodeEntry::read(s, at, k).node()
 }
 
 // The layout that the header says.
@@ -114,87 +93,15 @@ pub fn layout_of(s: &[u8]) -> Layout
     }
 }
 
-// Not 20.
-fn measures(s: &[u8]) -> bool
-    ensures { result ≡ measured s.now }
-{
-    let n = s.len();
-    if n < HEADER_BYTES {
-        return false;
-    }
-    let publics = count(s, 1);
-    if PUBLICS < publics {
-        return false;
-    }
-    let provers = count(s, 2);
-    if LISTED < provers {
-        return false;
-    }
-    let definitions = count(s, 3);
-    if LISTED < definitions {
-        return false;
-    }
-    let equations = count(s, 4);
-    if LISTED < equations {
-        return false;
-    }
-    let nodes = count(s, 5);
-    if NODES < nodes {
-        return false;
-    }
-    let size = HEADER
-        + publics
-        + provers
-        + DEFINITION_WORDS * definitions
-        + EQUATION_WORDS * equations
-        + NODE_WORDS * nodes;
-    n == 4 * size
-}
-
-// Not 21.
-fn rules_hold(s: &[u8], l: Layout) -> bool
-    requires { (l ≡ layout_of s.now) × ((length s.now ≡ 4 * size s.now) × (nodes s.now ≤ NODES)) }
-    ensures { result ≡ rules s.now }
-{
-    let next = l.next;
-    if ID_COUNT < next {
-        return false;
-    }
-    if !all_below(s, HEADER, l.publics, next) {
-        return false;
-    }
-    if !all_below(s, l.provers_at, l.provers, next) {
-        return false;
-    }
-    if !rises(s, l.provers_at, l.provers) {
-        return false;
-    }
-    let t = l.nodes_at;
-    if !trees_hold(
-        s,
-        next,
-        l.definitions_at,
-        l.definitions,
-        l.equations_at,
-        l.equations,
-        t,
-        l.nodes,
-    ) {
-        return false;
-    }
-    in_order(s, l.definitions_at, l.definitions, t, l.nodes, next)
-}
-
 // A lent flat record: accepted, or refused 20 or 21.
-pub fn check_flat(s: &[u8]) -> Checked
+#[tactic(auto, unfolding(crate::specs::Record::flat_of, crate::specs::Record::checked, crate::specs::Record::pick))]
+pub fn check_flat(s: &[u8]) -> Result<(), Refusal>
     ensures { result ≡ checked (flat_of s.now) }
 {
-    if !measures(s) {
-        return Checked::Refused(20);
+    let record = Measured::new(s)?;
+    if record.rules_hold() {
+        Ok(())
+    } else {
+        Err(Refusal::FlatRule)
     }
-    let l = layout_of(s);
-    if !rules_hold(s, l) {
-        return Checked::Refused(21);
-    }
-    Checked::Accepted
 }

@@ -1,61 +1,52 @@
 // Each id is defined once, and no right side uses an id defined there or later.
-ghost use Rattle.std.specs.Prelude.{◌≡◌, ◌+◌, ◌*◌, ◌≤◌, ◌<◌, true, length, get_or, eqb};
+ghost use Rattle.std.specs.Prelude.{◌≡◌, ◌+◌, ◌<◌, ◌≤◌, true, false, get_or, not};
 ghost use Rattle.flat.specs.Trees.{every_id};
-ghost use Rattle.flat.specs.Layout.{DEFINITION-WORDS};
 ghost use Rattle.flat.specs.Record.{rows, tree, definition_at, definitions_fit, nodes_fit, ordered};
-ghost use Rattle.flat.specs.Marks.{no_later};
 ghost use Rattle.records.specs.FlatRecord.{IDS};
 
 use super::entries::definition_at;
+use super::measured::Measured;
 use super::{Node, node_at};
 use records::flat_record::ID_COUNT;
 
-fn no_later() -> [u32; ID_COUNT]
-    ensures { result ≡ no_later }
-{
-    [0u32; ID_COUNT]
-}
+impl Measured<'_> {
+    // Whether no variable of node k's tree is marked. The node index falls at each call.
+    fn free(&self, k: usize, later: &[bool; ID_COUNT]) -> bool
+        requires node { k < self.now.layout.nodes }
+        requires fit { nodes_fit self.now.bytes.now self.now.layout.nodes_at self.now.layout.nodes self.now.layout.next ≡ true }
+        requires ids { self.now.layout.next ≤ IDS }
+        ensures { result ≡ every_id (λ v. not (get_or later.now v false)) (tree self.now.bytes.now self.now.layout.nodes_at (k + 1) k) }
+    {
+        match node_at(self.bytes, self.layout.nodes_at, k) {
+            Node::Infix(_, x, y) => self.free(x, later) && self.free(y, later),
+            Node::Negate(x) => self.free(x, later),
+            Node::Constant(_) => true,
+            Node::Variable(v) => !later[v as usize],
+        }
+    }
 
-// Whether no variable of node k's tree is marked. The node index falls at each call.
-fn free(s: &[u8], at: usize, k: usize, n: usize, limit: usize, later: &[u32; ID_COUNT]) -> bool
-    requires { ((k < n) × (nodes_fit s.now at n limit ≡ true)) × ((4 * (at + 4 * n) ≤ length s.now) × (limit ≤ IDS)) }
-    ensures { result ≡ every_id (λ v. eqb (get_or later.now v 0) 0) (tree s.now at (k + 1) k) }
-{
-    match node_at(s, at, k) {
-        Node::Infix(_, x, y) => {
-            if !free(s, at, x, n, limit, later) {
+    // From the last definition to the first; an id is marked before its right side is walked.
+    pub fn in_order(&self) -> bool
+        requires definitions { definitions_fit self.now.bytes.now self.now.layout.definitions_at self.now.layout.definitions self.now.layout.next
+            self.now.layout.nodes ≡ true }
+        requires fit { nodes_fit self.now.bytes.now self.now.layout.nodes_at self.now.layout.nodes self.now.layout.next ≡ true }
+        requires ids { self.now.layout.next ≤ IDS }
+        ensures { result ≡ ordered (rows self.now.layout.definitions 0
+            (definition_at self.now.bytes.now self.now.layout.definitions_at self.now.layout.nodes_at self.now.layout.nodes)) }
+    {
+        let l = &self.layout;
+        let mut later = [false; ID_COUNT];
+        for k in (0..l.definitions).rev() {
+            let d = definition_at(self.bytes, l.definitions_at, k);
+            let id = d.id as usize;
+            if later[id] {
                 return false;
             }
-            free(s, at, y, n, limit, later)
+            later[id] = true;
+            if !self.free(d.node, &later) {
+                return false;
+            }
         }
-        Node::Negate(x) => free(s, at, x, n, limit, later),
-        Node::Constant(_) => true,
-        Node::Variable(v) => {
-            let id = v as usize;
-            later[id] == 0
-        }
+        true
     }
-}
-
-// From the last definition to the first; an id is marked before its right side is walked.
-pub fn in_order(s: &[u8], at: usize, n: usize, trees: usize, nodes: usize, limit: usize) -> bool
-    requires nodes_value { (definitions_fit s.now at n limit nodes ≡ true) × (nodes_fit s.now trees nodes limit ≡ true) }
-    requires nodes_in_bounds { (4 * (trees + 4 * nodes) ≤ length s.now) × ((4 * (at + DEFINITION-WORDS * n) ≤ length s.now) × (limit ≤ IDS)) }
-    ensures { result ≡ ordered (rows n 0 (definition_at s.now at trees nodes)) }
-{
-    let mut later = no_later();
-    let mut k = n;
-    while 0 < k {
-        k -= 1;
-        let d = definition_at(s, at, k);
-        let id = d.id as usize;
-        if later[id] != 0 {
-            return false;
-        }
-        later[id] = 1;
-        if !free(s, trees, d.node, nodes, limit, &later) {
-            return false;
-        }
-    }
-    true
 }

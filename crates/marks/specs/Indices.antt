@@ -1,5 +1,5 @@
 -- For all indices below a count: a test, a sum; the values at n indices from one on; a choice by a test; how often an index names another.
-use Rattle.std.specs.Prelude.{ℕ, zero, suc, ◌+◌, List, [], ◌∷◌, Bool, true, false, ◌&&◌, eqb}
+use Rattle.std.specs.Prelude.{ℕ, zero, suc, ◌+◌, List, [], ◌∷◌, Bool, true, false, ◌&&◌, cond, eqb}
 
 unfoldable pub every : ℕ → (ℕ → Bool) → Bool
 every zero p = true
@@ -14,8 +14,7 @@ rows zero at f = []
 rows (suc n) at f = f at ∷ rows n (suc at) f
 
 unfoldable pub pick : {A : Type 0} → Bool → A → A → A
-pick true a b = a
-pick false a b = b
+pick t a b = cond t a b
 
 -- how often the index x uses node k
 unfoldable pub same : ℕ → ℕ → ℕ

@@ -1,10 +1,9 @@
 -- The ways of the walk over a pattern, and over parameters. Assumes nothing.
-use Prim.Native.Nat.{ℕ, ◌+◌, ◌-◌, ◌≤◌, ◌<◌}
-use mathlib.Core.Path.{◌≡◌, refl, ap}
+use Prim.Native.Nat.{ℕ, ◌≤◌, ◌<◌}
+use mathlib.Core.Path.{◌≡◌, refl, ap, ◌∙◌}
 use mathlib.Core.List.{List, [], ◌∷◌}
 use native.Mathlib.Omega.{arith}
-use mathlib.Core.Logic.{⊎_elim}
-use lib.ListN.{get_or, set}
+use mathlib.Core.Logic.{◌⊎◌, inl, inr, ⊎_elim}
 use lib.IntN.{ℤ}
 use Rattle.source.specs.declared.Entry.{Entry}
 use Rattle.source.specs.declared.Shape.{Shape}
@@ -15,7 +14,8 @@ use Rattle.source.specs.Nodes.{entry_of, children_of, three, is_pattern, item_fi
 use Rattle.source.specs.Record.{tree, pattern_of}
 use Rattle.numbering.specs.Numbering.{Ids, Names, ◌>>=◌, return, generate_id, number_pattern_variables, number_parameters}
 use Rattle.numbering.specs.Numbers.{is_name, bears, entry_with, shape_with, numbered_tree}
-use Rattle.numbering.specs.Walks.{weight, chain_weight, each, Sizes, Ready, ReadyChain, PatternWalk, ParameterWalk}
+use Rattle.numbering.specs.Walks.{weight, chain_weight, each, bound_to, Sized, Ready, ReadyChain, PatternWalk, ParameterWalk}
+use Rattle.numbering.specs.declared.rows.Scopes.{Scopes}
 use Rattle.numbering.proofs.Laws.{alike}
 use Rattle.numbering.proofs.Weights.{child_weight}
 use Rattle.numbering.proofs.Grown.{trees-grow, numbered-grow, entry-with, stem-is, as_is}
@@ -26,7 +26,11 @@ use Rattle.numbering.proofs.Scopes.{Parts, room-first, room-inner, bound-none, b
 abbrev pub Paired : Shape → ℕ → ℕ → Type 0
 Paired f p q = children_of (Entry.Pattern f) ≡ three (Child.Pattern p) (Child.Pattern q) Child.Nothing
 
-module _ (b : List ℕ) (at n k : ℕ) {next top : ℕ} (R : Ready b at n is_pattern k next top) where
+pub paired : {f : Shape} {p q : ℕ} → (f ≡ Shape.Product p q) ⊎ (f ≡ Shape.Cons p q) → Paired f p q
+paired (inl e) = rw e refl
+paired (inr e) = rw e refl
+
+module _ (b : List ℕ) (at n k : ℕ) {s : Scopes} (R : Ready b at n is_pattern k s) where
   -- two patterns
   pair-facts : {f : Shape} {p q : ℕ} → entry_of b at k ≡ Entry.Pattern f → Paired f p q
       → Child-facts b at n R.walk k (Child.Pattern p) (Child.Pattern q) Child.Nothing
@@ -37,16 +41,18 @@ module _ (b : List ℕ) (at n k : ℕ) {next top : ℕ} (R : Ready b at n is_pat
   unfolding child_weight
   pair_parts e r = record { hold = λ own. omega (arith, (pair-facts e r).weighs own) }
 
-  pub pair-first : {f : Shape} {p q : ℕ} → entry_of b at k ≡ Entry.Pattern f → Paired f p q → (p < k) × Ready b at n is_pattern p next top
+  pub pair-first : {f : Shape} {p q : ℕ} → entry_of b at k ≡ Entry.Pattern f → Paired f p q → (p < k) × Ready b at n is_pattern p s
   pair-first {f} {p} {q} e r =
       let c = pattern-child b at n R.walk k p (pair-facts e r).first_fits in
       (c.0, record { walk = R.walk; below = omega (arith, c.0, R.below); sorted = c.1; room = room-first (pair_parts e r) R.room })
 
-  pub pair-second : {f : Shape} {p q : ℕ} (next' : ℕ) → entry_of b at k ≡ Entry.Pattern f → Paired f p q → next ≤ next' → next' ≤ next + weight b at each p
-      → (q < k) × Ready b at n is_pattern q next' (top + (next' - next))
-  pair-second {f} {p} {q} next' e r l m =
-      let c = pattern-child b at n R.walk k q (pair-facts e r).second_fits in
-      (c.0, record { walk = R.walk; below = omega (arith, c.0, R.below); sorted = c.1; room = room-inner next' (pair_parts e r) R.room l m })
+  pub pair-second : {f : Shape} {p q : ℕ} {s₁ : Scopes} → entry_of b at k ≡ Entry.Pattern f → Paired f p q → PatternWalk b at n p s s₁
+      → (q < k) × Ready b at n is_pattern q s₁
+  pair-second {f} {p} {q} e r u =
+      let c = pattern-child b at n R.walk k q (pair-facts e r).second_fits in (
+        c.0,
+        record { walk = R.walk; below = omega (arith, c.0, R.below); sorted = c.1; room = room-inner (pair_parts e r) R.room u.more u.few u.entries },
+      )
 
   -- a pattern with a name
   as-facts : {p x : ℕ} → entry_of b at k ≡ Entry.Pattern (Shape.As p x) → Child-facts b at n R.walk k (Child.Pattern p) (Child.Name x) Child.Nothing
@@ -56,17 +62,17 @@ module _ (b : List ℕ) (at n k : ℕ) {next top : ℕ} (R : Ready b at n is_pat
   unfolding child_weight
   as_parts e = record { hold = λ own. omega (arith, (as-facts e).weighs own) }
 
-  pub as_first : {p x : ℕ} → entry_of b at k ≡ Entry.Pattern (Shape.As p x) → (p < k) × Ready b at n is_pattern p next top
+  pub as_first : {p x : ℕ} → entry_of b at k ≡ Entry.Pattern (Shape.As p x) → (p < k) × Ready b at n is_pattern p s
   as_first {p} {x} e =
       let c = pattern-child b at n R.walk k p (as-facts e).first_fits in
       (c.0, record { walk = R.walk; below = omega (arith, c.0, R.below); sorted = c.1; room = room-first (as_parts e) R.room })
 
   -- what `bind` asks
-  pub as-bind : {p x : ℕ} (next' : ℕ) → entry_of b at k ≡ Entry.Pattern (Shape.As p x) → next ≤ next' → next' ≤ next + weight b at each p
-      → ((x < 512) × (k < 2048)) × ((next' < 65536) × (top + (next' - next) < 2048))
+  pub as-bind : {p x : ℕ} {s₁ : Scopes} → entry_of b at k ≡ Entry.Pattern (Shape.As p x) → PatternWalk b at n p s s₁
+      → ((x < 512) × (k < 2048)) × ((s₁.next < 65536) × (s₁.top < 2048))
   unfolding each
-  as-bind {p} {x} next' e l m =
-      let r = room-inner next' (as_parts e) R.room l m in (
+  as-bind {p} {x} e u =
+      let r = room-inner (as_parts e) R.room u.more u.few u.entries in (
         (name-child b at n R.walk k x (as-facts e).second_fits, omega (arith, R.below, R.walk.few-nodes)),
         (omega (arith, r.ids), omega (arith, r.entries)),
       )
@@ -74,7 +80,7 @@ module _ (b : List ℕ) (at n k : ℕ) {next top : ℕ} (R : Ready b at n is_pat
   variable-facts : {x : ℕ} → entry_of b at k ≡ Entry.Pattern (Shape.Variable x) → Child-facts b at n R.walk k (Child.Name x) Child.Nothing Child.Nothing
   variable-facts e = child-facts b at n R.walk k R.below _ _ _ e refl
 
-  pub variable-bind : {x : ℕ} → entry_of b at k ≡ Entry.Pattern (Shape.Variable x) → ((x < 512) × (k < 2048)) × ((next < 65536) × (top < 2048))
+  pub variable-bind : {x : ℕ} → entry_of b at k ≡ Entry.Pattern (Shape.Variable x) → ((x < 512) × (k < 2048)) × ((s.next < 65536) × (s.top < 2048))
   unfolding each child_weight
   variable-bind {x} e =
       let w = (variable-facts e).weighs each in (
@@ -82,85 +88,76 @@ module _ (b : List ℕ) (at n k : ℕ) {next top : ℕ} (R : Ready b at n is_pat
         (omega (arith, w, R.room.ids), omega (arith, w, R.room.entries)),
       )
 
-  module _ {locals undo old ids : List ℕ} {next₁ : ℕ} {locals₁ undo₁ old₁ ids₁ : List ℕ} {next₂ : ℕ} {locals₂ undo₂ old₂ ids₂ : List ℕ} where
-    pub product-way : {p q : ℕ} → entry_of b at k ≡ Entry.Pattern (Shape.Product p q)
-        → PatternWalk b at n p next top locals undo old ids next₁ locals₁ undo₁ old₁ ids₁
-        → PatternWalk b at n q next₁ (top + (next₁ - next)) locals₁ undo₁ old₁ ids₁ next₂ locals₂ undo₂ old₂ ids₂
-        → PatternWalk b at n k next top locals undo old ids next₂ locals₂ undo₂ old₂ ids₂
+  module _ {s₁ s₂ : Scopes} where
+    pub product-way : {p q : ℕ} → entry_of b at k ≡ Entry.Pattern (Shape.Product p q) → PatternWalk b at n p s s₁ → PatternWalk b at n q s₁ s₂
+        → PatternWalk b at n k s s₂
     unfolding number_pattern_variables ◌>>=◌ return entry_with shape_with
     product-way {p} {q} e u v =
         let i = (pair-first e refl).0 in
         let j = (pattern-child b at n R.walk k q (pair-facts e refl).second_fits).0 in
         bound-two _ _ Pat.product_p (pair_parts e refl) R.room
-        (λ l s a l₁ s₁ c l₂ s₂ g h. rw (product_p-is (tree b at) (entry_of b at) (trees-grow b at) n k R.below e i j, g, h))
-        (λ s. product_p-is (numbered_tree s b at) _ (numbered-grow s b at) n k R.below (entry-with s b at k e) i j)
-        u refl v
+        (λ l t a l₁ t₁ c l₂ t₂ g h. rw (product_p-is (tree b at) (entry_of b at) (trees-grow b at) n k R.below e i j, g, h))
+        (λ t. product_p-is (numbered_tree t b at) _ (numbered-grow t b at) n k R.below (entry-with t b at k e) i j)
+        u v
 
-    pub cons-way : {p q : ℕ} → entry_of b at k ≡ Entry.Pattern (Shape.Cons p q)
-        → PatternWalk b at n p next top locals undo old ids next₁ locals₁ undo₁ old₁ ids₁
-        → PatternWalk b at n q next₁ (top + (next₁ - next)) locals₁ undo₁ old₁ ids₁ next₂ locals₂ undo₂ old₂ ids₂
-        → PatternWalk b at n k next top locals undo old ids next₂ locals₂ undo₂ old₂ ids₂
+    pub cons-way : {p q : ℕ} → entry_of b at k ≡ Entry.Pattern (Shape.Cons p q) → PatternWalk b at n p s s₁ → PatternWalk b at n q s₁ s₂
+        → PatternWalk b at n k s s₂
     unfolding number_pattern_variables ◌>>=◌ return entry_with shape_with
     cons-way {p} {q} e u v =
         let i = (pair-first e refl).0 in
         let j = (pattern-child b at n R.walk k q (pair-facts e refl).second_fits).0 in
         bound-two _ _ Pat.cons_p (pair_parts e refl) R.room
-        (λ l s a l₁ s₁ c l₂ s₂ g h. rw (cons_p-is (tree b at) (entry_of b at) (trees-grow b at) n k R.below e i j, g, h))
-        (λ s. cons_p-is (numbered_tree s b at) _ (numbered-grow s b at) n k R.below (entry-with s b at k e) i j)
-        u refl v
+        (λ l t a l₁ t₁ c l₂ t₂ g h. rw (cons_p-is (tree b at) (entry_of b at) (trees-grow b at) n k R.below e i j, g, h))
+        (λ t. cons_p-is (numbered_tree t b at) _ (numbered-grow t b at) n k R.below (entry-with t b at k e) i j)
+        u v
 
-    pub as-way : {p x : ℕ} → entry_of b at k ≡ Entry.Pattern (Shape.As p x) → PatternWalk b at n p next top locals undo old ids next₁ locals₁ undo₁ old₁ ids₁
-        → ((next₂ ≡ next₁ + 1) × (locals₂ ≡ set locals₁ x (next₁ + 1)))
-        × ((undo₂ ≡ set undo₁ (top + (next₁ - next)) x) × (old₂ ≡ set old₁ (top + (next₁ - next)) (get_or locals₁ x 0)) × (ids₂ ≡ set ids₁ k next₁))
-        → PatternWalk b at n k next top locals undo old ids next₂ locals₂ undo₂ old₂ ids₂
+    pub pair-way : {f : Shape} {p q : ℕ} → entry_of b at k ≡ Entry.Pattern f → (f ≡ Shape.Product p q) ⊎ (f ≡ Shape.Cons p q)
+        → PatternWalk b at n p s s₁ → PatternWalk b at n q s₁ s₂ → PatternWalk b at n k s s₂
+    pair-way e (inl i) u v = product-way (e ∙ ap Entry.Pattern i) u v
+    pair-way e (inr i) u v = cons-way (e ∙ ap Entry.Pattern i) u v
+
+    pub as-way : {p x : ℕ} → entry_of b at k ≡ Entry.Pattern (Shape.As p x) → PatternWalk b at n p s s₁
+        → s₂ ≡ bound_to x k s₁ → Sized s₁ → PatternWalk b at n k s s₂
     unfolding number_pattern_variables ◌>>=◌ return generate_id entry_with shape_with bears is_name
-    as-way {p} {x} e u v =
+    as-way {p} {x} e u v z =
         let i = (as_first e).0 in
-        let q = as-bind next₁ e u.more u.few in
+        let q = as-bind e u in
         bound-two _ _ Pat.as_p (as_parts e) R.room
-        (λ l s a l₁ s₁ c l₂ s₂ g h. rw (as_is (tree b at) (entry_of b at) (trees-grow b at) n k R.below e i, g)
+        (λ l t a l₁ t₁ c l₂ t₂ g h. rw (as_is (tree b at) (entry_of b at) (trees-grow b at) n k R.below e i, g)
         (ap (λ (t : (ℕ × Ids) × Names). ((Pat.as_p a t.0.0, t.0.1), t.1)) h))
-        (λ s. as_is (numbered_tree s b at) _ (numbered-grow s b at) n k R.below (entry-with s b at k e) i)
-        u refl
-        (bound-one x k (ap bears e) q.0.0 q.0.1 q.1.1 u.sizes v.0.0 v.0.1 v.1.0 v.1.1 v.1.2)
+        (λ t. as_is (numbered_tree t b at) _ (numbered-grow t b at) n k R.below (entry-with t b at k e) i)
+        u
+        (bound-one x k (ap bears e) q.0.0 q.0.1 q.1.1 z v)
 
-  module _ {locals undo old ids : List ℕ} (z : Sizes locals undo old ids) where
-    pub variable-way : {x next₁ : ℕ} {locals₁ undo₁ old₁ ids₁ : List ℕ} → entry_of b at k ≡ Entry.Pattern (Shape.Variable x)
-        → ((next₁ ≡ next + 1) × (locals₁ ≡ set locals x (next + 1)))
-        × ((undo₁ ≡ set undo top x) × (old₁ ≡ set old top (get_or locals x 0)) × (ids₁ ≡ set ids k next))
-        → PatternWalk b at n k next top locals undo old ids next₁ locals₁ undo₁ old₁ ids₁
-    unfolding number_pattern_variables ◌>>=◌ return generate_id entry_with shape_with pattern_of bears is_name
-    variable-way {x} e v =
-        let q = variable-bind e in
-        bound-as-is _ _ Pat.variable_p (λ own. omega (arith, (variable-facts e).weighs own))
-        (λ l g a l₁ h r. rw (stem-is (tree b at) (entry_of b at) (trees-grow b at) n k R.below e)
-        (ap (λ (t : (ℕ × Ids) × Names). ((Pat.variable_p t.0.0, t.0.1), t.1)) r))
-        (λ s. stem-is (numbered_tree s b at) _ (numbered-grow s b at) n k R.below (entry-with s b at k e))
-        (bound-one x k (ap bears e) q.0.0 q.0.1 q.1.1 z v.0.0 v.0.1 v.1.0 v.1.1 v.1.2)
+  pub variable-way : {x : ℕ} {s₁ : Scopes} → entry_of b at k ≡ Entry.Pattern (Shape.Variable x) → s₁ ≡ bound_to x k s → Sized s → PatternWalk b at n k s s₁
+  unfolding number_pattern_variables ◌>>=◌ return generate_id entry_with shape_with pattern_of bears is_name
+  variable-way {x} e v z =
+      let q = variable-bind e in
+      bound-as-is _ _ Pat.variable_p (λ own. omega (arith, (variable-facts e).weighs own))
+      (λ l g a l₁ h r. rw (stem-is (tree b at) (entry_of b at) (trees-grow b at) n k R.below e)
+      (ap (λ (t : (ℕ × Ids) × Names). ((Pat.variable_p t.0.0, t.0.1), t.1)) r))
+      (λ t. stem-is (numbered_tree t b at) _ (numbered-grow t b at) n k R.below (entry-with t b at k e))
+      (bound-one x k (ap bears e) q.0.0 q.0.1 q.1.1 z v)
 
-    pub unit-way : entry_of b at k ≡ Entry.Pattern Shape.Unit → PatternWalk b at n k next top locals undo old ids next locals undo old ids
-    unfolding number_pattern_variables return entry_with shape_with pattern_of
-    unit-way e = bound-none (λ l g s. rw (
-      stem-is (tree b at) (entry_of b at) (trees-grow b at) n k R.below e,
-      stem-is (numbered_tree s b at) _ (numbered-grow s b at) n k R.below (entry-with s b at k e),
-    )) z
-
-    pub nil-way : entry_of b at k ≡ Entry.Pattern Shape.Nil → PatternWalk b at n k next top locals undo old ids next locals undo old ids
-    unfolding number_pattern_variables return entry_with shape_with pattern_of
-    nil-way e = bound-none (λ l g s. rw (
-      stem-is (tree b at) (entry_of b at) (trees-grow b at) n k R.below e,
-      stem-is (numbered_tree s b at) _ (numbered-grow s b at) n k R.below (entry-with s b at k e),
-    )) z
-
-    pub constant-way : {c : ℤ} → entry_of b at k ≡ Entry.Pattern (Shape.Constant c) → PatternWalk b at n k next top locals undo old ids next locals undo old ids
-    unfolding number_pattern_variables return entry_with shape_with pattern_of
-    constant-way e = bound-none (λ l g s. rw (
-      stem-is (tree b at) (entry_of b at) (trees-grow b at) n k R.below e,
-      stem-is (numbered_tree s b at) _ (numbered-grow s b at) n k R.below (entry-with s b at k e),
-    )) z
+  -- patterns that bind nothing
+  pub leaf-way : {f : Shape} → entry_of b at k ≡ Entry.Pattern f → ((c : ℤ) × (f ≡ Shape.Constant c)) ⊎ ((f ≡ Shape.Unit) ⊎ (f ≡ Shape.Nil))
+      → PatternWalk b at n k s s
+  unfolding number_pattern_variables return entry_with shape_with pattern_of
+  leaf-way e (inl (c, i)) = bound-none (λ l g t. rw (
+    stem-is (tree b at) (entry_of b at) (trees-grow b at) n k R.below (e ∙ ap Entry.Pattern i),
+    stem-is (numbered_tree t b at) _ (numbered-grow t b at) n k R.below (entry-with t b at k (e ∙ ap Entry.Pattern i)),
+  ))
+  leaf-way e (inr (inl i)) = bound-none (λ l g t. rw (
+    stem-is (tree b at) (entry_of b at) (trees-grow b at) n k R.below (e ∙ ap Entry.Pattern i),
+    stem-is (numbered_tree t b at) _ (numbered-grow t b at) n k R.below (entry-with t b at k (e ∙ ap Entry.Pattern i)),
+  ))
+  leaf-way e (inr (inr i)) = bound-none (λ l g t. rw (
+    stem-is (tree b at) (entry_of b at) (trees-grow b at) n k R.below (e ∙ ap Entry.Pattern i),
+    stem-is (numbered_tree t b at) _ (numbered-grow t b at) n k R.below (entry-with t b at k (e ∙ ap Entry.Pattern i)),
+  ))
 
 -- parameters
-module _ (b : List ℕ) (at n l : ℕ) {next top : ℕ} (R : ReadyChain b at n Chain.Parameters l next top) {x y z : ℕ} (e : entry_of b at l ≡ Entry.Link x y z) where
+module _ (b : List ℕ) (at n l : ℕ) {s : Scopes} (R : ReadyChain b at n Chain.Parameters l s) {x y z : ℕ} (e : entry_of b at l ≡ Entry.Link x y z) where
   facts : Link-facts b at n R.walk Chain.Parameters l x y z
   facts = link-facts b at n R.walk Chain.Parameters l R.below R.chained e
 
@@ -178,39 +175,32 @@ module _ (b : List ℕ) (at n l : ℕ) {next top : ℕ} (R : ReadyChain b at n C
         (λ (m : y ≡ 4294967295 → ⊥). omega (arith, (more_parts m).hold own)) (alike y 4294967295);
   }
 
-  pub parameter-first : (x < l) × Ready b at n is_pattern x next top
+  pub parameter-first : (x < l) × Ready b at n is_pattern x s
   unfolding item_fits
   parameter-first =
       let c = pattern-item b at n R.walk l x facts.item-fits in
       (c.0, record { walk = R.walk; below = omega (arith, c.0, R.below); sorted = c.1; room = room-first item-parts R.room })
 
-  pub parameter-rest : (next' : ℕ) → (y ≡ 4294967295 → ⊥) → next ≤ next' → next' ≤ next + weight b at each x
-      → (y < l) × ReadyChain b at n Chain.Parameters y next' (top + (next' - next))
-  parameter-rest next' m u v =
-      let c = facts.rest m in
-      (c.0, record { walk = R.walk; below = omega (arith, c.0, R.below); chained = c.1; room = room-inner next' (more_parts m) R.room u v })
+  pub parameter-rest : {s₁ : Scopes} → (y ≡ 4294967295 → ⊥) → PatternWalk b at n x s s₁ → (y < l) × ReadyChain b at n Chain.Parameters y s₁
+  parameter-rest m u =
+      let c = facts.rest m in (
+        c.0,
+        record { walk = R.walk; below = omega (arith, c.0, R.below); chained = c.1; room = room-inner (more_parts m) R.room u.more u.few u.entries },
+      )
 
-  pub parameter-room : (next' : ℕ) → next ≤ next' → next' ≤ next + weight b at each x → top + (next' - next) ≤ 2048
-  parameter-room next' u v = omega (arith, item-parts.hold each, R.room.entries)
+  pub parameter-last-way : {s₁ : Scopes} → y ≡ 4294967295 → PatternWalk b at n x s s₁ → ParameterWalk b at n l s s₁
+  unfolding number_parameters ◌>>=◌ return entry_with
+  parameter-last-way m u =
+      bound-as-is _ _ (λ p. p ∷ []) (last-parts m)
+      (λ t g a t₁ h q. rw (parameters-last (tree b at) (entry_of b at) (trees-grow b at) n l R.below e facts.before m, q))
+      (λ t. parameters-last (numbered_tree t b at) _ (numbered-grow t b at) n l R.below (entry-with t b at l e) facts.before m)
+      u
 
-  module _ {locals undo old ids : List ℕ} {next₁ : ℕ} {locals₁ undo₁ old₁ ids₁ : List ℕ} where
-    pub parameter-last-way : y ≡ 4294967295 → PatternWalk b at n x next top locals undo old ids next₁ locals₁ undo₁ old₁ ids₁
-        → ParameterWalk b at n l next top locals undo old ids next₁ locals₁ undo₁ old₁ ids₁
-    unfolding number_parameters ◌>>=◌ return entry_with
-    parameter-last-way m u =
-        bound-as-is _ _ (λ p. p ∷ []) (last-parts m)
-        (λ s g a s₁ h q. rw (parameters-last (tree b at) (entry_of b at) (trees-grow b at) n l R.below e facts.before m, q))
-        (λ s. parameters-last (numbered_tree s b at) _ (numbered-grow s b at) n l R.below (entry-with s b at l e) facts.before m)
-        u
-
-    pub parameter-more-way : {next₂ : ℕ} {locals₂ undo₂ old₂ ids₂ : List ℕ} → (y ≡ 4294967295 → ⊥)
-        → PatternWalk b at n x next top locals undo old ids next₁ locals₁ undo₁ old₁ ids₁
-        → ParameterWalk b at n y next₁ (top + (next₁ - next)) locals₁ undo₁ old₁ ids₁ next₂ locals₂ undo₂ old₂ ids₂
-        → ParameterWalk b at n l next top locals undo old ids next₂ locals₂ undo₂ old₂ ids₂
-    unfolding number_parameters ◌>>=◌ return entry_with
-    parameter-more-way m u v =
-        bound-two _ _ (λ p ps. p ∷ ps) (more_parts m) R.room
-        (λ s g a s₁ g₁ c s₂ g₂ q r.
-        rw (parameters-more (tree b at) (entry_of b at) (trees-grow b at) n l R.below e facts.before m (facts.rest m).0, q, r))
-        (λ s. parameters-more (numbered_tree s b at) _ (numbered-grow s b at) n l R.below (entry-with s b at l e) facts.before m (facts.rest m).0)
-        u refl v
+  pub parameter-more-way : {s₁ s₂ : Scopes} → (y ≡ 4294967295 → ⊥) → PatternWalk b at n x s s₁ → ParameterWalk b at n y s₁ s₂ → ParameterWalk b at n l s s₂
+  unfolding number_parameters ◌>>=◌ return entry_with
+  parameter-more-way m u v =
+      bound-two _ _ (λ p ps. p ∷ ps) (more_parts m) R.room
+      (λ t g a t₁ g₁ c t₂ g₂ q r.
+      rw (parameters-more (tree b at) (entry_of b at) (trees-grow b at) n l R.below e facts.before m (facts.rest m).0, q, r))
+      (λ t. parameters-more (numbered_tree t b at) _ (numbered-grow t b at) n l R.below (entry-with t b at l e) facts.before m (facts.rest m).0)
+      u v

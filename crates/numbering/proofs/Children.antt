@@ -44,6 +44,21 @@ pub no-expression-bad : (b : List ℕ) (at k : ℕ) → is_expression (entry_of 
 unfolding is_expression
 no-expression-bad b at k s q = not-both (ap is_expression q) s
 
+-- the sort that it has
+pub has-pattern : (e : Entry) → is_pattern e ≡ true → ((f : Shape) → e ≡ Entry.Pattern f → ⊥) → ⊥
+unfolding is_pattern
+has-pattern (Entry.Expression f) s h = not-both refl s
+has-pattern (Entry.Pattern f) s h = h f refl
+has-pattern (Entry.Link x y z) s h = not-both refl s
+has-pattern Entry.Bad s h = not-both refl s
+
+pub has-expression : (e : Entry) → is_expression e ≡ true → ((f : Form) → e ≡ Entry.Expression f → ⊥) → ⊥
+unfolding is_expression
+has-expression (Entry.Expression f) s h = h f refl
+has-expression (Entry.Pattern f) s h = not-both refl s
+has-expression (Entry.Link x y z) s h = not-both refl s
+has-expression Entry.Bad s h = not-both refl s
+
 module _ (b : List ℕ) (at n : ℕ) (W : Walkable b at n) where
   pub record Child-facts (k : ℕ) (x y z : Child) : Type 0 where
     pub first_fits : child_fits b at W.count k x ≡ true
@@ -144,3 +159,12 @@ no-chain-pattern b at h l c e = not-both (ap (link_fits b at h (chain_fits b at 
 pub no-chain-bad : (b : List ℕ) (at : ℕ) (h : Chain) (l : ℕ) → chain_fits b at h (suc l) l ≡ true → entry_of b at l ≡ Entry.Bad → ⊥
 unfolding chain_fits link_fits
 no-chain-bad b at h l c e = not-both (ap (link_fits b at h (chain_fits b at h l) l) e) (rw (eq-eqb l l refl, chain_fits) at c)
+
+pub has-link : (b : List ℕ) (at : ℕ) (h : Chain) (l : ℕ) → chain_fits b at h (suc l) l ≡ true → ((x y z : ℕ) → entry_of b at l ≡ Entry.Link x y z → ⊥) → ⊥
+has-link b at h l c f = go (entry_of b at l) refl
+  where
+    go : (e : Entry) → entry_of b at l ≡ e → ⊥
+    go (Entry.Expression g) q = no-chain-expression b at h l c q
+    go (Entry.Pattern g) q = no-chain-pattern b at h l c q
+    go (Entry.Link x y z) q = f x y z q
+    go Entry.Bad q = no-chain-bad b at h l c q

@@ -4,7 +4,7 @@ use mathlib.Core.Path.{◌≡◌, refl, sym, ap, ap₂, ◌∙◌}
 use mathlib.Core.List.{List, [], ◌∷◌, ◌++◌}
 use mathlib.Core.Bool.{true}
 use native.Mathlib.Omega.{arith}
-use lib.ListN.{length, get_or, replicate, length-replicate}
+use lib.ListN.{length, get_or, replicate}
 use borrow.Author.Tests.{eqb-true}
 use Rattle.source.specs.declared.Layout.{Layout}
 use Rattle.source.specs.Trees.{Pat, Expr}
@@ -22,9 +22,10 @@ use Rattle.source_check.specs.Answer.{checked}
 use Rattle.numbering.specs.Numbering.{Ids, Names, Numbered, ◌>>=◌, return, found, named, fresh_text, iter_text}
 use Rattle.numbering.specs.Numbering.{fold_text, registered, number_module_variables, names_of, numbered}
 use Rattle.numbering.specs.Numbers.{NumberedIn, numbered_module, numbered_definition, numbered_expression}
-use Rattle.numbering.specs.Walks.{weight, each, coded, Holds, names as both, no_row, no_entries, no_publics, Room}
+use Rattle.numbering.specs.Walks.{weight, each, coded, Holds, names as both, no_row, Room}
 use Rattle.numbering.specs.Walks.{Walkable, ReadyDefinitions, ReadyExpressions, sum_from, definitions_weight}
 use Rattle.numbering.specs.Walks.{expressions_weight, Published, Registered, DefinitionsWalk, ExpressionsWalk}
+use Rattle.numbering.specs.declared.rows.Scopes.{Scopes}
 use Rattle.numbering.proofs.Laws.{every-at, and_left, and_right}
 use Rattle.numbering.proofs.Sums.{total-same, total-sum, total-zero, total-add, one_at_most, same-no, used-by}
 use Rattle.numbering.proofs.Weights.{roots-weigh}
@@ -39,30 +40,18 @@ nothing zero x = refl
 nothing (suc n) zero = refl
 nothing (suc n) (suc x) = nothing n x
 
-pub no-row-holds : {row : List ℕ} → row ≡ no_row → Holds row []
+pub no-row-holds : Holds no_row []
 unfolding no_row found coded
-no-row-holds e x l = ap (λ (r : List ℕ). get_or r x 0) e ∙ nothing 512 x
-
-pub no-row-long : {row : List ℕ} → row ≡ no_row → length row ≡ 512
-unfolding no_row
-no-row-long e = ap length e ∙ length-replicate {A = ℕ} 512 0
-
-pub no-entries-long : {row : List ℕ} → row ≡ no_entries → length row ≡ 2048
-unfolding no_entries
-no-entries-long e = ap length e ∙ length-replicate {A = ℕ} 2048 0
-
-pub no-publics-long : {row : List ℕ} → row ≡ no_publics → length row ≡ 64
-unfolding no_publics
-no-publics-long e = ap length e ∙ length-replicate {A = ℕ} 64 0
+no-row-holds x l = nothing 512 x
 
 append-none : (l : Ids) → l ++ [] ≡ l
 append-none [] = refl
 append-none (e ∷ l) = ap (λ (r : Ids). e ∷ r) (append-none l)
 
 -- the three texts
-pub three-registered : (b : List ℕ) (text count : ℕ) {g₀ g₁ g₂ g₃ : List ℕ} → Registered b fresh_text text count 0 g₀ g₁
-    → Registered b iter_text text count 2 g₁ g₂ → Registered b fold_text text count 5 g₂ g₃ → Holds g₀ []
-    → Holds g₃ (registered (rows count 0 (name_of b text))).globals
+pub three-registered : (b : List ℕ) (text count : ℕ) {s₀ s₁ s₂ s₃ : Scopes} → Registered b fresh_text text count 0 s₀ s₁
+    → Registered b iter_text text count 2 s₁ s₂ → Registered b fold_text text count 5 s₂ s₃ → Holds s₀.globals []
+    → Holds s₃.globals (registered (rows count 0 (name_of b text))).globals
 unfolding registered
 three-registered b text count r s t h =
     let q = t.holds _ (s.holds _ (r.holds [] h)) in
@@ -175,47 +164,48 @@ module _ (b : List ℕ) (Q : Readable b) where
     ids = omega (arith, total-each (nodes b), Q.nodes-few);
   }
 
-  pub definitions-ready : (next : ℕ) → next ≤ 73 → ReadyDefinitions b (nodes_offset b) (nodes b) (definitions_offset b) (definitions b) 0 next
+  pub definitions-ready : (next : ℕ) → next ≤ 73 → ReadyDefinitions b (nodes_offset b) (nodes b) (definitions_offset b) (definitions b) 0 next 0
   definitions-ready next l = record { walk = walk; room = room-first lists-parts (room next l) }
 
   pub expressions-ready : (next next' : ℕ) → next ≤ 73 → next' ≤ next + definitions_weight b (nodes_offset b) (definitions_offset b) (definitions b) 0 each
-      → ReadyExpressions b (nodes_offset b) (nodes b) (expressions_offset b) (expressions b) 0 next'
-  expressions-ready next next' l q = record { walk = walk; room = room-second next' lists-parts (room next l) q }
+      → ReadyExpressions b (nodes_offset b) (nodes b) (expressions_offset b) (expressions b) 0 next' 0
+  expressions-ready next next' l q = record { walk = walk; room = room-second lists-parts (room next l) q refl }
 
   none-behind : (j : ℕ) → nodes b ≤ j → total (nodes b) (same j) ≡ 0
   none-behind j l = total-same (nodes b) _ _ (λ k m. same-no j k (λ e. omega arith)) ∙ total-zero (nodes b)
 
-  module _ {locals globals public ids : List ℕ} {next₁ : ℕ} {globals₁ public₁ : List ℕ} {next₂ : ℕ} {locals₂ globals₂ undo₂ old₂ ids₂ : List ℕ} {next₃ : ℕ}
-      {locals₃ globals₃ undo₃ old₃ ids₃ : List ℕ} where
-    pub entire : Published b (publics_offset b) (publics b) 0 9 locals globals public next₁ globals₁ public₁
-        → DefinitionsWalk b (nodes_offset b) (nodes b) (definitions_offset b) (definitions b) 0 next₁ locals globals₁ ids next₂ locals₂ globals₂ undo₂ old₂ ids₂
-        → ExpressionsWalk b (nodes_offset b) (nodes b) (expressions_offset b) (expressions b) 0 next₂ 0 locals₂ globals₂ undo₂ old₂ ids₂ next₃ locals₃ globals₃ undo₃
-        old₃ ids₃ → Holds locals [] → Holds globals (registered (rows (names b) 0 (name_of b (text_offset b)))).globals → length ids ≡ 2048 → length public ≡ 64
-        → NumberedIn b ids public next₃ ids₃ public₁
-    unfolding numbered names_of number_module_variables numbered_module module_of ◌>>=◌ return registered
-    entire p d x hl hg li lp =
-        let g = registered (rows (names b) 0 (name_of b (text_offset b))) in
-        let pn = p.numbers g hl hg refl in
-        let once = (room 0 (omega arith)).met-once in
-        let dn = d.numbers [] (both pn.0 next₁) ids₃ hl pn.1.1 refl (earlier ids₂ ids₃ ids₃ lists-parts once x.elsewhere (λ j l. refl)) in
-        let xn = x.numbers dn.0 (both dn.1.0 next₂) ids₃ dn.1.1.1.0 dn.1.1.1.1 refl (later ids₃ ids₃ lists-parts (λ j l. refl)) in
-        let run : number_module_variables (module_of b) g ≡ (
-          (
-            rows (publics b) 0 (λ k. get_or public₁ k 0),
-            rows (definitions b) 0 (numbered_definition ids₃ b (nodes_offset b) (nodes b) (definitions_offset b)),
-            rows (expressions b) 0 (numbered_expression ids₃ b (nodes_offset b) (nodes b) (expressions_offset b)),
-          ),
-          both xn.0 next₃,
-        ) = rw (pn.1.0, dn.1.1.0, xn.1.0) in
-        record {
-          numbers = ap (λ (t : (List ℕ × List (Pat × Expr) × List Expr) × Names). numbers_of t.1.next t.0.0 t.0.1 t.0.2) run;
-          ids-unnamed = λ j z. x.unnamed j z ∙ d.unnamed j z;
-          ids-behind = λ j l.
-              x.elsewhere j (omega (arith, none-behind j l, lists-weigh (same j))) ∙ d.elsewhere j (omega (arith, none-behind j l, lists-weigh (same j)));
-          public-behind = λ j l. p.behind j (omega arith);
-          ids-long = x.sizes.nodes ∙ sym li;
-          public-long = p.long ∙ sym lp;
-        }
+  pub entire : {s s₁ s₂ s₃ : Scopes} {public public₁ : List ℕ} → Published b (publics_offset b) (publics b) 0 s public s₁ public₁
+      → DefinitionsWalk b (nodes_offset b) (nodes b) (definitions_offset b) (definitions b) 0 s₁ s₂
+      → ExpressionsWalk b (nodes_offset b) (nodes b) (expressions_offset b) (expressions b) 0 s₂ s₃ → s.next ≡ 9
+      → Holds s.locals [] → Holds s.globals (registered (rows (names b) 0 (name_of b (text_offset b)))).globals
+      → NumberedIn b s.ids public s₃.next s₃.ids public₁
+  unfolding numbered names_of number_module_variables numbered_module module_of ◌>>=◌ return registered
+  entire {s} {s₁} {s₂} {s₃} {public} {public₁} p d x e hl hg =
+      let g = registered (rows (names b) 0 (name_of b (text_offset b))) in
+      let pn = p.numbers g hl hg (sym e) in
+      let once = (room 0 (omega arith)).met-once in
+      let dn = d.numbers [] (both pn.0 s₁.next) s₃.ids (λ x m. ap (λ (t : List ℕ). get_or t x 0) p.rest.same_locals ∙ hl x m) pn.1.1 refl
+      (earlier s₂.ids s₃.ids s₃.ids lists-parts once x.elsewhere (λ j l. refl)) in
+      let xn = x.numbers dn.0 (both dn.1.0 s₂.next) s₃.ids dn.1.1.1.0 dn.1.1.1.1 refl (later s₃.ids s₃.ids lists-parts (λ j l. refl)) in
+      let same-id = λ (j : ℕ). ap (λ (t : List ℕ). get_or t j 0) p.rest.same_ids in
+      let run : number_module_variables (module_of b) g ≡ (
+        (
+          rows (publics b) 0 (λ k. get_or public₁ k 0),
+          rows (definitions b) 0 (numbered_definition s₃.ids b (nodes_offset b) (nodes b) (definitions_offset b)),
+          rows (expressions b) 0 (numbered_expression s₃.ids b (nodes_offset b) (nodes b) (expressions_offset b)),
+        ),
+        both xn.0 s₃.next,
+      ) = rw (pn.1.0, dn.1.1.0, xn.1.0) in
+      record {
+        numbers = ap (λ (t : (List ℕ × List (Pat × Expr) × List Expr) × Names). numbers_of t.1.next t.0.0 t.0.1 t.0.2) run;
+        ids-unnamed = λ j z. x.unnamed j z ∙ d.unnamed j z ∙ same-id j;
+        ids-behind = λ j l.
+            x.elsewhere j (omega (arith, none-behind j l, lists-weigh (same j)))
+            ∙ d.elsewhere j (omega (arith, none-behind j l, lists-weigh (same j))) ∙ same-id j;
+        public-behind = λ j l. p.behind j (omega arith);
+        ids-long = x.long ∙ d.long ∙ ap length p.rest.same_ids;
+        public-long = p.long;
+      }
 
 -- the same by a layout in a local
 module _ (b : List ℕ) (Q : Readable b) (l : Layout) (e : l ≡ layout_of b) where
@@ -224,41 +214,37 @@ module _ (b : List ℕ) (Q : Readable b) (l : Layout) (e : l ≡ layout_of b) wh
   unfolding layout_of
   publics-asked = rw e ((omega (arith, Q.long), Q.publics-fit), (Q.names-few, Q.publics-few))
 
-  pub definitions-asked : (next : ℕ) → next ≤ 9 + l.publics →
+  pub definitions-asked : (s : Scopes) → s.next ≤ 9 + l.publics → s.top ≡ 0 →
       let list = l.definitions_at in
       ((4 * (list + DEFINITION-WORDS * l.definitions) ≤ length b) × (definitions_fit b l.nodes_at l.nodes list l.definitions ≡ true))
-      × ReadyDefinitions b l.nodes_at l.nodes list l.definitions 0 next
+      × ReadyDefinitions b l.nodes_at l.nodes list l.definitions 0 s.next s.top
   unfolding layout_of
-  definitions-asked = rw e (λ next q. ((omega (arith, Q.long), Q.definitions-fit), definitions-ready b Q next (omega (arith, Q.publics-few))))
+  definitions-asked s =
+      rw e (λ q t. ((omega (arith, Q.long), Q.definitions-fit), rw t (definitions-ready b Q s.next (omega (arith, Q.publics-few)))))
 
-  pub expressions-asked : (next next' : ℕ) → next ≤ 9 + l.publics
-      → next' ≤ next + definitions_weight b l.nodes_at l.definitions_at l.definitions 0 each
+  pub expressions-asked : {s s₁ : Scopes} → s.next ≤ 9 + l.publics → s.top ≡ 0 → DefinitionsWalk b l.nodes_at l.nodes l.definitions_at l.definitions 0 s s₁
       → ((4 * (l.expressions_at + l.expressions) ≤ length b) × (expressions_fit b l.nodes_at l.nodes l.expressions_at l.expressions ≡ true))
-      × ReadyExpressions b l.nodes_at l.nodes l.expressions_at l.expressions 0 next'
+      × ReadyExpressions b l.nodes_at l.nodes l.expressions_at l.expressions 0 s₁.next s₁.top
   unfolding layout_of
-  expressions-asked =
-      rw e (λ next next' q r. ((omega (arith, Q.long), Q.expressions-fit), expressions-ready b Q next next' (omega (arith, Q.publics-few)) r))
+  expressions-asked {s} {s₁} =
+      rw e (λ q t d.
+      let r : s₁.top ≡ 0 = d.same_top ∙ t in
+      ((omega (arith, Q.long), Q.expressions-fit), rw r (expressions-ready b Q s.next s₁.next (omega (arith, Q.publics-few)) d.few)))
 
   pub names-asked : ((names_fit b l.text_at l.names ≡ true) × (4 * (HEADER + NAME-WORDS * l.names) ≤ length b)) × (l.names ≤ 512)
   unfolding layout_of
   names-asked = rw e ((Q.names-fit, omega (arith, Q.long)), Q.names-few)
 
-  pub entire-at : {locals globals public ids : List ℕ} {next₁ : ℕ} {globals₁ public₁ : List ℕ} {next₂ : ℕ} {locals₂ globals₂ undo₂ old₂ ids₂ : List ℕ}
-      {next₃ : ℕ} {locals₃ globals₃ undo₃ old₃ ids₃ : List ℕ} → Published b l.publics_at l.publics 0 9 locals globals public next₁ globals₁ public₁
-      → DefinitionsWalk b l.nodes_at l.nodes l.definitions_at l.definitions 0 next₁ locals globals₁ ids next₂ locals₂ globals₂ undo₂ old₂ ids₂
-      → ExpressionsWalk b l.nodes_at l.nodes l.expressions_at l.expressions 0 next₂ 0 locals₂ globals₂ undo₂ old₂ ids₂ next₃ locals₃
-      globals₃ undo₃ old₃ ids₃ → Holds locals [] → Holds globals (registered (rows l.names 0 (name_of b l.text_at))).globals → length ids ≡ 2048
-      → length public ≡ 64 → NumberedIn b ids public next₃ ids₃ public₁
+  pub entire-at : {s s₁ s₂ s₃ : Scopes} {public public₁ : List ℕ} → Published b l.publics_at l.publics 0 s public s₁ public₁
+      → DefinitionsWalk b l.nodes_at l.nodes l.definitions_at l.definitions 0 s₁ s₂
+      → ExpressionsWalk b l.nodes_at l.nodes l.expressions_at l.expressions 0 s₂ s₃ → s.next ≡ 9
+      → Holds s.locals [] → Holds s.globals (registered (rows l.names 0 (name_of b l.text_at))).globals
+      → NumberedIn b s.ids public s₃.next s₃.ids public₁
   unfolding layout_of
-  entire-at = rw e (λ p d x hl hg li lp. entire b Q p d x hl hg li lp)
+  entire-at = rw e (λ p d x q hl hg. entire b Q p d x q hl hg)
 
 -- a refused record
 pub refused-is : (t : Read) {r : Refusal} → Err r ≡ checked t → t ≡ Read.refused r
 unfolding checked
 refused-is (Read.module-of m) e = let z : ◌≡◌ {A = ℕ} 0 1 = cc in absurd (omega arith)
 refused-is (Read.refused s) {r} e = let z : r ≡ s = cc in ap Read.refused (sym z)
-
--- the same from equal arrays at the start
-pub numbered-from : {b ids public ids₀ public₀ : List ℕ} {next : ℕ} (ids' public' : List ℕ) → ids ≡ ids₀ → public ≡ public₀
-    → NumberedIn b ids public next ids' public' → NumberedIn b ids₀ public₀ next ids' public'
-numbered-from ids' public' e f n = rw (← e, ← f) n

@@ -7,11 +7,13 @@ use mathlib.Core.Option.{Option, none, some}
 use mathlib.Core.Logic.{⊎_elim}
 use native.Mathlib.Numerals.{add-one}
 use native.Mathlib.Omega.{arith}
-use lib.ListN.{length, get_or, set, length-set}
+use lib.ListN.{length, get_or, set}
 use lib.Seq.{get_or-set_same, get_or-set_other}
 use borrow.Author.Tests.{eq-eqb, ne_eqb}
 use Rattle.numbering.specs.Numbering.{Ids, Names, found, chosen, number_variable}
-use Rattle.numbering.specs.Walks.{coded, Holds, names, unwound, Chosen, SameBelow}
+use Rattle.numbering.specs.Walks.{coded, Holds, names, undone, unwound, OnlyGlobals, Chosen, SameBelow}
+use Rattle.numbering.specs.declared.rows.Scopes.{Scopes}
+use Rattle.numbering.specs.declared.rows.Undo.{Undo}
 use Rattle.numbering.proofs.Laws.{alike}
 
 -- a name that is bound anew: its row has the id plus one
@@ -44,84 +46,91 @@ chosen-new x (some i) p g u v next d z e f q = absurd (omega arith)
 chosen-new x none (some i) g u v next d z e f q = absurd (omega arith)
 chosen-new x none none g u v next d z e f q = rw (add-one, ← q)
 
-module _ (x next : ℕ) (locals globals : List ℕ) (l : x < 512) (w : length globals ≡ 512) where
-  pub variable-local : (get_or locals x 0 ≡ 0 → ⊥) → Chosen x next locals globals (get_or locals x 0 - 1) next globals
+pub only-globals : (s : Scopes) → OnlyGlobals s s
+only-globals s = record { same_locals = refl; same_undo = refl; same_top = refl; same_ids = refl }
+
+module _ (x : ℕ) (s : Scopes) (l : x < 512) where
+  pub variable-local : (get_or s.locals x 0 ≡ 0 → ⊥) → Chosen x s (get_or s.locals x 0 - 1) s
   unfolding number_variable
   variable-local f = record {
     more = omega arith;
     few = omega arith;
-    row = w;
-    numbers = λ ls g h k q. (g.globals, (chosen-local x (found x ls) (found x g.globals) g (get_or locals x 0) next (h x l) f q, k));
+    rest = only-globals s;
+    numbers = λ ls g h k q. (g.globals, (chosen-local x (found x ls) (found x g.globals) g (get_or s.locals x 0) s.next (h x l) f q, k));
   }
 
-  pub variable-global : get_or locals x 0 ≡ 0 → (get_or globals x 0 ≡ 0 → ⊥) → Chosen x next locals globals (get_or globals x 0 - 1) next globals
+  pub variable-global : get_or s.locals x 0 ≡ 0 → (get_or s.globals x 0 ≡ 0 → ⊥) → Chosen x s (get_or s.globals x 0 - 1) s
   unfolding number_variable
   variable-global z f = record {
     more = omega arith;
     few = omega arith;
-    row = w;
+    rest = only-globals s;
     numbers = λ ls g h k q.
-        (g.globals, (chosen-global x (found x ls) (found x g.globals) g (get_or locals x 0) (get_or globals x 0) next (h x l) z (k x l) f q, k));
+        (g.globals, (chosen-global x (found x ls) (found x g.globals) g (get_or s.locals x 0) (get_or s.globals x 0) s.next (h x l) z (k x l) f q, k));
   }
 
-  pub variable-new : get_or locals x 0 ≡ 0 → get_or globals x 0 ≡ 0 → Chosen x next locals globals next (next + 1) (set globals x (next + 1))
+  -- a new global
+  abbrev pub with_global : Scopes
+  with_global = record s { globals = set s.globals x (s.next + 1); next = s.next + 1 }
+
+  pub variable-new : length s.globals ≡ 512 → get_or s.locals x 0 ≡ 0 → get_or s.globals x 0 ≡ 0 → Chosen x s s.next with_global
   unfolding number_variable
-  variable-new z f = record {
+  variable-new w z f = record {
     more = omega arith;
     few = omega arith;
-    row = simp length-set w;
+    rest = record { same_locals = refl; same_undo = refl; same_top = refl; same_ids = refl };
     numbers = λ ls g h k q. (
-      (x, next) ∷ g.globals,
+      (x, s.next) ∷ g.globals,
       (
-        chosen-new x (found x ls) (found x g.globals) g (get_or locals x 0) (get_or globals x 0) next (h x l) z (k x l) f q,
-        held_more globals g.globals x next k (omega arith),
+        chosen-new x (found x ls) (found x g.globals) g (get_or s.locals x 0) (get_or s.globals x 0) s.next (h x l) z (k x l) f q,
+        held_more s.globals g.globals x s.next k (omega arith),
       ),
     );
   }
 
 -- ---- rows unwound
 
-pub unwound-none : (undo old : List ℕ) (base : ℕ) (row : List ℕ) {n : ℕ} → n ≡ 0 → unwound undo old base n row ≡ row
+pub unwound-none : (undo : List Undo) (base : ℕ) (row : List ℕ) {n : ℕ} → n ≡ 0 → unwound undo base n row ≡ row
 unfolding unwound
-unwound-none undo old base row e = rw e
+unwound-none undo base row e = rw e
 
 -- the last entry first
-pub unwound-last : (undo old : List ℕ) (base : ℕ) (row : List ℕ) (i : ℕ) → base < i
-    → unwound undo old base (i - 1 - base) (set row (get_or undo (i - 1) 0) (get_or old (i - 1) 0)) ≡ unwound undo old base (i - base) row
+pub unwound-last : (undo : List Undo) (base : ℕ) (row : List ℕ) (i : ℕ) → base < i
+    → unwound undo base (i - 1 - base) (set row (undone undo (i - 1)).name (undone undo (i - 1)).before) ≡ unwound undo base (i - base) row
 unfolding unwound
-unwound-last undo old base row i l =
+unwound-last undo base row i l =
     let e : i - base ≡ suc (i - 1 - base) = omega arith in
     let f : base + (i - 1 - base) ≡ i - 1 = omega arith in
-    sym (ap (λ (m : ℕ). unwound undo old base m row) e ∙ ap (λ (m : ℕ). unwound undo old base (i - 1 - base) (set row (get_or undo m 0) (get_or old m 0))) f)
+    sym (ap (λ (m : ℕ). unwound undo base m row) e
+    ∙ ap (λ (m : ℕ). unwound undo base (i - 1 - base) (set row (undone undo m).name (undone undo m).before)) f)
 
 -- in two parts
-pub unwound-parts : (undo old : List ℕ) (base m n : ℕ) (row : List ℕ)
-    → unwound undo old base (m + n) row ≡ unwound undo old base m (unwound undo old (base + m) n row)
+pub unwound-parts : (undo : List Undo) (base m n : ℕ) (row : List ℕ)
+    → unwound undo base (m + n) row ≡ unwound undo base m (unwound undo (base + m) n row)
 unfolding unwound
-unwound-parts undo old base m zero row = let e : m + 0 ≡ m = omega arith in ap (λ (k : ℕ). unwound undo old base k row) e
-unwound-parts undo old base m (suc n) row =
+unwound-parts undo base m zero row = let e : m + 0 ≡ m = omega arith in ap (λ (k : ℕ). unwound undo base k row) e
+unwound-parts undo base m (suc n) row =
     let e : m + suc n ≡ suc (m + n) = omega arith in
     let f : base + (m + n) ≡ base + m + n = omega arith in
-    ap (λ (k : ℕ). unwound undo old base k row) e
-    ∙ ap (λ (k : ℕ). unwound undo old base (m + n) (set row (get_or undo k 0) (get_or old k 0))) f
-    ∙ unwound-parts undo old base m n (set row (get_or undo (base + m + n) 0) (get_or old (base + m + n) 0))
+    ap (λ (k : ℕ). unwound undo base k row) e
+    ∙ ap (λ (k : ℕ). unwound undo base (m + n) (set row (undone undo k).name (undone undo k).before)) f
+    ∙ unwound-parts undo base m n (set row (undone undo (base + m + n)).name (undone undo (base + m + n)).before)
 
 -- by the entries alone
-pub unwound-same : (undo old undo' old' : List ℕ) (base n : ℕ) (row : List ℕ) → SameBelow (base + n) undo undo' → SameBelow (base + n) old old'
-    → unwound undo' old' base n row ≡ unwound undo old base n row
+pub unwound-same : (undo undo' : List Undo) (base n : ℕ) (row : List ℕ) → SameBelow (base + n) undo undo' → unwound undo' base n row ≡ unwound undo base n row
 unfolding unwound
-unwound-same undo old undo' old' base zero row p q = refl
-unwound-same undo old undo' old' base (suc n) row p q =
-    rw (p (base + n) (omega arith), q (base + n) (omega arith))
-    (unwound-same undo old undo' old' base n (set row (get_or undo (base + n) 0) (get_or old (base + n) 0)) (λ i l. p i (omega arith)) (λ i l. q i (omega arith)))
+unwound-same undo undo' base zero row p = refl
+unwound-same undo undo' base (suc n) row p =
+    rw (p (base + n) (omega arith))
+    (unwound-same undo undo' base n (set row (undone undo (base + n)).name (undone undo (base + n)).before) (λ i l. p i (omega arith)))
 
 -- an entry written and unwound
-pub unwound-bound : (undo old : List ℕ) (top x v : ℕ) (row : List ℕ) → top < length undo → top < length old → x < length row
-    → unwound (set undo top x) (set old top (get_or row x 0)) top 1 (set row x v) ≡ row
+pub unwound-bound : (undo : List Undo) (top x v : ℕ) (row : List ℕ) → top < length undo → x < length row
+    → unwound (set undo top (record { name = x; before = get_or row x 0 })) top 1 (set row x v) ≡ row
 unfolding unwound
-unwound-bound undo old top x v row p q r =
+unwound-bound undo top x v row p r =
     let e : top + 0 ≡ top = omega arith in
-    rw (e, get_or-set_same undo top x 0 p, get_or-set_same old top (get_or row x 0) 0 q) (set_back row x v r)
+    rw (e, get_or-set_same undo top (record { name = x; before = get_or row x 0 }) (record { name = 0; before = 0 }) p) (set_back row x v r)
   where
     set_back : (row : List ℕ) (x v : ℕ) → x < length row → set (set row x v) x (get_or row x 0) ≡ row
     set_back [] x v l = absurd (omega arith)

@@ -1,6 +1,6 @@
 -- Walks put together: one after the other, and in a scope. Assumes nothing.
 use Prim.Native.Nat.{ℕ, suc, ◌+◌, ◌-◌, ◌≤◌, ◌<◌}
-use mathlib.Core.Path.{◌≡◌, refl, sym, ap, ap₂, ◌∙◌}
+use mathlib.Core.Path.{◌≡◌, refl, ap, ◌∙◌}
 use mathlib.Core.List.{List, ◌∷◌}
 use mathlib.Core.Bool.{Bool, true}
 use mathlib.Core.Logic.{⊎_elim}
@@ -10,7 +10,9 @@ use lib.ListN.{length, get_or, set, length-set}
 use lib.Seq.{get_or-set_same, get_or-set_other}
 use Rattle.source.specs.Uses.{same}
 use Rattle.numbering.specs.Numbering.{Ids, Names, Naming, number_variable}
-use Rattle.numbering.specs.Walks.{names, unwound, each, Sizes, Room, Else, Agree, Bound, Walked, Chosen}
+use Rattle.numbering.specs.Walks.{names, undone, unwound, bound_to, unwound_to, each, Sized, Room, Else, Agree, Bound, Walked, Chosen}
+use Rattle.numbering.specs.declared.rows.Scopes.{Scopes}
+use Rattle.numbering.specs.declared.rows.Undo.{Undo}
 use Rattle.numbering.proofs.Laws.{split, not-both}
 use Rattle.numbering.proofs.Sums.{same-yes}
 use Rattle.numbering.proofs.Held.{held_more, unwound-none, unwound-parts, unwound-same, unwound-bound}
@@ -32,17 +34,17 @@ room-first p r = record {
 }
 
 -- the second part, where the first has drawn ids
-pub room-second : {w u v : Weight} {next top : ℕ} (next' : ℕ) → Parts w u v → Room w next top → next' ≤ next + u each → Room v next' top
-room-second next' p r q = record {
+pub room-second : {w u v : Weight} {next top next' top' : ℕ} → Parts w u v → Room w next top → next' ≤ next + u each → top' ≡ top → Room v next' top'
+room-second p r q e = record {
   met-once = λ j. omega (arith, p.hold (same j), r.met-once j);
   entries = omega (arith, p.hold each, r.entries);
   ids = omega (arith, p.hold each, r.ids);
 }
 
 -- and has bound them
-pub room-inner : {w u v : Weight} {next top : ℕ} (next' : ℕ) → Parts w u v → Room w next top → next ≤ next' → next' ≤ next + u each
-    → Room v next' (top + (next' - next))
-room-inner next' p r l q = record {
+pub room-inner : {w u v : Weight} {next top next' top' : ℕ} → Parts w u v → Room w next top → next ≤ next' → next' ≤ next + u each
+    → top' ≡ top + (next' - next) → Room v next' top'
+room-inner p r l q e = record {
   met-once = λ j. omega (arith, p.hold (same j), r.met-once j);
   entries = omega (arith, p.hold each, r.entries);
   ids = omega (arith, p.hold each, r.ids);
@@ -63,17 +65,17 @@ both-else r s t p e f j z = f j (omega (arith, p.hold (same j))) ∙ e j (omega 
 -- ---- patterns
 
 -- nothing is bound
-pub bound-none : {A : Type 0} {named : ℕ → Bool} {w : Weight} {f : Ids → Naming (A × Ids)} {value : List ℕ → A} {next top : ℕ} {locals undo old ids : List ℕ}
-    → ((l : Ids) (g : Names) (final : List ℕ) → f l g ≡ ((value final, l), g)) → Sizes locals undo old ids
-    → Bound named w f value next top locals undo old ids next locals undo old ids
-bound-none {next = next} {top = top} {locals = locals} {undo = undo} {old = old} is z = record {
+pub bound-none : {A : Type 0} {named : ℕ → Bool} {w : Weight} {f : Ids → Naming (A × Ids)} {value : List ℕ → A} {s : Scopes}
+    → ((l : Ids) (g : Names) (final : List ℕ) → f l g ≡ ((value final, l), g)) → Bound named w f value s s
+bound-none {s = s} is = record {
   more = omega arith;
   few = omega arith;
+  entries = omega arith;
+  same_globals = refl;
   undo-below = λ i l. refl;
-  old_below = λ i l. refl;
   undo-names = λ i l m. absurd (omega arith);
-  sizes = z;
-  unwinds = unwound-none undo old top locals (omega arith);
+  unwinds = unwound-none s.undo s.top s.locals (omega arith);
+  long = refl;
   elsewhere = λ j l. refl;
   unnamed = λ j l. refl;
   numbers = λ l g final h e a. (l, (rw (← e) (is l g final), h));
@@ -83,51 +85,53 @@ bound-none {next = next} {top = top} {locals = locals} {undo = undo} {old = old}
 abbrev pub drawn : ℕ → Ids → Naming (ℕ × Ids)
 drawn x l g = ((g.next, ((x, g.next) ∷ l)), names g.globals (suc g.next))
 
-pub bound-one : {named : ℕ → Bool} (x k : ℕ) {next top : ℕ} {locals undo old ids : List ℕ} {next' : ℕ} {locals' undo' old' ids' : List ℕ}
-    → named k ≡ true → x < 512 → k < 2048 → top < 2048 → Sizes locals undo old ids → next' ≡ next + 1
-    → locals' ≡ set locals x (next + 1) → undo' ≡ set undo top x → old' ≡ set old top (get_or locals x 0) → ids' ≡ set ids k next
-    → Bound named (λ own. own k) (drawn x) (λ s. get_or s k 0) next top locals undo old ids next' locals' undo' old' ids'
+pub bound-one : {named : ℕ → Bool} (x k : ℕ) {s s' : Scopes} → named k ≡ true → x < 512 → k < 2048 → s.top < 2048
+    → Sized s → s' ≡ bound_to x k s
+    → Bound named (λ own. own k) (drawn x) (λ t. get_or t k 0) s s'
 unfolding each
-bound-one x k {next} {top} {locals} {undo} {old} {ids} {next'} {locals'} {undo'} {old'} {ids'} nk xl kl tl z en el eu eo ei = record {
+bound-one {named} x k {s} nk xl kl tl z is = rw is (record {
   more = omega arith;
   few = omega arith;
-  undo-below = λ i l. ap (λ (s : List ℕ). get_or s i 0) eu ∙ get_or-set_other undo top i x 0 (λ e. omega arith);
-  old_below = λ i l. ap (λ (s : List ℕ). get_or s i 0) eo ∙ get_or-set_other old top i (get_or locals x 0) 0 (λ e. omega arith);
+  entries = omega arith;
+  same_globals = refl;
+  undo-below = λ i l. get_or-set_other s.undo s.top i entry nothing (λ e. omega arith);
   undo-names = λ i l m.
-      let e : i ≡ top = omega arith in
-      let q : get_or undo' i 0 ≡ x = ap₂ (λ (s : List ℕ) (j : ℕ). get_or s j 0) eu e ∙ get_or-set_same undo top x 0 (omega (arith, z.undone)) in omega arith;
-  sizes = record {
-    rows = ap length el ∙ simp length-set z.rows;
-    undone = ap length eu ∙ simp length-set z.undone;
-    olds = ap length eo ∙ simp length-set z.olds;
-    nodes = ap length ei ∙ simp length-set z.nodes;
-  };
+      let e : i ≡ s.top = omega arith in
+      let q : (undone (set s.undo s.top entry) i).name ≡ x = ap (λ (j : ℕ). (undone (set s.undo s.top entry) j).name) e
+      ∙ ap (λ (u : Undo). u.name) (get_or-set_same s.undo s.top entry nothing (omega (arith, z.entries))) in
+      omega arith;
   unwinds =
-      let e : next' - next ≡ 1 = omega arith in
-      rw (e, el, eu, eo) (unwound-bound undo old top x (next + 1) locals (omega (arith, z.undone)) (omega (arith, z.olds)) (omega (arith, z.rows)));
-  elsewhere = λ j l.
-      ap (λ (s : List ℕ). get_or s j 0) ei ∙ get_or-set_other ids k j next 0 (λ (e : j ≡ k). let q : same j k ≡ 1 = rw e (same-yes k) in omega arith);
-  unnamed = λ j l. ap (λ (s : List ℕ). get_or s j 0) ei ∙ get_or-set_other ids k j next 0 (λ (e : j ≡ k). not-both (rw e at l) nk);
+      let e : s.top + 1 - s.top ≡ 1 = omega arith in
+      rw e (unwound-bound s.undo s.top x (s.next + 1) s.locals (omega (arith, z.entries)) (omega (arith, z.rows)));
+  long = simp length-set;
+  elsewhere = λ j l. get_or-set_other s.ids k j s.next 0 (λ (e : j ≡ k). let q : same j k ≡ 1 = rw e (same-yes k) in omega arith);
+  unnamed = λ j l. get_or-set_other s.ids k j s.next 0 (λ (e : j ≡ k). not-both (rw e at l) nk);
   numbers = λ l g final h e a.
       let q : 0 < same k k = omega (arith, same-yes k) in
-      let r : get_or final k 0 ≡ next = a k q ∙ ap (λ (s : List ℕ). get_or s k 0) ei ∙ get_or-set_same ids k next 0 (omega (arith, z.nodes)) in
-      ((x, next) ∷ l, (rw (r, en, add-one, e), rw el (held_more locals l x next h (omega (arith, z.rows)))));
-}
+      let r : get_or final k 0 ≡ s.next = a k q ∙ get_or-set_same s.ids k s.next 0 (omega (arith, z.nodes)) in
+      ((x, s.next) ∷ l, (rw (r, add-one, e), held_more s.locals l x s.next h (omega (arith, z.rows))));
+})
+  where
+    entry : Undo
+    entry = record { name = x; before = get_or s.locals x 0 }
+
+    nothing : Undo
+    nothing = record { name = 0; before = 0 }
 
 -- the same by another name
-pub bound-as-is : {A B : Type 0} {named : ℕ → Bool} {w u : Weight} {f : Ids → Naming (A × Ids)} {value : List ℕ → A} {next top : ℕ}
-    {locals undo old ids : List ℕ} {next' : ℕ} {locals' undo' old' ids' : List ℕ} (f' : Ids → Naming (B × Ids)) (value' : List ℕ → B) (make : A → B)
+pub bound-as-is : {A B : Type 0} {named : ℕ → Bool} {w u : Weight} {f : Ids → Naming (A × Ids)} {value : List ℕ → A} {s s' : Scopes}
+    (f' : Ids → Naming (B × Ids)) (value' : List ℕ → B) (make : A → B)
     → ((own : ℕ → ℕ) → u own ≤ w own) → ((l : Ids) (g : Names) (a : A) (l' : Ids) (h : Names) → f l g ≡ ((a, l'), h) → f' l g ≡ ((make a, l'), h))
-    → ((s : List ℕ) → value' s ≡ make (value s)) → Bound named u f value next top locals undo old ids next' locals' undo' old' ids'
-    → Bound named w f' value' next top locals undo old ids next' locals' undo' old' ids'
+    → ((t : List ℕ) → value' t ≡ make (value t)) → Bound named u f value s s' → Bound named w f' value' s s'
 bound-as-is f' value' make p is val r = record {
   more = r.more;
   few = omega (arith, p each, r.few);
+  entries = r.entries;
+  same_globals = r.same_globals;
   undo-below = r.undo-below;
-  old_below = r.old_below;
   undo-names = r.undo-names;
-  sizes = r.sizes;
   unwinds = r.unwinds;
+  long = r.long;
   elsewhere = λ j z. r.elsewhere j (omega (arith, p (same j)));
   unnamed = r.unnamed;
   numbers = λ l g final h e a.
@@ -137,94 +141,88 @@ bound-as-is f' value' make p is val r = record {
 
 -- one pattern, then another
 pub bound-two : {A B C : Type 0} {named : ℕ → Bool} {w u v : Weight} {f : Ids → Naming (A × Ids)} {one : List ℕ → A} {g : Ids → Naming (B × Ids)}
-    {two : List ℕ → B} {next top : ℕ} {locals undo old ids : List ℕ} {next₁ : ℕ} {locals₁ undo₁ old₁ ids₁ : List ℕ} {next₂ top₁ : ℕ}
-    {locals₂ undo₂ old₂ ids₂ : List ℕ} (both : Ids → Naming (C × Ids)) (value : List ℕ → C) (make : A → B → C) → Parts w u v → Room w next top
-    → ((l : Ids) (s : Names) (a : A) (l₁ : Ids) (s₁ : Names) (b : B) (l₂ : Ids) (s₂ : Names) → f l s ≡ ((a, l₁), s₁)
-    → g l₁ s₁ ≡ ((b, l₂), s₂) → both l s ≡ ((make a b, l₂), s₂)) → ((s : List ℕ) → value s ≡ make (one s) (two s))
-    → Bound named u f one next top locals undo old ids next₁ locals₁ undo₁ old₁ ids₁ → top₁ ≡ top + (next₁ - next)
-    → Bound named v g two next₁ top₁ locals₁ undo₁ old₁ ids₁ next₂ locals₂ undo₂ old₂ ids₂
-    → Bound named w both value next top locals undo old ids next₂ locals₂ undo₂ old₂ ids₂
-bound-two {u = u} {v = v} {next = next} {top = top} {locals = locals} {undo = undo} {old = old} {ids = ids} {next₁ = next₁} {locals₁ = locals₁}
-    {undo₁ = undo₁} {old₁ = old₁} {ids₁ = ids₁} {next₂ = next₂} {top₁ = top₁} {locals₂ = locals₂} {undo₂ = undo₂} {old₂ = old₂}
-    {ids₂ = ids₂} both value make p room is val r t s = record {
-      more = omega (arith, r.more, s.more);
-      few = omega (arith, p.hold each, r.few, s.few);
-      undo-below = λ i l. s.undo-below i (omega arith) ∙ r.undo-below i l;
-      old_below = λ i l. s.old_below i (omega arith) ∙ r.old_below i l;
-      undo-names = λ i l m. ⊎_elim
-          (λ (q : i < top₁). let e = s.undo-below i q in omega (arith, e, r.undo-names i l (omega arith)))
-          (λ (q : top₁ ≤ i). s.undo-names i q (omega (arith, r.more, s.more)))
-          (split i top₁);
-      sizes = s.sizes;
-      unwinds =
-          let e : next₂ - next ≡ (next₁ - next) + (next₂ - next₁) = omega (arith, r.more, s.more) in
-          ap (λ (m : ℕ). unwound undo₂ old₂ top m locals₂) e
-          ∙ unwound-parts undo₂ old₂ top (next₁ - next) (next₂ - next₁) locals₂
-          ∙ ap (λ (m : ℕ). unwound undo₂ old₂ top (next₁ - next) (unwound undo₂ old₂ m (next₂ - next₁) locals₂)) (sym t)
-          ∙ ap (unwound undo₂ old₂ top (next₁ - next)) s.unwinds
-          ∙ unwound-same undo₁ old₁ undo₂ old₂ top (next₁ - next) locals₁ (λ i l. s.undo-below i (omega arith)) (λ i l. s.old_below i (omega arith))
-          ∙ r.unwinds;
-      elsewhere = both-else ids ids₁ ids₂ p r.elsewhere s.elsewhere;
-      unnamed = λ j z. s.unnamed j z ∙ r.unnamed j z;
-      numbers = λ l g final h e a.
-          let q = r.numbers l g final h e (earlier ids₁ ids₂ final p room.met-once s.elsewhere a) in
-          let z = s.numbers q.0 (names g.globals next₁) final q.1.1 refl (later ids₂ final p a) in
-          (z.0, (rw (val final) (is l g _ _ _ _ _ _ q.1.0 z.1.0), z.1.1));
-    }
+    {two : List ℕ → B} {s s₁ s₂ : Scopes} (both : Ids → Naming (C × Ids)) (value : List ℕ → C) (make : A → B → C) → Parts w u v → Room w s.next s.top
+    → ((l : Ids) (h : Names) (a : A) (l₁ : Ids) (h₁ : Names) (b : B) (l₂ : Ids) (h₂ : Names) → f l h ≡ ((a, l₁), h₁)
+    → g l₁ h₁ ≡ ((b, l₂), h₂) → both l h ≡ ((make a b, l₂), h₂)) → ((t : List ℕ) → value t ≡ make (one t) (two t))
+    → Bound named u f one s s₁ → Bound named v g two s₁ s₂ → Bound named w both value s s₂
+bound-two {s = s} {s₁ = s₁} {s₂ = s₂} both value make p room is val r q = record {
+  more = omega (arith, r.more, q.more);
+  few = omega (arith, p.hold each, r.few, q.few);
+  entries = omega (arith, r.more, q.more, r.entries, q.entries);
+  same_globals = q.same_globals ∙ r.same_globals;
+  undo-below = λ i l. q.undo-below i (omega (arith, r.entries)) ∙ r.undo-below i l;
+  undo-names = λ i l m. ⊎_elim
+      (λ (z : i < s₁.top). rw (q.undo-below i z) (r.undo-names i l z))
+      (λ (z : s₁.top ≤ i). q.undo-names i z m)
+      (split i s₁.top);
+  unwinds =
+      let e : s₂.top - s.top ≡ (s₁.top - s.top) + (s₂.top - s₁.top) = omega (arith, r.entries, q.entries) in
+      let t : s.top + (s₁.top - s.top) ≡ s₁.top = omega (arith, r.entries) in
+      ap (λ (m : ℕ). unwound s₂.undo s.top m s₂.locals) e
+      ∙ unwound-parts s₂.undo s.top (s₁.top - s.top) (s₂.top - s₁.top) s₂.locals
+      ∙ ap (λ (m : ℕ). unwound s₂.undo s.top (s₁.top - s.top) (unwound s₂.undo m (s₂.top - s₁.top) s₂.locals)) t
+      ∙ ap (unwound s₂.undo s.top (s₁.top - s.top)) q.unwinds
+      ∙ unwound-same s₁.undo s₂.undo s.top (s₁.top - s.top) s₁.locals (λ i l. q.undo-below i (omega arith))
+      ∙ r.unwinds;
+  long = q.long ∙ r.long;
+  elsewhere = both-else s.ids s₁.ids s₂.ids p r.elsewhere q.elsewhere;
+  unnamed = λ j z. q.unnamed j z ∙ r.unnamed j z;
+  numbers = λ l g final h e a.
+      let y = r.numbers l g final h e (earlier s₁.ids s₂.ids final p room.met-once q.elsewhere a) in
+      let z = q.numbers y.0 (names g.globals s₁.next) final y.1.1 refl (later s₂.ids final p a) in
+      (z.0, (rw (val final) (is l g _ _ _ _ _ _ y.1.0 z.1.0), z.1.1));
+}
 
 -- ---- expressions
 
-pub walked_none : {A : Type 0} {named : ℕ → Bool} {w : Weight} {f : Ids → Naming A} {value : List ℕ → A} {next top : ℕ} {locals globals undo old ids : List ℕ}
-    → ((l : Ids) (g : Names) (final : List ℕ) → f l g ≡ (value final, g)) → Sizes locals undo old ids → length globals ≡ 512
-    → Walked named w f value next top locals globals undo old ids next locals globals undo old ids
-walked_none is z r = record {
+pub walked_none : {A : Type 0} {named : ℕ → Bool} {w : Weight} {f : Ids → Naming A} {value : List ℕ → A} {s : Scopes}
+    → ((l : Ids) (g : Names) (final : List ℕ) → f l g ≡ (value final, g)) → Walked named w f value s s
+walked_none is = record {
   more = omega arith;
   few = omega arith;
-  undo-below = λ i l. refl;
-  old_below = λ i l. refl;
-  sizes = z;
-  row = r;
+  same_top = refl;
   same_locals = refl;
+  undo-below = λ i l. refl;
+  long = refl;
   elsewhere = λ j l. refl;
   unnamed = λ j l. refl;
   numbers = λ l g final h k e a. (g.globals, (rw (← e) (is l g final), k));
 }
 
 -- a variable: its id is written at its node
-pub walked-variable : {named : ℕ → Bool} (x k : ℕ) {next top : ℕ} {locals globals undo old ids : List ℕ} {id next' : ℕ} {globals' : List ℕ}
-    → named k ≡ true → k < 2048 → Sizes locals undo old ids → Chosen x next locals globals id next' globals'
-    → Walked named (λ own. own k) (number_variable x) (λ s. get_or s k 0) next top locals globals undo old ids next' locals globals' undo old (set ids k id)
+pub walked-variable : {named : ℕ → Bool} (x k : ℕ) {s : Scopes} {id : ℕ} {s' : Scopes} → named k ≡ true → k < length s.ids → Chosen x s id s'
+    → Walked named (λ own. own k) (number_variable x) (λ t. get_or t k 0) s (record s' { ids = set s'.ids k id })
 unfolding each
-walked-variable x k {ids = ids} {id = id} nk kl z c = record {
+walked-variable x k {s} {id} {s'} nk kl c = record {
   more = c.more;
   few = c.few;
-  undo-below = λ i l. refl;
-  old_below = λ i l. refl;
-  sizes = record { rows = z.rows; undone = z.undone; olds = z.olds; nodes = simp length-set z.nodes };
-  row = c.row;
-  same_locals = refl;
-  elsewhere = λ j l. get_or-set_other ids k j id 0 (λ (e : j ≡ k). let q : same j k ≡ 1 = rw e (same-yes k) in omega arith);
-  unnamed = λ j l. get_or-set_other ids k j id 0 (λ (e : j ≡ k). not-both (rw e at l) nk);
+  same_top = c.rest.same_top;
+  same_locals = c.rest.same_locals;
+  undo-below = λ i l. ap (λ (u : List Undo). undone u i) c.rest.same_undo;
+  long = simp length-set (ap length c.rest.same_ids);
+  elsewhere = λ j l. get_or-set_other s'.ids k j id 0 (λ (e : j ≡ k). let q : same j k ≡ 1 = rw e (same-yes k) in omega arith) ∙ same-id j;
+  unnamed = λ j l. get_or-set_other s'.ids k j id 0 (λ (e : j ≡ k). not-both (rw e at l) nk) ∙ same-id j;
   numbers = λ l g final h m e a.
       let q : 0 < same k k = omega (arith, same-yes k) in
-      let r : get_or final k 0 ≡ id = a k q ∙ get_or-set_same ids k id 0 (omega (arith, z.nodes)) in
+      let r : get_or final k 0 ≡ id = a k q ∙ get_or-set_same s'.ids k id 0 (rw c.rest.same_ids kl) in
       let t = c.numbers l g h m e in
       (t.0, (rw r t.1.0, t.1.1));
 }
+  where
+    same-id : (j : ℕ) → get_or s'.ids j 0 ≡ get_or s.ids j 0
+    same-id j = ap (λ (t : List ℕ). get_or t j 0) c.rest.same_ids
 
-pub walked-as-is : {A B : Type 0} {named : ℕ → Bool} {w u : Weight} {f : Ids → Naming A} {value : List ℕ → A} {next top : ℕ}
-    {locals globals undo old ids : List ℕ} {next' : ℕ} {locals' globals' undo' old' ids' : List ℕ} (f' : Ids → Naming B) (value' : List ℕ → B) (make : A → B)
+pub walked-as-is : {A B : Type 0} {named : ℕ → Bool} {w u : Weight} {f : Ids → Naming A} {value : List ℕ → A} {s s' : Scopes}
+    (f' : Ids → Naming B) (value' : List ℕ → B) (make : A → B)
     → ((own : ℕ → ℕ) → u own ≤ w own) → ((l : Ids) (g : Names) (a : A) (h : Names) → f l g ≡ (a, h) → f' l g ≡ (make a, h))
-    → ((s : List ℕ) → value' s ≡ make (value s)) → Walked named u f value next top locals globals undo old ids next' locals' globals' undo' old' ids'
-    → Walked named w f' value' next top locals globals undo old ids next' locals' globals' undo' old' ids'
+    → ((t : List ℕ) → value' t ≡ make (value t)) → Walked named u f value s s' → Walked named w f' value' s s'
 walked-as-is f' value' make p is val r = record {
   more = r.more;
   few = omega (arith, p each, r.few);
-  undo-below = r.undo-below;
-  old_below = r.old_below;
-  sizes = r.sizes;
-  row = r.row;
+  same_top = r.same_top;
   same_locals = r.same_locals;
+  undo-below = r.undo-below;
+  long = r.long;
   elsewhere = λ j z. r.elsewhere j (omega (arith, p (same j)));
   unnamed = r.unnamed;
   numbers = λ l g final h k e a.
@@ -234,57 +232,45 @@ walked-as-is f' value' make p is val r = record {
 
 -- one expression, then another
 pub walked-two : {A B C : Type 0} {named : ℕ → Bool} {w u v : Weight} {f : Ids → Naming A} {one : List ℕ → A} {g : Ids → Naming B}
-    {two : List ℕ → B} {next top : ℕ} {locals globals undo old ids : List ℕ} {next₁ : ℕ} {locals₁ globals₁ undo₁ old₁ ids₁ : List ℕ} {next₂ : ℕ}
-    {locals₂ globals₂ undo₂ old₂ ids₂ : List ℕ} (both : Ids → Naming C) (value : List ℕ → C) (make : A → B → C) → Parts w u v → Room w next top
-    → ((l : Ids) (s : Names) (a : A) (s₁ : Names) (b : B) (s₂ : Names) → f l s ≡ (a, s₁) → g l s₁ ≡ (b, s₂) → both l s ≡ (make a b, s₂))
-    → ((s : List ℕ) → value s ≡ make (one s) (two s)) → Walked named u f one next top locals globals undo old ids next₁ locals₁ globals₁ undo₁ old₁ ids₁
-    → Walked named v g two next₁ top locals₁ globals₁ undo₁ old₁ ids₁ next₂ locals₂ globals₂ undo₂ old₂ ids₂
-    → Walked named w both value next top locals globals undo old ids next₂ locals₂ globals₂ undo₂ old₂ ids₂
-walked-two {ids = ids} {next₁ = next₁} {ids₁ = ids₁} {ids₂ = ids₂} both value make p room is val r s = record {
-  more = omega (arith, r.more, s.more);
-  few = omega (arith, p.hold each, r.few, s.few);
-  undo-below = λ i l. s.undo-below i l ∙ r.undo-below i l;
-  old_below = λ i l. s.old_below i l ∙ r.old_below i l;
-  sizes = s.sizes;
-  row = s.row;
-  same_locals = s.same_locals ∙ r.same_locals;
-  elsewhere = both-else ids ids₁ ids₂ p r.elsewhere s.elsewhere;
-  unnamed = λ j z. s.unnamed j z ∙ r.unnamed j z;
+    {two : List ℕ → B} {s s₁ s₂ : Scopes} (both : Ids → Naming C) (value : List ℕ → C) (make : A → B → C) → Parts w u v → Room w s.next s.top
+    → ((l : Ids) (h : Names) (a : A) (h₁ : Names) (b : B) (h₂ : Names) → f l h ≡ (a, h₁) → g l h₁ ≡ (b, h₂) → both l h ≡ (make a b, h₂))
+    → ((t : List ℕ) → value t ≡ make (one t) (two t)) → Walked named u f one s s₁ → Walked named v g two s₁ s₂ → Walked named w both value s s₂
+walked-two {s = s} {s₁ = s₁} {s₂ = s₂} both value make p room is val r q = record {
+  more = omega (arith, r.more, q.more);
+  few = omega (arith, p.hold each, r.few, q.few);
+  same_top = q.same_top ∙ r.same_top;
+  same_locals = q.same_locals ∙ r.same_locals;
+  undo-below = λ i l. q.undo-below i (omega (arith, r.same_top)) ∙ r.undo-below i l;
+  long = q.long ∙ r.long;
+  elsewhere = both-else s.ids s₁.ids s₂.ids p r.elsewhere q.elsewhere;
+  unnamed = λ j z. q.unnamed j z ∙ r.unnamed j z;
   numbers = λ l g final h k e a.
-      let q = r.numbers l g final h k e (earlier ids₁ ids₂ final p room.met-once s.elsewhere a) in
-      let z =
-      s.numbers l (names q.0 next₁) final (λ x m. ap (λ (t : List ℕ). get_or t x 0) r.same_locals ∙ h x m) q.1.1 refl (later ids₂ final p a) in
-      (z.0, (rw (val final) (is l g _ _ _ _ q.1.0 z.1.0), z.1.1));
+      let y = r.numbers l g final h k e (earlier s₁.ids s₂.ids final p room.met-once q.elsewhere a) in
+      let z = q.numbers l (names y.0 s₁.next) final (λ x m. ap (λ (t : List ℕ). get_or t x 0) r.same_locals ∙ h x m) y.1.1 refl (later s₂.ids final p a) in
+      (z.0, (rw (val final) (is l g _ _ _ _ y.1.0 z.1.0), z.1.1));
 }
 
 -- what a pattern binds, for an expression; then the rows are unwound
 pub walked-scope : {A B C : Type 0} {named : ℕ → Bool} {w u v : Weight} {f : Ids → Naming (A × Ids)} {one : List ℕ → A} {g : Ids → Naming B}
-    {two : List ℕ → B} {next top : ℕ} {locals globals undo old ids : List ℕ} {next₁ : ℕ} {locals₁ undo₁ old₁ ids₁ : List ℕ} {next₂ top₁ : ℕ}
-    {locals₂ globals₂ undo₂ old₂ ids₂ locals₃ : List ℕ} (both : Ids → Naming C) (value : List ℕ → C) (make : A → B → C) → Parts w u v → Room w next top
-    → ((l : Ids) (s : Names) (a : A) (l₁ : Ids) (s₁ : Names) (b : B) (s₂ : Names) → f l s ≡ ((a, l₁), s₁) → g l₁ s₁ ≡ (b, s₂) → both l s ≡ (make a b, s₂))
-    → ((s : List ℕ) → value s ≡ make (one s) (two s)) → length locals ≡ 512 → Bound named u f one next top locals undo old ids next₁ locals₁ undo₁ old₁ ids₁
-    → top₁ ≡ top + (next₁ - next) → Walked named v g two next₁ top₁ locals₁ globals undo₁ old₁ ids₁ next₂ locals₂ globals₂ undo₂ old₂ ids₂
-    → locals₃ ≡ unwound undo₂ old₂ top (next₁ - next) locals₂
-    → Walked named w both value next top locals globals undo old ids next₂ locals₃ globals₂ undo₂ old₂ ids₂
-walked-scope {next = next} {top = top} {locals = locals} {ids = ids} {next₁ = next₁} {locals₁ = locals₁} {undo₁ = undo₁} {old₁ = old₁} {ids₁ = ids₁}
-    {top₁ = top₁} {undo₂ = undo₂} {old₂ = old₂} {ids₂ = ids₂} {locals₃ = locals₃} both value make p room is val long r t s u =
-    let back : locals₃ ≡ locals =
-    u
-    ∙ ap (unwound undo₂ old₂ top (next₁ - next)) s.same_locals
-    ∙ unwound-same undo₁ old₁ undo₂ old₂ top (next₁ - next) locals₁ (λ i l. s.undo-below i (omega arith)) (λ i l. s.old_below i (omega arith))
-    ∙ r.unwinds in
-    record {
-      more = omega (arith, r.more, s.more);
-      few = omega (arith, p.hold each, r.few, s.few);
-      undo-below = λ i l. s.undo-below i (omega arith) ∙ r.undo-below i l;
-      old_below = λ i l. s.old_below i (omega arith) ∙ r.old_below i l;
-      sizes = record { rows = ap length back ∙ long; undone = s.sizes.undone; olds = s.sizes.olds; nodes = s.sizes.nodes };
-      row = s.row;
-      same_locals = back;
-      elsewhere = both-else ids ids₁ ids₂ p r.elsewhere s.elsewhere;
-      unnamed = λ j z. s.unnamed j z ∙ r.unnamed j z;
-      numbers = λ l g final h k e a.
-          let q = r.numbers l g final h e (earlier ids₁ ids₂ final p room.met-once s.elsewhere a) in
-          let z = s.numbers q.0 (names g.globals next₁) final q.1.1 k refl (later ids₂ final p a) in
-          (z.0, (rw (val final) (is l g _ _ _ _ _ q.1.0 z.1.0), z.1.1));
-    }
+    {two : List ℕ → B} {s s₁ s₂ s₃ : Scopes} (both : Ids → Naming C) (value : List ℕ → C) (make : A → B → C) → Parts w u v → Room w s.next s.top
+    → ((l : Ids) (h : Names) (a : A) (l₁ : Ids) (h₁ : Names) (b : B) (h₂ : Names) → f l h ≡ ((a, l₁), h₁) → g l₁ h₁ ≡ (b, h₂) → both l h ≡ (make a b, h₂))
+    → ((t : List ℕ) → value t ≡ make (one t) (two t)) → Bound named u f one s s₁ → Walked named v g two s₁ s₂ → s₃ ≡ unwound_to s.top s₂
+    → Walked named w both value s s₃
+walked-scope {s = s} {s₁ = s₁} {s₂ = s₂} both value make p room is val r q u = rw u (record {
+  more = omega (arith, r.more, q.more);
+  few = omega (arith, p.hold each, r.few, q.few);
+  same_top = refl;
+  same_locals =
+      ap (λ (m : ℕ). unwound s₂.undo s.top (m - s.top) s₂.locals) q.same_top
+      ∙ ap (unwound s₂.undo s.top (s₁.top - s.top)) q.same_locals
+      ∙ unwound-same s₁.undo s₂.undo s.top (s₁.top - s.top) s₁.locals (λ i l. q.undo-below i (omega (arith, r.entries)))
+      ∙ r.unwinds;
+  undo-below = λ i l. q.undo-below i (omega (arith, r.entries)) ∙ r.undo-below i l;
+  long = q.long ∙ r.long;
+  elsewhere = both-else s.ids s₁.ids s₂.ids p r.elsewhere q.elsewhere;
+  unnamed = λ j z. q.unnamed j z ∙ r.unnamed j z;
+  numbers = λ l g final h k e a.
+      let y = r.numbers l g final h e (earlier s₁.ids s₂.ids final p room.met-once q.elsewhere a) in
+      let z = q.numbers y.0 (names g.globals s₁.next) final y.1.1 (λ x m. ap (λ (t : List ℕ). get_or t x 0) r.same_globals ∙ k x m) refl (later s₂.ids final p a) in
+      (z.0, (rw (val final) (is l g _ _ _ _ _ y.1.0 z.1.0), z.1.1));
+})

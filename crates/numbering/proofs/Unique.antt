@@ -18,7 +18,8 @@ use Rattle.source.specs.Uses.{same}
 use Rattle.source.specs.Record.{Read, source_of, module_of, tree, definition_at, expression_at}
 use Rattle.source.specs.Readable.{Readable}
 use Rattle.source.proofs.Accepted.{accepted-readable, accepted-module}
-use Rattle.numbering.specs.declared.Numbered.{Numbered as Answered}
+use Rattle.std.specs.Prelude.{Result, Ok, Err}
+use Rattle.records.specs.declared.refusals.Refusal.{Refusal}
 use Rattle.numbering.specs.declared.Numbering.{Numbering}
 use Rattle.numbering.specs.Inputs.{member}
 use Rattle.numbering.specs.Numbering.{Ids, Names, Numbered, ◌>>=◌, return, registered, number_variable, number_pattern_variables, number_expr_variables}
@@ -428,22 +429,20 @@ outcome-exists b = go (source_of b) refl
 
     go : (r : Read) → source_of b ≡ r → HasOutcome b (numbering_for b r)
     go (Read.module-of m) e = accepted m (accepted-module b m e) e
-    go (Read.refused r) e = ((r, e, refl), (refl, refl))
+    go (Read.refused r) e = (e, (refl, refl))
 
 -- and no other
 pub outcome-unique : (b : List ℕ) (x : Numbering) → HasOutcome b x → x ≡ numbering_of b
 unfolding numbering_of numbering_for Outcome
 outcome-unique b x h = go x.answer x.ids x.publics h
   where
-    of_parts : Answered → List ℕ → List ℕ → Numbering
+    of_parts : Result ℕ Refusal → List ℕ → List ℕ → Numbering
     of_parts a ids public = record { answer = a; ids = ids; publics = public }
 
-    go : (a : Answered) (ids public : List ℕ) → Outcome b no_entries no_publics a ids public → of_parts a ids public ≡ numbering_for b (source_of b)
-    go (Answered.Next n) ids public h =
+    go : (a : Result ℕ Refusal) (ids public : List ℕ) → Outcome b no_entries no_publics a ids public → of_parts a ids public ≡ numbering_for b (source_of b)
+    go (Ok n) ids public h =
         let Q = accepted-readable b (module_of b) h.0 in
-        ap₂ (λ (m : ℕ) (t : List ℕ × List ℕ). of_parts (Answered.Next m) t.0 t.1) (next-is b Q ids public h.1)
+        ap₂ (λ (m : ℕ) (t : List ℕ × List ℕ). of_parts (Ok m) t.0 t.1) (next-is b Q ids public h.1)
         (ap₂ (λ (s t : List ℕ). (s, t)) (ids-are b Q ids public h.1) (public-is b Q ids public h.1))
         ∙ sym (ap (numbering_for b) h.0)
-    go (Answered.Refused n) ids public h =
-        ap₂ (of_parts (Answered.Refused n)) h.1.0 h.1.1
-        ∙ ap (λ (k : ℕ). of_parts (Answered.Refused k) no_entries no_publics) h.0.2 ∙ sym (ap (numbering_for b) h.0.1)
+    go (Err r) ids public h = ap₂ (of_parts (Err r)) h.1.0 h.1.1 ∙ sym (ap (numbering_for b) h.0)

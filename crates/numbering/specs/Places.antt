@@ -1,17 +1,15 @@
 -- What number_module_variables answers, as a definition on the bytes: the next id, the id of each node at its index and of each public at its position,
 -- 0 elsewhere. Its contract says this of every byte string (`outcome-exists` in proofs/Unique.antt), and nothing else (`outcome-unique`).
-use Rattle.std.specs.Prelude.{List, [], ◌∷◌, ◌++◌, ℕ, eqb, get_or}
+use Rattle.std.specs.Prelude.{List, [], ◌∷◌, ◌++◌, ℕ, eqb, get_or, Ok, Err}
 use Rattle.source.specs.Trees.{Pat, Expr, unit, nil, sequence, product, cons, binary, negate, application, constant}
 use Rattle.source.specs.Trees.{variable, function, intrinsic, letting, matching, Items, last, ◌then◌, Arms, no_arm, arm}
 use Rattle.source.specs.Indices.{rows, pick}
 use Rattle.source.specs.Record.{Read, source_of, module_of}
-use Rattle.numbering.specs.declared.Numbered.TheVariants.{Next, Refused}
 use Rattle.numbering.specs.declared.Numbering.{Numbering}
 use Rattle.numbering.specs.Numbering.{Numbered, numbered}
 use Rattle.numbering.specs.Numbers.{numbered_module}
 use Rattle.numbering.specs.Statements.{pattern_ids, parameter_ids}
 use Rattle.numbering.specs.Walks.{no_entries, no_publics}
-use Rattle.records.specs.Refusals.{refusal_number}
 use Rattle.records.specs.SourceRecord.{NODES, PUBLICS}
 
 -- all names of an expression, its patterns' first
@@ -74,8 +72,8 @@ public_ids_of b = rows PUBLICS 0 (λ k. get_or (numbered (module_of b)).publics 
 
 -- the answer with its arrays; of a refused record these are clear
 unfoldable pub numbering_for : List ℕ → Read → Numbering
-numbering_for b (Read.module-of m) = record { answer = Next (numbered m).next; ids = ids_of b; publics = public_ids_of b }
-numbering_for b (Read.refused r) = record { answer = Refused (refusal_number r); ids = no_entries; publics = no_publics }
+numbering_for b (Read.module-of m) = record { answer = Ok (numbered m).next; ids = ids_of b; publics = public_ids_of b }
+numbering_for b (Read.refused r) = record { answer = Err r; ids = no_entries; publics = no_publics }
 
 unfoldable pub numbering_of : List ℕ → Numbering
 numbering_of b = numbering_for b (source_of b)

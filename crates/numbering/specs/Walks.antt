@@ -14,7 +14,10 @@ use Rattle.numbering.specs.Numbering.{Ids, Names, Naming, ◌>>=◌, return, fou
 use Rattle.numbering.specs.Numbering.{number_parameters, number_expr_variables, number_items, number_arms}
 use Rattle.numbering.specs.Numbering.{number_def_variables, number_definitions, number_expressions, number_publics, named}
 use Rattle.numbering.specs.Numbers.{bears, numbered_tree, numbered_definition, numbered_expression}
+use Rattle.numbering.specs.declared.rows.Scopes.{Scopes}
+use Rattle.numbering.specs.declared.rows.Undo.{Undo}
 use Rattle.records.specs.FlatRecord.{IDS}
+use Rattle.records.specs.Intrinsics.{FIRST-FREE-ID}
 use Rattle.records.specs.SourceRecord.{NAMES, NODES, PUBLICS}
 
 -- ---- rows: for each name 0, or one more than its id
@@ -30,13 +33,69 @@ abbrev pub names : Ids → ℕ → Names
 names g n = record { globals = g; next = n }
 
 -- ---- the undo list: names, and what their rows held before; n entries from `base` on are undone from the last to the first
-unfoldable pub unwound : List ℕ → List ℕ → ℕ → ℕ → List ℕ → List ℕ
-unwound undo old base zero row = row
-unwound undo old base (suc n) row = unwound undo old base n (set row (get_or undo (base + n) 0) (get_or old (base + n) 0))
+abbrev pub no_undo : Undo
+no_undo = record { name = 0; before = 0 }
 
--- two lists are the same below an index
-abbrev pub SameBelow : ℕ → List ℕ → List ℕ → Type 0
-SameBelow n s t = (i : ℕ) → i < n → get_or t i 0 ≡ get_or s i 0
+abbrev pub undone : List Undo → ℕ → Undo
+undone undo i = get_or undo i no_undo
+
+unfoldable pub unwound : List Undo → ℕ → ℕ → List ℕ → List ℕ
+unwound undo base zero row = row
+unwound undo base (suc n) row = unwound undo base n (set row (undone undo (base + n)).name (undone undo (base + n)).before)
+
+-- two undo lists are the same below an index
+abbrev pub SameBelow : ℕ → List Undo → List Undo → Type 0
+SameBelow n s t = (i : ℕ) → i < n → undone t i ≡ undone s i
+
+-- ---- the steps on rows
+
+unfoldable pub no_row : List ℕ
+no_row = replicate NAMES 0
+
+unfoldable pub no_entries : List ℕ
+no_entries = replicate NODES 0
+
+unfoldable pub no_publics : List ℕ
+no_publics = replicate PUBLICS 0
+
+-- no name has an id
+abbrev pub no_scopes : Scopes
+no_scopes = record { locals = no_row; globals = no_row; undo = replicate NODES no_undo; top = 0; ids = no_entries; next = FIRST-FREE-ID }
+
+-- name x bound to the next id, at node k
+abbrev pub bound_to : ℕ → ℕ → Scopes → Scopes
+bound_to x k s = record {
+  locals = set s.locals x (s.next + 1);
+  globals = s.globals;
+  undo = set s.undo s.top (record { name = x; before = get_or s.locals x 0 });
+  top = s.top + 1;
+  ids = set s.ids k s.next;
+  next = s.next + 1;
+}
+
+-- the entries from `base` on undone
+abbrev pub unwound_to : ℕ → Scopes → Scopes
+unwound_to base s = record {
+  locals = unwound s.undo base (s.top - base) s.locals;
+  globals = s.globals;
+  undo = s.undo;
+  top = base;
+  ids = s.ids;
+  next = s.next;
+}
+
+-- an array's length is part of its type, and not of its list
+pub record Sized (s : Scopes) : Type 0 where
+  pub rows : length s.locals ≡ NAMES
+  pub entries : length s.undo ≡ NODES
+  pub nodes : length s.ids ≡ NODES
+
+-- nothing but the globals, and the next id
+pub record OnlyGlobals (s s' : Scopes) : Type 0 where
+  pub same_locals : s'.locals ≡ s.locals
+  pub same_undo : s'.undo ≡ s.undo
+  pub same_top : s'.top ≡ s.top
+  pub same_ids : s'.ids ≡ s.ids
 
 -- ---- the nodes of a node's tree
 
@@ -68,13 +127,6 @@ pub record Walkable (b : List ℕ) (at n : ℕ) : Type 0 where
   pub few-names : count ≤ NAMES
   pub few-nodes : n ≤ NODES
 
--- an array's length is part of its type, and not of its list
-pub record Sizes (locals undo old ids : List ℕ) : Type 0 where
-  pub rows : length locals ≡ NAMES
-  pub undone : length undo ≡ NODES
-  pub olds : length old ≡ NODES
-  pub nodes : length ids ≡ NODES
-
 -- a walk over nodes whose weight is w: each is met once, and there is room for an undo entry and an id at each
 pub record Room (w : (ℕ → ℕ) → ℕ) (next top : ℕ) : Type 0 where
   pub met-once : (j : ℕ) → w (same j) ≤ 1
@@ -82,36 +134,35 @@ pub record Room (w : (ℕ → ℕ) → ℕ) (next top : ℕ) : Type 0 where
   pub ids : next + w each ≤ IDS
 
 -- at node k, of a sort; at the chain from link l on
-pub record Ready (b : List ℕ) (at n : ℕ) (sort : Entry → Bool) (k next top : ℕ) : Type 0 where
+pub record Ready (b : List ℕ) (at n : ℕ) (sort : Entry → Bool) (k : ℕ) (s : Scopes) : Type 0 where
   pub walk : Walkable b at n
   pub below : k < n
   pub sorted : sort (entry_of b at k) ≡ true
-  pub room : Room (λ own. weight b at own k) next top
+  pub room : Room (λ own. weight b at own k) s.next s.top
 
--- at two nodes before m, the second an expression
-pub record ReadyTwo (b : List ℕ) (at n : ℕ) (sort : Entry → Bool) (m x y next top : ℕ) : Type 0 where
+-- at two nodes, the second an expression
+pub record ReadyTwo (b : List ℕ) (at n : ℕ) (sort : Entry → Bool) (x y : ℕ) (s : Scopes) : Type 0 where
   pub walk : Walkable b at n
-  pub within : m ≤ n
-  pub first_below : x < m
-  pub second_below : y < m
+  pub first_below : x < n
+  pub second_below : y < n
   pub first-sorted : sort (entry_of b at x) ≡ true
   pub second-sorted : is_expression (entry_of b at y) ≡ true
-  pub room : Room (λ own. weight b at own x + weight b at own y) next top
+  pub room : Room (λ own. weight b at own x + weight b at own y) s.next s.top
 
 -- at the parameters from link l on, and a body
-pub record ReadyFunction (b : List ℕ) (at n l y next top : ℕ) : Type 0 where
+pub record ReadyFunction (b : List ℕ) (at n l y : ℕ) (s : Scopes) : Type 0 where
   pub walk : Walkable b at n
   pub first_below : l < n
   pub second_below : y < n
   pub chained : chain_fits b at Chain.Parameters (suc l) l ≡ true
   pub second-sorted : is_expression (entry_of b at y) ≡ true
-  pub room : Room (λ own. chain_weight b at n own Chain.Parameters l + weight b at own y) next top
+  pub room : Room (λ own. chain_weight b at n own Chain.Parameters l + weight b at own y) s.next s.top
 
-pub record ReadyChain (b : List ℕ) (at n : ℕ) (h : Chain) (l next top : ℕ) : Type 0 where
+pub record ReadyChain (b : List ℕ) (at n : ℕ) (h : Chain) (l : ℕ) (s : Scopes) : Type 0 where
   pub walk : Walkable b at n
   pub below : l < n
   pub chained : chain_fits b at h (suc l) l ≡ true
-  pub room : Room (λ own. chain_weight b at n own h l) next top
+  pub room : Room (λ own. chain_weight b at n own h l) s.next s.top
 
 -- ---- what a walk leaves
 
@@ -124,79 +175,66 @@ Agree w s t = (j : ℕ) → 0 < w (same j) → get_or t j 0 ≡ get_or s j 0
 
 -- `named` says which nodes have a name: no other node's id changes
 -- what a walk has of patterns: `numbering` is the definition for what is walked over, `value` what it then stands for by an array of ids
-pub record Bound {A : Type 0} (named : ℕ → Bool) (w : (ℕ → ℕ) → ℕ) (numbering : Ids → Naming (A × Ids)) (value : List ℕ → A) (next top : ℕ)
-    (locals undo old ids : List ℕ) (next' : ℕ) (locals' undo' old' ids' : List ℕ) : Type 0 where
-  pub more : next ≤ next'
-  pub few : next' ≤ next + w each
-  pub undo-below : SameBelow top undo undo'
-  pub old_below : SameBelow top old old'
-  pub undo-names : (i : ℕ) → top ≤ i → i < top + (next' - next) → get_or undo' i 0 < NAMES
-  pub sizes : Sizes locals' undo' old' ids'
-  pub unwinds : unwound undo' old' top (next' - next) locals' ≡ locals
-  pub elsewhere : Else w ids ids'
-  pub unnamed : (j : ℕ) → named j ≡ false → get_or ids' j 0 ≡ get_or ids j 0
-  pub numbers : (l : Ids) (g : Names) (final : List ℕ) → Holds locals l → g.next ≡ next → Agree w ids' final
-      → (l' : Ids) × ((numbering l g ≡ ((value final, l'), names g.globals next')) × Holds locals' l')
+pub record Bound {A : Type 0} (named : ℕ → Bool) (w : (ℕ → ℕ) → ℕ) (numbering : Ids → Naming (A × Ids)) (value : List ℕ → A) (s s' : Scopes) : Type 0 where
+  pub more : s.next ≤ s'.next
+  pub few : s'.next ≤ s.next + w each
+  pub entries : s'.top ≡ s.top + (s'.next - s.next)
+  pub same_globals : s'.globals ≡ s.globals
+  pub undo-below : SameBelow s.top s.undo s'.undo
+  pub undo-names : (i : ℕ) → s.top ≤ i → i < s'.top → (undone s'.undo i).name < NAMES
+  pub unwinds : unwound s'.undo s.top (s'.top - s.top) s'.locals ≡ s.locals
+  pub long : length s'.ids ≡ length s.ids
+  pub elsewhere : Else w s.ids s'.ids
+  pub unnamed : (j : ℕ) → named j ≡ false → get_or s'.ids j 0 ≡ get_or s.ids j 0
+  pub numbers : (l : Ids) (g : Names) (final : List ℕ) → Holds s.locals l → g.next ≡ s.next → Agree w s'.ids final
+      → (l' : Ids) × ((numbering l g ≡ ((value final, l'), names g.globals s'.next)) × Holds s'.locals l')
 
 -- what it leaves of expressions: the locals are as they were
-pub record Walked {A : Type 0} (named : ℕ → Bool) (w : (ℕ → ℕ) → ℕ) (numbering : Ids → Naming A) (value : List ℕ → A) (next top : ℕ)
-    (locals globals undo old ids : List ℕ) (next' : ℕ) (locals' globals' undo' old' ids' : List ℕ) : Type 0 where
-  pub more : next ≤ next'
-  pub few : next' ≤ next + w each
-  pub undo-below : SameBelow top undo undo'
-  pub old_below : SameBelow top old old'
-  pub sizes : Sizes locals' undo' old' ids'
-  pub row : length globals' ≡ NAMES
-  pub same_locals : locals' ≡ locals
-  pub elsewhere : Else w ids ids'
-  pub unnamed : (j : ℕ) → named j ≡ false → get_or ids' j 0 ≡ get_or ids j 0
-  pub numbers : (l : Ids) (g : Names) (final : List ℕ) → Holds locals l → Holds globals g.globals → g.next ≡ next → Agree w ids' final
-      → (gs : Ids) × ((numbering l g ≡ (value final, names gs next')) × Holds globals' gs)
+pub record Walked {A : Type 0} (named : ℕ → Bool) (w : (ℕ → ℕ) → ℕ) (numbering : Ids → Naming A) (value : List ℕ → A) (s s' : Scopes) : Type 0 where
+  pub more : s.next ≤ s'.next
+  pub few : s'.next ≤ s.next + w each
+  pub same_top : s'.top ≡ s.top
+  pub same_locals : s'.locals ≡ s.locals
+  pub undo-below : SameBelow s.top s.undo s'.undo
+  pub long : length s'.ids ≡ length s.ids
+  pub elsewhere : Else w s.ids s'.ids
+  pub unnamed : (j : ℕ) → named j ≡ false → get_or s'.ids j 0 ≡ get_or s.ids j 0
+  pub numbers : (l : Ids) (g : Names) (final : List ℕ) → Holds s.locals l → Holds s.globals g.globals → g.next ≡ s.next → Agree w s'.ids final
+      → (gs : Ids) × ((numbering l g ≡ (value final, names gs s'.next)) × Holds s'.globals gs)
 
 -- what is left by the walk over a variable of no pattern
-pub record Chosen (x next : ℕ) (locals globals : List ℕ) (id next' : ℕ) (globals' : List ℕ) : Type 0 where
-  pub more : next ≤ next'
-  pub few : next' ≤ next + 1
-  pub row : length globals' ≡ NAMES
-  pub numbers : (l : Ids) (g : Names) → Holds locals l → Holds globals g.globals → g.next ≡ next
-      → (gs : Ids) × ((number_variable x l g ≡ (id, names gs next')) × Holds globals' gs)
+pub record Chosen (x : ℕ) (s : Scopes) (id : ℕ) (s' : Scopes) : Type 0 where
+  pub more : s.next ≤ s'.next
+  pub few : s'.next ≤ s.next + 1
+  pub rest : OnlyGlobals s s'
+  pub numbers : (l : Ids) (g : Names) → Holds s.locals l → Holds s.globals g.globals → g.next ≡ s.next
+      → (gs : Ids) × ((number_variable x l g ≡ (id, names gs s'.next)) × Holds s'.globals gs)
 
 -- ---- the walks, by the definitions
 
-abbrev pub PatternWalk : List ℕ → ℕ → ℕ → ℕ → ℕ → ℕ → List ℕ → List ℕ → List ℕ → List ℕ → ℕ → List ℕ → List ℕ → List ℕ → List ℕ → Type 0
+abbrev pub PatternWalk : List ℕ → ℕ → ℕ → ℕ → Scopes → Scopes → Type 0
 PatternWalk b at n k =
     Bound (λ j. bears (entry_of b at j)) (λ own. weight b at own k) (number_pattern_variables (tree b at n k).pattern)
     (λ ids. (numbered_tree ids b at n k).pattern)
 
-abbrev pub ParameterWalk : List ℕ → ℕ → ℕ → ℕ → ℕ → ℕ → List ℕ → List ℕ → List ℕ → List ℕ → ℕ → List ℕ → List ℕ → List ℕ → List ℕ → Type 0
+abbrev pub ParameterWalk : List ℕ → ℕ → ℕ → ℕ → Scopes → Scopes → Type 0
 ParameterWalk b at n l =
     Bound (λ j. bears (entry_of b at j)) (λ own. chain_weight b at n own Chain.Parameters l) (number_parameters (tree b at n l).parameters)
     (λ ids. (numbered_tree ids b at n l).parameters)
 
-abbrev pub ExpressionWalk : List ℕ → ℕ → ℕ → ℕ → ℕ → ℕ → List ℕ → List ℕ → List ℕ → List ℕ → List ℕ → ℕ → List ℕ → List ℕ → List ℕ → List ℕ → List ℕ → Type 0
+abbrev pub ExpressionWalk : List ℕ → ℕ → ℕ → ℕ → Scopes → Scopes → Type 0
 ExpressionWalk b at n k =
     Walked (λ j. bears (entry_of b at j)) (λ own. weight b at own k) (number_expr_variables (tree b at n k).expression)
     (λ ids. (numbered_tree ids b at n k).expression)
 
--- two expressions; a pattern, and an expression in its scope
-unfoldable pub number_two : Expr → Expr → Ids → Naming (Expr × Expr)
-number_two a b locals = do
-  a' ← number_expr_variables a locals
-  b' ← number_expr_variables b locals
-  return (a', b')
-
+-- a pattern, and an expression in its scope
 unfoldable pub number_scope : Pat → Expr → Ids → Naming (Pat × Expr)
 number_scope p e locals = do
   (p', inner) ← number_pattern_variables p locals
   e' ← number_expr_variables e inner
   return (p', e')
 
-abbrev pub TwoWalk : List ℕ → ℕ → ℕ → ℕ → ℕ → ℕ → ℕ → List ℕ → List ℕ → List ℕ → List ℕ → List ℕ → ℕ → List ℕ → List ℕ → List ℕ → List ℕ → List ℕ → Type 0
-TwoWalk b at n x y =
-    Walked (λ j. bears (entry_of b at j)) (λ own. weight b at own x + weight b at own y) (number_two (tree b at n x).expression (tree b at n y).expression)
-    (λ ids. ((numbered_tree ids b at n x).expression, (numbered_tree ids b at n y).expression))
-
-abbrev pub ScopeWalk : List ℕ → ℕ → ℕ → ℕ → ℕ → ℕ → ℕ → List ℕ → List ℕ → List ℕ → List ℕ → List ℕ → ℕ → List ℕ → List ℕ → List ℕ → List ℕ → List ℕ → Type 0
+abbrev pub ScopeWalk : List ℕ → ℕ → ℕ → ℕ → ℕ → Scopes → Scopes → Type 0
 ScopeWalk b at n p y =
     Walked (λ j. bears (entry_of b at j)) (λ own. weight b at own p + weight b at own y) (number_scope (tree b at n p).pattern (tree b at n y).expression)
     (λ ids. ((numbered_tree ids b at n p).pattern, (numbered_tree ids b at n y).expression))
@@ -207,17 +245,17 @@ number_function ps e locals = do
   e' ← number_expr_variables e inner
   return (ps', e')
 
-abbrev pub FunctionWalk : List ℕ → ℕ → ℕ → ℕ → ℕ → ℕ → ℕ → List ℕ → List ℕ → List ℕ → List ℕ → List ℕ → ℕ → List ℕ → List ℕ → List ℕ → List ℕ → List ℕ → Type 0
+abbrev pub FunctionWalk : List ℕ → ℕ → ℕ → ℕ → ℕ → Scopes → Scopes → Type 0
 FunctionWalk b at n l y =
     Walked (λ j. bears (entry_of b at j)) (λ own. chain_weight b at n own Chain.Parameters l + weight b at own y) (number_function (tree b at n l).parameters
     (tree b at n y).expression) (λ ids. ((numbered_tree ids b at n l).parameters, (numbered_tree ids b at n y).expression))
 
-abbrev pub ItemWalk : List ℕ → ℕ → ℕ → ℕ → ℕ → ℕ → List ℕ → List ℕ → List ℕ → List ℕ → List ℕ → ℕ → List ℕ → List ℕ → List ℕ → List ℕ → List ℕ → Type 0
+abbrev pub ItemWalk : List ℕ → ℕ → ℕ → ℕ → Scopes → Scopes → Type 0
 ItemWalk b at n l =
     Walked (λ j. bears (entry_of b at j)) (λ own. chain_weight b at n own Chain.Items l) (number_items (tree b at n l).items)
     (λ ids. (numbered_tree ids b at n l).items)
 
-abbrev pub ArmWalk : List ℕ → ℕ → ℕ → ℕ → ℕ → ℕ → List ℕ → List ℕ → List ℕ → List ℕ → List ℕ → ℕ → List ℕ → List ℕ → List ℕ → List ℕ → List ℕ → Type 0
+abbrev pub ArmWalk : List ℕ → ℕ → ℕ → ℕ → Scopes → Scopes → Type 0
 ArmWalk b at n l =
     Walked (λ j. bears (entry_of b at j)) (λ own. chain_weight b at n own Chain.Arms l) (number_arms (tree b at n l).arms)
     (λ ids. (numbered_tree ids b at n l).arms)
@@ -237,65 +275,55 @@ abbrev pub expressions_weight : List ℕ → ℕ → ℕ → ℕ → ℕ → (�
 expressions_weight b at list m i own = sum_from m i (λ k. weight b at own (expression_root b list k))
 
 -- what a walk over definitions leaves: their names are locals from then on
-pub record Defined {A : Type 0} (named : ℕ → Bool) (w : (ℕ → ℕ) → ℕ) (numbering : Ids → Naming (A × Ids)) (value : List ℕ → A) (next : ℕ)
-    (locals globals ids : List ℕ) (next' : ℕ) (locals' globals' undo' old' ids' : List ℕ) : Type 0 where
-  pub more : next ≤ next'
-  pub few : next' ≤ next + w each
-  pub sizes : Sizes locals' undo' old' ids'
-  pub row : length globals' ≡ NAMES
-  pub elsewhere : Else w ids ids'
-  pub unnamed : (j : ℕ) → named j ≡ false → get_or ids' j 0 ≡ get_or ids j 0
-  pub numbers : (l : Ids) (g : Names) (final : List ℕ) → Holds locals l → Holds globals g.globals → g.next ≡ next → Agree w ids' final
-      → (l' : Ids) × ((gs : Ids) × ((numbering l g ≡ ((value final, l'), names gs next')) × (Holds locals' l' × Holds globals' gs)))
+pub record Defined {A : Type 0} (named : ℕ → Bool) (w : (ℕ → ℕ) → ℕ) (numbering : Ids → Naming (A × Ids)) (value : List ℕ → A) (s s' : Scopes) : Type 0 where
+  pub more : s.next ≤ s'.next
+  pub few : s'.next ≤ s.next + w each
+  pub same_top : s'.top ≡ s.top
+  pub long : length s'.ids ≡ length s.ids
+  pub elsewhere : Else w s.ids s'.ids
+  pub unnamed : (j : ℕ) → named j ≡ false → get_or s'.ids j 0 ≡ get_or s.ids j 0
+  pub numbers : (l : Ids) (g : Names) (final : List ℕ) → Holds s.locals l → Holds s.globals g.globals → g.next ≡ s.next → Agree w s'.ids final
+      → (l' : Ids) × ((gs : Ids) × ((numbering l g ≡ ((value final, l'), names gs s'.next)) × (Holds s'.locals l' × Holds s'.globals gs)))
 
 -- definition (p, v)
-abbrev pub DefinitionWalk : List ℕ → ℕ → ℕ → ℕ → ℕ → ℕ → List ℕ → List ℕ → List ℕ → ℕ → List ℕ → List ℕ → List ℕ → List ℕ → List ℕ → Type 0
+abbrev pub DefinitionWalk : List ℕ → ℕ → ℕ → ℕ → ℕ → Scopes → Scopes → Type 0
 DefinitionWalk b at n p v =
     Defined (λ j. bears (entry_of b at j)) (λ own. weight b at own p + weight b at own v)
     (number_def_variables ((tree b at n p).pattern, (tree b at n v).expression))
     (λ ids. ((numbered_tree ids b at n p).pattern, (numbered_tree ids b at n v).expression))
 
 -- m definitions, m expressions from the i-th on
-abbrev pub DefinitionsWalk : List ℕ → ℕ → ℕ → ℕ → ℕ → ℕ → ℕ → List ℕ → List ℕ → List ℕ → ℕ → List ℕ → List ℕ → List ℕ → List ℕ → List ℕ → Type 0
+abbrev pub DefinitionsWalk : List ℕ → ℕ → ℕ → ℕ → ℕ → ℕ → Scopes → Scopes → Type 0
 DefinitionsWalk b at n list m i =
     Defined (λ j. bears (entry_of b at j)) (definitions_weight b at list m i) (number_definitions (rows m i (definition_at b at n list)))
     (λ ids. rows m i (numbered_definition ids b at n list))
 
-abbrev pub ExpressionsWalk : List ℕ → ℕ → ℕ → ℕ → ℕ → ℕ → ℕ → ℕ → List ℕ → List ℕ → List ℕ → List ℕ → List ℕ → ℕ → List ℕ → List ℕ → List ℕ
-    → List ℕ → List ℕ → Type 0
+abbrev pub ExpressionsWalk : List ℕ → ℕ → ℕ → ℕ → ℕ → ℕ → Scopes → Scopes → Type 0
 ExpressionsWalk b at n list m i =
     Walked (λ j. bears (entry_of b at j)) (expressions_weight b at list m i) (number_expressions (rows m i (expression_at b at n list)))
     (λ ids. rows m i (numbered_expression ids b at n list))
 
-pub record ReadyDefinitions (b : List ℕ) (at n list m i next : ℕ) : Type 0 where
+pub record ReadyDefinitions (b : List ℕ) (at n list m i next top : ℕ) : Type 0 where
   pub walk : Walkable b at n
-  pub room : Room (definitions_weight b at list m i) next 0
+  pub room : Room (definitions_weight b at list m i) next top
 
-pub record ReadyExpressions (b : List ℕ) (at n list m i next : ℕ) : Type 0 where
+pub record ReadyExpressions (b : List ℕ) (at n list m i next top : ℕ) : Type 0 where
   pub walk : Walkable b at n
-  pub room : Room (expressions_weight b at list m i) next 0
+  pub room : Room (expressions_weight b at list m i) next top
 
 -- what the walk over m publics from the i-th on leaves: an id for each, at its position
-pub record Published (b : List ℕ) (list m i next : ℕ) (locals globals public : List ℕ) (next' : ℕ) (globals' public' : List ℕ) : Type 0 where
-  pub more : next ≤ next'
-  pub few : next' ≤ next + m
-  pub row : length globals' ≡ NAMES
-  pub long : length public' ≡ PUBLICS
+pub record Published (b : List ℕ) (list m i : ℕ) (s : Scopes) (public : List ℕ) (s' : Scopes) (public' : List ℕ) : Type 0 where
+  pub more : s.next ≤ s'.next
+  pub few : s'.next ≤ s.next + m
+  pub rest : OnlyGlobals s s'
+  pub long : length public' ≡ length public
   pub before : (j : ℕ) → j < i → get_or public' j 0 ≡ get_or public j 0
   pub behind : (j : ℕ) → i + m ≤ j → get_or public' j 0 ≡ get_or public j 0
-  pub numbers : (g : Names) → Holds locals [] → Holds globals g.globals → g.next ≡ next →
-      (gs : Ids) × ((number_publics (rows m i (public_at b list)) g ≡ (rows m i (λ k. get_or public' k 0), names gs next')) × Holds globals' gs)
+  pub numbers : (g : Names) → Holds s.locals [] → Holds s.globals g.globals → g.next ≡ s.next →
+      (gs : Ids) × ((number_publics (rows m i (public_at b list)) g ≡ (rows m i (λ k. get_or public' k 0), names gs s'.next)) × Holds s'.globals gs)
 
 -- a text registered: its name has the id, before what the row held
-pub record Registered (b t : List ℕ) (text count id : ℕ) (globals globals' : List ℕ) : Type 0 where
-  pub row : length globals' ≡ NAMES
-  pub holds : (gs : Ids) → Holds globals gs → Holds globals' (named t id 0 (rows count 0 (name_of b text)) ++ gs)
-
-unfoldable pub no_row : List ℕ
-no_row = replicate NAMES 0
-
-unfoldable pub no_entries : List ℕ
-no_entries = replicate NODES 0
-
-unfoldable pub no_publics : List ℕ
-no_publics = replicate PUBLICS 0
+pub record Registered (b t : List ℕ) (text count id : ℕ) (s s' : Scopes) : Type 0 where
+  pub rest : OnlyGlobals s s'
+  pub same_next : s'.next ≡ s.next
+  pub holds : (gs : Ids) → Holds s.globals gs → Holds s'.globals (named t id 0 (rows count 0 (name_of b text)) ++ gs)

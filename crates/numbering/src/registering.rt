@@ -1,77 +1,64 @@
 // What stands among the globals before definitions: fresh, iter and fold, found by their texts, and the publics.
-ghost use Rattle.std.specs.Prelude.{◌≡◌, true, ◌+◌, ◌*◌, ◌≤◌, ◌<◌, length, take, drop};
+ghost use Rattle.std.specs.Prelude.{◌≡◌, true, [], ◌+◌, ◌*◌, ◌≤◌, ◌<◌, length};
+ghost use Rattle.source.specs.Indices.{rows};
 ghost use Rattle.source.specs.Layout.{NAME-WORDS};
-ghost use Rattle.source.specs.Names.{names_fit};
+ghost use Rattle.source.specs.Names.{names_fit, name_of};
 ghost use Rattle.source.specs.Nodes.{publics_fit};
-ghost use Rattle.numbering.specs.Numbering.{same_text};
-ghost use Rattle.numbering.specs.Walks.{Published, Registered};
+ghost use Rattle.numbering.specs.Numbering.{registered};
+ghost use Rattle.numbering.specs.Walks.{Holds, Published, Registered, OnlyGlobals, no_publics};
 ghost use Rattle.records.specs.FlatRecord.{IDS};
 ghost use Rattle.records.specs.Intrinsics.{FIRST-FREE-ID};
 ghost use Rattle.records.specs.SourceRecord.{HEADER, NAMES, PUBLICS};
 
-use super::rows::{Drawn, number_variable};
-use records::source_record::{NAMES, PUBLICS};
+use super::rows::Scopes;
+use records::intrinsics::{FOLD_ID, FRESH_ID, ITER_ID};
+use records::source_record::PUBLICS;
+use source::Layout;
 use source::lists::{name_at, public_at};
 
-// Whether the n bytes from `from` on are the text t.
-fn same_text(s: &[u8], from: usize, n: usize, t: &[u8]) -> bool
-    requires { from + n ≤ length s.now }
-    ensures { result ≡ same_text t.now (take n (drop from s.now)) }
-{
-    if n != t.len() {
-        return false;
-    }
-    let mut i = 0usize;
-    while i < n {
-        if t[i] != s[from + i] {
-            return false;
+impl Scopes {
+    // The name that is the text t, if there is one, has this id.
+    fn register(&mut self, s: &[u8], l: Layout, t: &[u8], id: u32)
+        requires long { 4 * (HEADER + NAME-WORDS * l.names) ≤ length s.now }
+        requires fit { names_fit s.now l.text_at l.names ≡ true }
+        requires few { (l.names ≤ NAMES) × (id < IDS) }
+        ensures { Registered s.now t.now l.text_at l.names id self.old self.new }
+    {
+        for k in 0..l.names {
+            let name = name_at(s, k);
+            let from = l.text_at + name.offset as usize;
+            if t == &s[from..from + name.size as usize] {
+                self.globals[k] = id + 1;
+                return;
+            }
         }
-        i += 1;
     }
-    true
-}
 
-// The name that is the text t, if there is one, has this id.
-pub fn register(s: &[u8], text: usize, count: usize, t: &[u8], id: u32, globals: &mut [u32; NAMES])
-    requires fit { (names_fit s.now text count ≡ true) × (4 * (HEADER + NAME-WORDS * count) ≤ length s.now) }
-    requires sizes { ((count ≤ NAMES) × (length globals.old ≡ NAMES)) × (id < IDS) }
-    ensures { Registered s.now t.now text count id globals.old globals.new }
-{
-    let mut k = 0usize;
-    while k < count {
-        let name = name_at(s, k);
-        if same_text(s, text + name.offset as usize, name.size as usize, t) {
-            globals[k] = id + 1;
-            return;
+    // fresh, iter and fold, as transform.rs registers them.
+    pub fn register_intrinsics(&mut self, s: &[u8], l: Layout)
+        requires long { 4 * (HEADER + NAME-WORDS * l.names) ≤ length s.now }
+        requires fit { names_fit s.now l.text_at l.names ≡ true }
+        requires few { l.names ≤ NAMES }
+        ensures rest { OnlyGlobals self.old self.new × (self.new.next ≡ self.old.next) }
+        ensures holds { Holds self.old.globals [] → Holds self.new.globals (registered (rows l.names 0 (name_of s.now l.text_at))).globals }
+    {
+        self.register(s, l, b"fresh", FRESH_ID);
+        self.register(s, l, b"iter", ITER_ID);
+        self.register(s, l, b"fold", FOLD_ID);
+    }
+
+    // The id of each public at its position, and 0 elsewhere: publics are globals, never locals.
+    pub fn number_publics(&mut self, s: &[u8], l: Layout) -> [u32; PUBLICS]
+        requires long { 4 * (l.publics_at + l.publics) ≤ length s.now }
+        requires fit { publics_fit s.now l.names l.publics_at l.publics ≡ true }
+        requires few { ((l.names ≤ NAMES) × (l.publics ≤ PUBLICS)) × (self.old.next ≤ FIRST-FREE-ID) }
+        ensures { Published s.now l.publics_at l.publics 0 self.old no_publics self.new result }
+    {
+        let mut publics = [0u32; PUBLICS];
+        for i in 0..l.publics {
+            let x = public_at(s, l.publics_at, i);
+            publics[i] = self.number_variable(x as usize);
         }
-        k += 1;
+        publics
     }
-}
-
-// The publics whose names start at word `list`: globals, never locals.
-pub fn number_publics(
-    s: &[u8],
-    names: usize,
-    list: usize,
-    count: usize,
-    locals: &[u32; NAMES],
-    globals: &mut [u32; NAMES],
-    publics: &mut [u32; PUBLICS],
-    next: u32,
-) -> u32
-    requires { ((4 * (list + count) ≤ length s.now) × (publics_fit s.now names list count ≡ true))
-        × (((names ≤ NAMES) × (count ≤ PUBLICS)) × ((length globals.old ≡ NAMES) × ((length publics.old ≡ PUBLICS) × (next ≤ FIRST-FREE-ID)))) }
-    ensures { Published s.now list count 0 next locals.now globals.old publics.old result globals.new
-        publics.new }
-{
-    let mut i = 0usize;
-    let mut one = next;
-    while i < count {
-        let x = public_at(s, list, i) as usize;
-        let drawn = number_variable(x, locals, globals, one);
-        publics[i] = drawn.id;
-        one = drawn.next;
-        i += 1;
-    }
-    one
 }

@@ -1,84 +1,98 @@
 // The rows: a name's id plus one, or 0; the undo list has each bound name, and what its row held before.
-ghost use Rattle.std.specs.Prelude.{◌≡◌, ℕ, ◌+◌, ◌≤◌, ◌<◌, length, get_or, set};
-ghost use Rattle.numbering.specs.Walks.{Chosen, unwound};
+ghost use Rattle.std.specs.Prelude.{◌≡◌, ℕ, ◌+◌, ◌-◌, ◌≤◌, ◌<◌};
+ghost use Rattle.numbering.specs.Walks.{Sized, Chosen, undone, no_scopes, bound_to, unwound_to};
 ghost use Rattle.records.specs.FlatRecord.{IDS};
 ghost use Rattle.records.specs.SourceRecord.{NAMES, NODES};
 
+use records::intrinsics::FIRST_FREE_ID;
 use records::source_record::{NAMES, NODES};
 
-// An id, and the next free one.
+// The nodes of a record: its bytes, the word at which the first starts, and how many there are.
 #[derive(Clone, Copy)]
-pub struct Drawn {
-    pub id: u32,
+pub struct Nodes<'a> {
+    pub bytes: &'a [u8],
+    pub at: usize,
+    pub count: usize,
+}
+
+// A name that a pattern bound, and what its row held before.
+#[derive(Clone, Copy)]
+pub struct Undo {
+    pub name: u32,
+    pub before: u32,
+}
+
+// What numbering changes: the rows of the locals and of the globals, the undo list with its length, the id of each node, and the next free id.
+#[derive(Drop)]
+pub struct Scopes {
+    pub locals: [u32; NAMES],
+    pub globals: [u32; NAMES],
+    pub undo: [Undo; NODES],
+    pub top: usize,
+    pub ids: [u32; NODES],
     pub next: u32,
 }
 
-// A local, else a global, else a new global.
-pub fn number_variable(
-    x: usize,
-    locals: &[u32; NAMES],
-    globals: &mut [u32; NAMES],
-    next: u32,
-) -> Drawn
-    requires { (x < NAMES) × ((next < IDS) × (length globals.old ≡ NAMES)) }
-    ensures { Chosen x next locals.now globals.old result.id result.next globals.new }
-{
-    let local = locals[x];
-    if local != 0 {
-        return Drawn {
-            id: local - 1,
-            next,
-        };
+impl Scopes {
+    // No name has an id yet.
+    pub fn new() -> Self
+        ensures { result ≡ no_scopes }
+    {
+        Scopes {
+            locals: [0; NAMES],
+            globals: [0; NAMES],
+            undo: [Undo { name: 0, before: 0 }; NODES],
+            top: 0,
+            ids: [0; NODES],
+            next: FIRST_FREE_ID,
+        }
     }
-    let global = globals[x];
-    if global != 0 {
-        return Drawn {
-            id: global - 1,
-            next,
-        };
-    }
-    globals[x] = next + 1;
-    Drawn {
-        id: next,
-        next: next + 1,
-    }
-}
 
-// A new id for name x, at node k: what its row held goes to the undo list.
-pub fn bind(
-    x: usize,
-    k: usize,
-    locals: &mut [u32; NAMES],
-    undo: &mut [u32; NODES],
-    old: &mut [u32; NODES],
-    ids: &mut [u32; NODES],
-    next: u32,
-    top: u32,
-) -> u32
-    requires { ((x < NAMES) × (k < NODES)) × ((next < IDS) × (top < NODES)) }
-    ensures { ((result ≡ next + 1) × (locals.new ≡ set locals.old x (next + 1)))
-        × ((undo.new ≡ set undo.old top x)
-        × (old.new ≡ set old.old top (get_or locals.old x 0))
-        × (ids.new ≡ set ids.old k next)) }
-{
-    let t = top as usize;
-    undo[t] = x as u32;
-    old[t] = locals[x];
-    locals[x] = next + 1;
-    ids[k] = next;
-    next + 1
-}
+    // The id of name x: that of the local, else of the global, else of a new global.
+    pub fn number_variable(&mut self, x: usize) -> u32
+        requires { (x < NAMES) × (self.old.next < IDS) }
+        ensures { Chosen x self.old result self.new }
+    {
+        let local = self.locals[x];
+        if local != 0 {
+            return local - 1;
+        }
+        let global = self.globals[x];
+        if global != 0 {
+            return global - 1;
+        }
+        let id = self.next;
+        self.next += 1;
+        self.globals[x] = self.next;
+        id
+    }
 
-// The end of a scope: n entries of the undo list are undone, the last first.
-pub fn unwind(locals: &mut [u32; NAMES], undo: &[u32; NODES], old: &[u32; NODES], base: u32, n: u32)
-    requires { ((base + n ≤ NODES) × (length locals.old ≡ NAMES)) × ((i : ℕ) → base ≤ i → i < base + n → get_or undo.now i 0 < NAMES) }
-    ensures { locals.new ≡ unwound undo.now old.now base n locals.old }
-{
-    let mut i = (base + n) as usize;
-    let from = base as usize;
-    while from < i {
-        i -= 1;
-        let x = undo[i] as usize;
-        locals[x] = old[i];
+    // A new id for name x, at node k: what its row held goes to the undo list.
+    pub fn bind(&mut self, x: usize, k: usize)
+        requires { ((x < NAMES) × (k < NODES)) × ((self.old.next < IDS) × (self.old.top < NODES)) }
+        ensures bound { self.new ≡ bound_to x k self.old }
+        ensures sized { Sized self.old }
+    {
+        self.undo[self.top] = Undo {
+            name: x as u32,
+            before: self.locals[x],
+        };
+        self.top += 1;
+        self.ids[k] = self.next;
+        self.next += 1;
+        self.locals[x] = self.next;
+    }
+
+    // The end of a scope: the entries of the undo list from `base` on are undone, the last first.
+    pub fn unwind(&mut self, base: usize)
+        requires within { (base ≤ self.old.top) × (self.old.top ≤ NODES) }
+        requires names { (i : ℕ) → base ≤ i → i < self.old.top → (undone self.old.undo i).name < NAMES }
+        ensures { self.new ≡ unwound_to base self.old }
+    {
+        for i in (base..self.top).rev() {
+            let entry = self.undo[i];
+            self.locals[entry.name as usize] = entry.before;
+        }
+        self.top = base;
     }
 }

@@ -8,11 +8,13 @@ use native.Mathlib.Omega.{arith}
 use lib.ListN.{length, length-replicate}
 use lib.Dec.{leb}
 use borrow.Author.Tests.{le-leb, lt-leb}
+use Rattle.std.proofs.Common.{Ok, Err}
+use Rattle.records.specs.declared.refusals.Refusal.{Refusal}
+use Rattle.records.specs.Refusals.{refusal_number}
 use Rattle.flat.specs.Trees.{FlatModule, module_nodes}
 use Rattle.flat.specs.Layout.{next, publics, definitions, equations, definitions_offset, equations_offset, nodes_offset, layout_of}
 use Rattle.flat.specs.Record.{pick, module_of, flat_of, checked}
 use Rattle.flat.specs.declared.Layout.{Layout}
-use Rattle.flat.specs.declared.Checked.TheVariants.{Accepted, Refused as No}
 use Rattle.flat.specs.Readable.{Readable}
 use Rattle.flat.proofs.Rows.{length-rows}
 use Rattle.flat.proofs.Reading.{checked-accepted, checked_refused, checked-readable}
@@ -121,19 +123,19 @@ module _ (f : FlatModule) (body list : List ℕ) {t : Bool} (e : t ≡ (cuttable
     passes-made l = (ap Passed.Made n ∙ ap passed_of (sym (is-cuttable f t e h ∙ within-ids (passes f) (omega (arith, next-is)))), lists-after)
 
 -- 20 and 21
-pub record-refused : (b : List ℕ) (n : ℕ) → checked (flat_of b) ≡ No n → cut_record b ≡ refused n
+pub record-refused : (b : List ℕ) (r : Refusal) → checked (flat_of b) ≡ Err r → cut_record b ≡ refused (refusal_number r)
 unfolding cut_record cut_read
-record-refused b n e = rw (checked_refused b n e)
+record-refused b r e = rw (checked_refused b r e)
 
-pub record-accepted : (b : List ℕ) → checked (flat_of b) ≡ Accepted → cut_record b ≡ cut_of (module_of b)
+pub record-accepted : (b : List ℕ) → checked (flat_of b) ≡ Ok tt → cut_record b ≡ cut_of (module_of b)
 unfolding cut_record cut_read
 record-accepted b e = rw (checked-accepted b e)
 
-record-small : (b : List ℕ) → checked (flat_of b) ≡ Accepted → module_nodes (module_of b) ≤ 16384
+record-small : (b : List ℕ) → checked (flat_of b) ≡ Ok tt → module_nodes (module_of b) ≤ 16384
 record-small b e = let r : Readable b = checked-readable b e in omega (arith, accepted-nodes b (module_of b) (checked-accepted b e), r.nodes-few)
 
 -- what `passes` asks, of a lent record that is accepted
-pub record-passable : (b : List ℕ) → checked (flat_of b) ≡ Accepted → Readable b × (module_nodes (module_of b) ≤ 16384)
+pub record-passable : (b : List ℕ) → checked (flat_of b) ≡ Ok tt → Readable b × (module_nodes (module_of b) ≤ 16384)
 record-passable b e = (checked-readable b e, record-small b e)
 
 -- the passes keep the publics

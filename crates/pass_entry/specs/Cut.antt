@@ -1,6 +1,7 @@
 -- What `cut` and `measure` answer, and what `cut` leaves in the output. For a reader with document 01, "Constraint record" and "Numbers by place of the
 -- check", beside it.
 use Rattle.std.specs.Prelude.{ℕ, List, ◌++◌, length, drop, leb}
+use Rattle.records.specs.Refusals.{refusal_number}
 use Rattle.flat.specs.Record.{pick, Read, flat_of}
 use Rattle.constraint.specs.Record.{constraint_bytes}
 use Rattle.pass_trees.specs.Passes.{Outcome, cut, refused, cut_of}
@@ -11,7 +12,7 @@ use Rattle.pass_entry.specs.declared.Need.{Need}
 -- "lent flat record, before the passes: 20, 21", then 22 and 32
 unfoldable pub cut_read : Read → Outcome
 cut_read (Read.module-of f) = cut_of f
-cut_read (Read.refused n) = refused n
+cut_read (Read.refused r) = refused (refusal_number r)
 
 unfoldable pub cut_record : List ℕ → Outcome
 cut_record b = cut_read (flat_of b)

@@ -18,7 +18,6 @@ ghost use Rattle.records.specs.FlatRecord.{NODES};
 
 use body::{Built, Passed, run_passes};
 use constraint::{EQUALITY_WORDS, HEADER, KEPT_WORDS};
-use flat::Checked;
 use flat::entries::put_header;
 pub use lists::OUTPUT_BYTES;
 use lists::{copy_to, no_body, no_list};
@@ -124,8 +123,8 @@ pub fn measure(s: &[u8]) -> Need
     ensures { result ≡ need_of (cut_record s.now) }
 {
     match flat::check_flat(s) {
-        Checked::Refused(n) => Need::Refused(n),
-        Checked::Accepted => measure_readable(s),
+        Err(r) => Need::Refused(r.number()),
+        Ok(()) => measure_readable(s),
     }
 }
 
@@ -137,7 +136,7 @@ pub fn cut(s: &[u8], store: &mut [u8], out: &mut [u8]) -> Answer
 {
     words::clear(store);
     match flat::check_flat(s) {
-        Checked::Refused(n) => Answer::Refused(n),
-        Checked::Accepted => passes(s, out),
+        Err(r) => Answer::Refused(r.number()),
+        Ok(()) => passes(s, out),
     }
 }

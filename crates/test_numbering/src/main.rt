@@ -5,7 +5,7 @@
 
 ghost use Rattle.std.specs.Prelude.{◌+◌, ◌*◌, ◌≤◌, length};
 
-use numbering::Numbered;
+use records::refusals::Refusal;
 use records::source_record::NODES;
 use streams::{Opened, open_standard};
 use test_report::{
@@ -61,10 +61,10 @@ fn publics_are(publics: &[u32; 64], s: &[u8], from: usize, n: usize) -> bool
     true
 }
 
-fn answer_number(answer: Numbered) -> u64 {
+fn answer_number(answer: Result<u32, Refusal>) -> u64 {
     match answer {
-        Numbered::Next(n) => n as u64,
-        Numbered::Refused(number) => REFUSAL as u64 + number as u64,
+        Ok(next) => next as u64,
+        Err(refusal) => REFUSAL as u64 + refusal.number() as u64,
     }
 }
 
@@ -86,8 +86,7 @@ fn judge(image: &[u8], s: &[u8], answer: u32, n: usize, p: usize) -> usize
     let r = numbering::number_module_variables(image);
     let ids = r.ids;
     let publics = r.publics;
-    let numbered = r.answer;
-    let got = answer_number(numbered);
+    let got = answer_number(r.answer);
     let same = ids_are(&ids, s, n) & publics_are(&publics, s, n, p);
     verdict(answer, (got == answer as u64) & same)
 }

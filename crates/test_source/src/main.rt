@@ -7,7 +7,6 @@
 
 ghost use Rattle.std.specs.Prelude.{◌≤◌, length};
 
-use numbering::Numbered;
 use records::source_record::NODES;
 use streams::{Opened, open_standard};
 use test_report::{Part, count_case, finish, read_part, read_rest};
@@ -72,11 +71,10 @@ fn judge(image: &[u8], answer: u32) -> usize {
     let r = numbering::number_module_variables(image);
     let ids = r.ids;
     let publics = r.publics;
-    let got = r.answer;
-    match got {
-        Numbered::Next(next) => judge_accepted(next, answer),
-        Numbered::Refused(number) => judge_refused(
-            number,
+    match r.answer {
+        Ok(next) => judge_accepted(next, answer),
+        Err(refusal) => judge_refused(
+            refusal.number(),
             answer,
             no_ids(&ids) & no_publics(&publics),
         ),

@@ -6,9 +6,6 @@ use Rattle.eval_write.proofs.write_definitions.Goals as goal
 pub loop-d-init : goal.loop-d-init
 loop-d-init c = (definitions-none _ _ _ _ _ _, omega arith)
 
-pub write_tree-k-requires : goal.write_tree-k-requires
-write_tree-k-requires c = (c.requires.0, c.loop-d.invariant.1)
-
 pub loop-d-preserved : goal.loop-d-preserved
 loop-d-preserved c =
     let was = c.loop-d.invariant in

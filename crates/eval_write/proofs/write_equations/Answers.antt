@@ -6,12 +6,6 @@ use Rattle.eval_write.proofs.write_equations.Goals as goal
 pub loop-e-init : goal.loop-e-init
 loop-e-init c = (equations-none _ _ _ _ _ _, c.requires.0.1)
 
-pub write_tree-one-requires : goal.write_tree-one-requires
-write_tree-one-requires c = (c.requires.0.0, c.loop-e.invariant.1)
-
-pub write_tree-k-requires : goal.write_tree-k-requires
-write_tree-k-requires c = (c.requires.0.0, c.write_tree-one.ensures.1)
-
 pub loop-e-preserved : goal.loop-e-preserved
 loop-e-preserved c =
     let was = c.loop-e.invariant in (

@@ -7,9 +7,6 @@ use Rattle.eval_write.proofs.write_provers.Goals as goal
 pub loop-i-init : goal.loop-i-init
 loop-i-init c = (marked-none _ _ _, omega arith)
 
-pub write_prover-to-requires : goal.write_prover-to-requires
-write_prover-to-requires c = omega (arith, c.loop-i.invariant.1, c.requires, c.loop-i-test.true)
-
 pub loop-i-preserved : goal.loop-i-preserved
 loop-i-preserved c = (
   (

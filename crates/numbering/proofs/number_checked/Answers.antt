@@ -1,15 +1,57 @@
-use Rattle.numbering.proofs.Entire.{no-row-holds, no-row-long}
-use Rattle.numbering.proofs.Entire.{names-asked}
+-- `numbering::number_checked` meets its contract. Assumes nothing.
+use Rattle.std.proofs.Common.{◌≡◌, [], ◌≤◌, ◌+◌, arith, ap, ◌∙◌}
+use Rattle.numbering.specs.Outcome.{Outcome}
+use Rattle.numbering.specs.Walks.{Holds}
+use Rattle.numbering.specs.declared.rows.Scopes.{Scopes}
+use Rattle.numbering.proofs.Entire.{no-row-holds, names-asked, publics-asked, definitions-asked, expressions-asked, entire-at}
 use Rattle.numbering.proofs.number_checked.Goals as goal
+use Rattle.numbering.proofs.number_checked.Goals.{After-register_intrinsics, After-number_publics-publics}
+
+-- what `register_intrinsics` leaves of the new rows
+next-first : (c : After-register_intrinsics) → c.register_intrinsics.new.self.next ≡ 9
+next-first c = c.register_intrinsics.ensures.rest.1 ∙ ap (λ (s : Scopes). s.next) c.new-scopes.ensures
+
+next_few : (c : After-number_publics-publics) → c.number_publics-publics.new.self.next ≤ 9 + c.layout_of-l.result.publics
+next_few c =
+    let e : c.register_intrinsics.new.self.next ≡ 9 = c.register_intrinsics.ensures.rest.1 ∙ ap (λ (s : Scopes). s.next) c.new-scopes.ensures in
+    omega (arith, c.number_publics-publics.ensures.few, e)
+
+top_none : (c : After-number_publics-publics) → c.number_publics-publics.new.self.top ≡ 0
+top_none c =
+    c.number_publics-publics.ensures.rest.same_top ∙ c.register_intrinsics.ensures.rest.0.same_top ∙ ap (λ (s : Scopes). s.top) c.new-scopes.ensures
 
 pub register_intrinsics-requires : goal.register_intrinsics-requires
 register_intrinsics-requires c =
-    let w = names-asked _ c.requires.0 _ c.layout_of-l.ensures in
-    record { fit = w.0; sizes = (w.1, no-row-long c.no_row-globals.ensures) }
+    let w = names-asked _ c.requires.1 _ c.layout_of-l.ensures in record { long = w.0.1; fit = w.0.0; few = w.1 }
 
-pub number_lists-requires : goal.number_lists-requires
-number_lists-requires c =
-    record {
-      readable = ((c.requires.0, c.layout_of-l.ensures), (c.register_intrinsics.ensures.0, c.requires.1));
-      holds = c.register_intrinsics.ensures.1 (no-row-holds c.no_row-globals.ensures);
+pub number_publics-publics-requires : goal.number_publics-publics-requires
+number_publics-publics-requires c =
+    let w = publics-asked _ c.requires.1 _ c.layout_of-l.ensures in record {
+      long = w.0.0;
+      fit = w.0.1;
+      few = (w.1, omega (arith, next-first (goal.at.number_publics-publics-requires c).After-register_intrinsics));
     }
+
+pub number_definitions-requires : goal.number_definitions-requires
+number_definitions-requires c =
+    let d = (goal.at.number_definitions-requires c).After-number_publics-publics in
+    let w = definitions-asked _ c.requires.1 _ c.layout_of-l.ensures c.number_publics-publics.new.self (next_few d) (top_none d) in record { long = w.0.0; fit = w.0.1; ready = w.1 }
+
+pub number_expressions-requires : goal.number_expressions-requires
+number_expressions-requires c =
+    let d = (goal.at.number_expressions-requires c).After-number_publics-publics in
+    let w = expressions-asked _ c.requires.1 _ c.layout_of-l.ensures (next_few d) (top_none d) c.number_definitions.ensures in record {
+      long = w.0.0;
+      fit = w.0.1;
+      ready = w.1;
+    }
+
+pub returns : goal.returns
+unfolding Outcome
+returns c =
+    let new = c.new-scopes.ensures in
+    let first = c.register_intrinsics.ensures in
+    let hl : Holds c.register_intrinsics.new.self.locals [] = rw (first.rest.0.same_locals, new) no-row-holds in
+    let w = entire-at _ c.requires.1 _ c.layout_of-l.ensures c.number_publics-publics.ensures c.number_definitions.ensures c.number_expressions.ensures
+    (next-first (goal.at.returns c).After-register_intrinsics) hl (first.holds (rw new no-row-holds)) in
+    (c.requires.0, rw (first.rest.0.same_ids, new) at w)

@@ -6,17 +6,8 @@ use Rattle.eval_write.proofs.trees.+write_tree.Goals as goal
 pub write_below-returns-then-n-c : goal.write_below-returns-then-n-c
 write_below-returns-then-n-c t c = (high _ _ _ _ _ _ _ c.if-n-c.true, c.requires.1)
 
-pub write_below-write_tree-requires : goal.write_below-write_tree-requires
-write_below-write_tree-requires t c = (omega (arith, c.decreases, c.if-n-c.false), (c.requires.0, c.requires.1))
-
 pub write_below-returns : goal.write_below-returns
 write_below-returns t c = (low _ _ _ _ _ _ _ (omega (arith, c.if-n-c.false)) c.write_tree.ensures.0, c.write_tree.ensures.1)
-
-pub write_tree-write_below-one-requires : goal.write_tree-write_below-one-requires
-write_tree-write_below-one-requires t c = (omega (arith, c.decreases), (c.requires.0, c.requires.1))
-
-pub write_tree-add_node-requires : goal.write_tree-add_node-requires
-write_tree-add_node-requires t c = (c.requires.0, c.write_below-one.ensures.1)
 
 pub write_tree-returns-then-sort-eq-NEGATE : goal.write_tree-returns-then-sort-eq-NEGATE
 write_tree-returns-then-sort-eq-NEGATE t c = (
@@ -25,24 +16,12 @@ write_tree-returns-then-sort-eq-NEGATE t c = (
   c.add_node.ensures.1,
 )
 
-pub write_tree-add_node-requires-then-sort-ne-INFIX : goal.write_tree-add_node-requires-then-sort-ne-INFIX
-write_tree-add_node-requires-then-sort-ne-INFIX t c = (c.requires.0, c.requires.1)
-
 pub write_tree-returns-then-sort-ne-INFIX : goal.write_tree-returns-then-sort-ne-INFIX
 write_tree-returns-then-sort-ne-INFIX t c = (
   tree-leaf _ _ _ _ _ _ c.kind-sort.ensures.0 c.node_word-a.ensures c.if-sort-eq-NEGATE.false
       c.if-sort-ne-INFIX.true c.add_node-then-sort-ne-INFIX.ensures.0,
   c.add_node-then-sort-ne-INFIX.ensures.1,
 )
-
-pub write_tree-write_below-one-requires-2 : goal.write_tree-write_below-one-requires-2
-write_tree-write_below-one-requires-2 t c = (omega (arith, c.decreases), (c.requires.0, c.requires.1))
-
-pub write_tree-write_below-two-requires : goal.write_tree-write_below-two-requires
-write_tree-write_below-two-requires t c = (omega (arith, c.decreases), (c.requires.0, c.write_below-one-2.ensures.1))
-
-pub write_tree-add_node-requires-2 : goal.write_tree-add_node-requires-2
-write_tree-add_node-requires-2 t c = (c.requires.0, c.write_below-two.ensures.1)
 
 pub write_tree-returns : goal.write_tree-returns
 write_tree-returns t c = (

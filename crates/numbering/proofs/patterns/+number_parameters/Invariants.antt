@@ -1,4 +1,0 @@
-use Rattle.numbering.proofs.patterns.+number_parameters.Given as goal
-
-abbrev pub decreases-number_parameters : goal.decreases-number_parameters
-decreases-number_parameters l = l.l
