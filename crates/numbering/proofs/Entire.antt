@@ -178,9 +178,9 @@ module _ (b : List ℕ) (Q : Readable b) where
       → DefinitionsWalk b (nodes_offset b) (nodes b) (definitions_offset b) (definitions b) 0 s₁ s₂
       → ExpressionsWalk b (nodes_offset b) (nodes b) (expressions_offset b) (expressions b) 0 s₂ s₃ → s.next ≡ 9
       → Holds s.locals [] → Holds s.globals (registered (rows (names b) 0 (name_of b (text_offset b)))).globals
-      → NumberedIn b s.ids public s₃.next s₃.ids public₁
+      → length s₃.ids ≡ length s.ids → length public₁ ≡ length public → NumberedIn b s.ids public s₃.next s₃.ids public₁
   unfolding numbered names_of number_module_variables numbered_module module_of ◌>>=◌ return registered
-  entire {s} {s₁} {s₂} {s₃} {public} {public₁} p d x e hl hg =
+  entire {s} {s₁} {s₂} {s₃} {public} {public₁} p d x e hl hg li lp =
       let g = registered (rows (names b) 0 (name_of b (text_offset b))) in
       let pn = p.numbers g hl hg (sym e) in
       let once = (room 0 (omega arith)).met-once in
@@ -203,8 +203,8 @@ module _ (b : List ℕ) (Q : Readable b) where
             x.elsewhere j (omega (arith, none-behind j l, lists-weigh (same j)))
             ∙ d.elsewhere j (omega (arith, none-behind j l, lists-weigh (same j))) ∙ same-id j;
         public-behind = λ j l. p.behind j (omega arith);
-        ids-long = x.long ∙ d.long ∙ ap length p.rest.same_ids;
-        public-long = p.long;
+        ids-long = li;
+        public-long = lp;
       }
 
 -- the same by a layout in a local
@@ -239,9 +239,9 @@ module _ (b : List ℕ) (Q : Readable b) (l : Layout) (e : l ≡ layout_of b) wh
       → DefinitionsWalk b l.nodes_at l.nodes l.definitions_at l.definitions 0 s₁ s₂
       → ExpressionsWalk b l.nodes_at l.nodes l.expressions_at l.expressions 0 s₂ s₃ → s.next ≡ 9
       → Holds s.locals [] → Holds s.globals (registered (rows l.names 0 (name_of b l.text_at))).globals
-      → NumberedIn b s.ids public s₃.next s₃.ids public₁
+      → length s₃.ids ≡ length s.ids → length public₁ ≡ length public → NumberedIn b s.ids public s₃.next s₃.ids public₁
   unfolding layout_of
-  entire-at = rw e (λ p d x q hl hg. entire b Q p d x q hl hg)
+  entire-at = rw e (λ p d x q hl hg li lp. entire b Q p d x q hl hg li lp)
 
 -- a refused record
 pub refused-is : (t : Read) {r : Refusal} → Err r ≡ checked t → t ≡ Read.refused r

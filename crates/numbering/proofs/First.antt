@@ -124,7 +124,6 @@ module _ (b : List ℕ) (list count : ℕ) where
           same_top = w.rest.same_top ∙ u.rest.same_top;
           same_ids = w.rest.same_ids ∙ u.rest.same_ids;
         };
-        long = w.long ∙ simp length-set;
         before = λ j q. w.before j (omega arith) ∙ get_or-set_other public i j id 0 (λ (z : j ≡ i). omega arith);
         behind = λ j q. w.behind j (omega arith) ∙ get_or-set_other public i j id 0 (λ (z : j ≡ i). omega arith);
         numbers = λ g h k e.
@@ -139,7 +138,6 @@ module _ (b : List ℕ) (list count : ℕ) where
     more = omega arith;
     few = omega arith;
     rest = only-globals s;
-    long = refl;
     before = λ j q. refl;
     behind = λ j q. refl;
     numbers = λ g h k e. (g.globals, (rw (rows_none count i (public_at b list) l, rows_none count i (λ k. get_or public k 0) l, ← e), k));

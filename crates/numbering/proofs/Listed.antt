@@ -56,7 +56,6 @@ module _ (b : List ℕ) (at n p v : ℕ) {s : Scopes} (R : ReadyTwo b at n is_pa
     more = omega (arith, u.more, w.more);
     few = omega (arith, u.few, w.few);
     same_top = refl;
-    long = w.long ∙ u.long;
     elsewhere = both-else s.ids s₁.ids s₂.ids def-parts u.elsewhere w.elsewhere;
     unnamed = λ j z. w.unnamed j z ∙ u.unnamed j z;
     numbers = λ l g final h k e a.
@@ -77,7 +76,6 @@ defined-two {s = s} {s₁ = s₁} {s₂ = s₂} both value make p once is val r 
   more = omega (arith, r.more, q.more);
   few = omega (arith, p.hold each, r.few, q.few);
   same_top = q.same_top ∙ r.same_top;
-  long = q.long ∙ r.long;
   elsewhere = both-else s.ids s₁.ids s₂.ids p r.elsewhere q.elsewhere;
   unnamed = λ j z. q.unnamed j z ∙ r.unnamed j z;
   numbers = λ l g final h k e a.
@@ -92,7 +90,6 @@ defined-none is = record {
   more = omega arith;
   few = omega arith;
   same_top = refl;
-  long = refl;
   elsewhere = λ j l. refl;
   unnamed = λ j l. refl;
   numbers = λ l g final h k e a. (l, (g.globals, (rw (← e) (is l g final), (h, k))));

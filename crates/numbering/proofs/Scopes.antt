@@ -75,7 +75,6 @@ bound-none {s = s} is = record {
   undo-below = λ i l. refl;
   undo-names = λ i l m. absurd (omega arith);
   unwinds = unwound-none s.undo s.top s.locals (omega arith);
-  long = refl;
   elsewhere = λ j l. refl;
   unnamed = λ j l. refl;
   numbers = λ l g final h e a. (l, (rw (← e) (is l g final), h));
@@ -103,7 +102,6 @@ bound-one {named} x k {s} nk xl kl tl z is = rw is (record {
   unwinds =
       let e : s.top + 1 - s.top ≡ 1 = omega arith in
       rw e (unwound-bound s.undo s.top x (s.next + 1) s.locals (omega (arith, z.entries)) (omega (arith, z.rows)));
-  long = simp length-set;
   elsewhere = λ j l. get_or-set_other s.ids k j s.next 0 (λ (e : j ≡ k). let q : same j k ≡ 1 = rw e (same-yes k) in omega arith);
   unnamed = λ j l. get_or-set_other s.ids k j s.next 0 (λ (e : j ≡ k). not-both (rw e at l) nk);
   numbers = λ l g final h e a.
@@ -131,7 +129,6 @@ bound-as-is f' value' make p is val r = record {
   undo-below = r.undo-below;
   undo-names = r.undo-names;
   unwinds = r.unwinds;
-  long = r.long;
   elsewhere = λ j z. r.elsewhere j (omega (arith, p (same j)));
   unnamed = r.unnamed;
   numbers = λ l g final h e a.
@@ -164,7 +161,6 @@ bound-two {s = s} {s₁ = s₁} {s₂ = s₂} both value make p room is val r q 
       ∙ ap (unwound s₂.undo s.top (s₁.top - s.top)) q.unwinds
       ∙ unwound-same s₁.undo s₂.undo s.top (s₁.top - s.top) s₁.locals (λ i l. q.undo-below i (omega arith))
       ∙ r.unwinds;
-  long = q.long ∙ r.long;
   elsewhere = both-else s.ids s₁.ids s₂.ids p r.elsewhere q.elsewhere;
   unnamed = λ j z. q.unnamed j z ∙ r.unnamed j z;
   numbers = λ l g final h e a.
@@ -183,7 +179,6 @@ walked_none is = record {
   same_top = refl;
   same_locals = refl;
   undo-below = λ i l. refl;
-  long = refl;
   elsewhere = λ j l. refl;
   unnamed = λ j l. refl;
   numbers = λ l g final h k e a. (g.globals, (rw (← e) (is l g final), k));
@@ -199,7 +194,6 @@ walked-variable x k {s} {id} {s'} nk kl c = record {
   same_top = c.rest.same_top;
   same_locals = c.rest.same_locals;
   undo-below = λ i l. ap (λ (u : List Undo). undone u i) c.rest.same_undo;
-  long = simp length-set (ap length c.rest.same_ids);
   elsewhere = λ j l. get_or-set_other s'.ids k j id 0 (λ (e : j ≡ k). let q : same j k ≡ 1 = rw e (same-yes k) in omega arith) ∙ same-id j;
   unnamed = λ j l. get_or-set_other s'.ids k j id 0 (λ (e : j ≡ k). not-both (rw e at l) nk) ∙ same-id j;
   numbers = λ l g final h m e a.
@@ -222,7 +216,6 @@ walked-as-is f' value' make p is val r = record {
   same_top = r.same_top;
   same_locals = r.same_locals;
   undo-below = r.undo-below;
-  long = r.long;
   elsewhere = λ j z. r.elsewhere j (omega (arith, p (same j)));
   unnamed = r.unnamed;
   numbers = λ l g final h k e a.
@@ -241,7 +234,6 @@ walked-two {s = s} {s₁ = s₁} {s₂ = s₂} both value make p room is val r q
   same_top = q.same_top ∙ r.same_top;
   same_locals = q.same_locals ∙ r.same_locals;
   undo-below = λ i l. q.undo-below i (omega (arith, r.same_top)) ∙ r.undo-below i l;
-  long = q.long ∙ r.long;
   elsewhere = both-else s.ids s₁.ids s₂.ids p r.elsewhere q.elsewhere;
   unnamed = λ j z. q.unnamed j z ∙ r.unnamed j z;
   numbers = λ l g final h k e a.
@@ -266,7 +258,6 @@ walked-scope {s = s} {s₁ = s₁} {s₂ = s₂} both value make p room is val r
       ∙ unwound-same s₁.undo s₂.undo s.top (s₁.top - s.top) s₁.locals (λ i l. q.undo-below i (omega (arith, r.entries)))
       ∙ r.unwinds;
   undo-below = λ i l. q.undo-below i (omega (arith, r.entries)) ∙ r.undo-below i l;
-  long = q.long ∙ r.long;
   elsewhere = both-else s.ids s₁.ids s₂.ids p r.elsewhere q.elsewhere;
   unnamed = λ j z. q.unnamed j z ∙ r.unnamed j z;
   numbers = λ l g final h k e a.

@@ -183,7 +183,6 @@ pub record Bound {A : Type 0} (named : ℕ → Bool) (w : (ℕ → ℕ) → ℕ)
   pub undo-below : SameBelow s.top s.undo s'.undo
   pub undo-names : (i : ℕ) → s.top ≤ i → i < s'.top → (undone s'.undo i).name < NAMES
   pub unwinds : unwound s'.undo s.top (s'.top - s.top) s'.locals ≡ s.locals
-  pub long : length s'.ids ≡ length s.ids
   pub elsewhere : Else w s.ids s'.ids
   pub unnamed : (j : ℕ) → named j ≡ false → get_or s'.ids j 0 ≡ get_or s.ids j 0
   pub numbers : (l : Ids) (g : Names) (final : List ℕ) → Holds s.locals l → g.next ≡ s.next → Agree w s'.ids final
@@ -196,7 +195,6 @@ pub record Walked {A : Type 0} (named : ℕ → Bool) (w : (ℕ → ℕ) → ℕ
   pub same_top : s'.top ≡ s.top
   pub same_locals : s'.locals ≡ s.locals
   pub undo-below : SameBelow s.top s.undo s'.undo
-  pub long : length s'.ids ≡ length s.ids
   pub elsewhere : Else w s.ids s'.ids
   pub unnamed : (j : ℕ) → named j ≡ false → get_or s'.ids j 0 ≡ get_or s.ids j 0
   pub numbers : (l : Ids) (g : Names) (final : List ℕ) → Holds s.locals l → Holds s.globals g.globals → g.next ≡ s.next → Agree w s'.ids final
@@ -279,7 +277,6 @@ pub record Defined {A : Type 0} (named : ℕ → Bool) (w : (ℕ → ℕ) → �
   pub more : s.next ≤ s'.next
   pub few : s'.next ≤ s.next + w each
   pub same_top : s'.top ≡ s.top
-  pub long : length s'.ids ≡ length s.ids
   pub elsewhere : Else w s.ids s'.ids
   pub unnamed : (j : ℕ) → named j ≡ false → get_or s'.ids j 0 ≡ get_or s.ids j 0
   pub numbers : (l : Ids) (g : Names) (final : List ℕ) → Holds s.locals l → Holds s.globals g.globals → g.next ≡ s.next → Agree w s'.ids final
@@ -316,7 +313,6 @@ pub record Published (b : List ℕ) (list m i : ℕ) (s : Scopes) (public : List
   pub more : s.next ≤ s'.next
   pub few : s'.next ≤ s.next + m
   pub rest : OnlyGlobals s s'
-  pub long : length public' ≡ length public
   pub before : (j : ℕ) → j < i → get_or public' j 0 ≡ get_or public j 0
   pub behind : (j : ℕ) → i + m ≤ j → get_or public' j 0 ≡ get_or public j 0
   pub numbers : (g : Names) → Holds s.locals [] → Holds s.globals g.globals → g.next ≡ s.next →
