@@ -1,8 +1,8 @@
--- `test_report::print_line` meets its contract.
+-- `test_report::tell` meets its contract.
 use Rattle.std.proofs.Common.{◌≡◌, length, take, ◌∙◌, ap, subst}
 use Rattle.streams.specs.Streams.{Whole}
 use Rattle.test_report.specs.Lines.{LINE, filled}
-use Rattle.test_report.proofs.print_line.Goals as goal
+use Rattle.test_report.proofs.tell.Goals as goal
 
 pub returns : goal.returns
 returns g c =
