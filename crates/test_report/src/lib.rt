@@ -118,6 +118,7 @@ pub fn tell_last(rt: &(impl Print + Eprint), text: &[u8], counts: &[u64]) -> Res
 }
 
 // How many cases came to each kind, and the kind of those that differ.
+#[derive(Drop)]
 pub struct Counts<const KINDS: usize> {
     pub of: [u64; KINDS],
     pub different: usize,
@@ -211,6 +212,20 @@ impl<const KINDS: usize> Counts<KINDS> {
             Err(Stop::Broken) => self.finish_broken(rt, at, text),
             Err(Stop::Failed) => Err(Failed),
         }
+    }
+}
+
+// The counts of most programs, and the text that says them.
+pub const KINDS_OF_CASES: usize = 3;
+
+pub const CASES_TEXT: &[u8] = b"# accepted, # refused, # differ\n";
+
+impl Counts<KINDS_OF_CASES> {
+    // The counts of verdicts.
+    pub fn of_verdicts() -> Counts<KINDS_OF_CASES>
+        ensures { (result.of ≡ replicate 3 0) × (result.different ≡ 2) }
+    {
+        Counts::new(Verdict::Different as usize)
     }
 }
 
