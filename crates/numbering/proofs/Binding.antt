@@ -5,10 +5,11 @@ use mathlib.Core.List.{List, [], ◌∷◌}
 use native.Mathlib.Omega.{arith}
 use mathlib.Core.Logic.{◌⊎◌, inl, inr, ⊎_elim}
 use lib.IntN.{ℤ}
-use Rattle.source.specs.declared.Entry.{Entry}
+use Rattle.std.specs.Prelude.{Some}
+use Rattle.source.specs.declared.Node.{Node}
 use Rattle.source.specs.declared.Shape.{Shape}
 use Rattle.source.specs.declared.Chain.{Chain}
-use Rattle.source.specs.declared.Child.{Child}
+use Rattle.source.specs.Children.{Child}
 use Rattle.source.specs.Trees.{Pat}
 use Rattle.source.specs.Nodes.{entry_of, children_of, three, is_pattern, item_fits}
 use Rattle.source.specs.Record.{tree, pattern_of}
@@ -24,7 +25,7 @@ use Rattle.numbering.proofs.Children.{Child-facts, child-facts, pattern-child, n
 use Rattle.numbering.proofs.Scopes.{Parts, room-first, room-inner, bound-none, bound-one, bound-as-is, bound-two}
 
 abbrev pub Paired : Shape → ℕ → ℕ → Type 0
-Paired f p q = children_of (Entry.Pattern f) ≡ three (Child.Pattern p) (Child.Pattern q) Child.Nothing
+Paired f p q = children_of (Some (Node.Pattern f)) ≡ three (Child.Pattern p) (Child.Pattern q) Child.Nothing
 
 pub paired : {f : Shape} {p q : ℕ} → (f ≡ Shape.Product p q) ⊎ (f ≡ Shape.Cons p q) → Paired f p q
 paired (inl e) = rw e refl
@@ -32,21 +33,21 @@ paired (inr e) = rw e refl
 
 module _ (b : List ℕ) (at n k : ℕ) {s : Scopes} (R : Ready b at n is_pattern k s) where
   -- two patterns
-  pair-facts : {f : Shape} {p q : ℕ} → entry_of b at k ≡ Entry.Pattern f → Paired f p q
+  pair-facts : {f : Shape} {p q : ℕ} → entry_of b at k ≡ Some (Node.Pattern f) → Paired f p q
       → Child-facts b at n R.walk k (Child.Pattern p) (Child.Pattern q) Child.Nothing
   pair-facts e r = child-facts b at n R.walk k R.below _ _ _ e r
 
-  pair_parts : {f : Shape} {p q : ℕ} → entry_of b at k ≡ Entry.Pattern f → Paired f p q
+  pair_parts : {f : Shape} {p q : ℕ} → entry_of b at k ≡ Some (Node.Pattern f) → Paired f p q
       → Parts (λ own. weight b at own k) (λ own. weight b at own p) (λ own. weight b at own q)
   unfolding child_weight
   pair_parts e r = record { hold = λ own. omega (arith, (pair-facts e r).weighs own) }
 
-  pub pair-first : {f : Shape} {p q : ℕ} → entry_of b at k ≡ Entry.Pattern f → Paired f p q → (p < k) × Ready b at n is_pattern p s
+  pub pair-first : {f : Shape} {p q : ℕ} → entry_of b at k ≡ Some (Node.Pattern f) → Paired f p q → (p < k) × Ready b at n is_pattern p s
   pair-first {f} {p} {q} e r =
       let c = pattern-child b at n R.walk k p (pair-facts e r).first_fits in
       (c.0, record { walk = R.walk; below = omega (arith, c.0, R.below); sorted = c.1; room = room-first (pair_parts e r) R.room })
 
-  pub pair-second : {f : Shape} {p q : ℕ} {s₁ : Scopes} → entry_of b at k ≡ Entry.Pattern f → Paired f p q → PatternWalk b at n p s s₁
+  pub pair-second : {f : Shape} {p q : ℕ} {s₁ : Scopes} → entry_of b at k ≡ Some (Node.Pattern f) → Paired f p q → PatternWalk b at n p s s₁
       → (q < k) × Ready b at n is_pattern q s₁
   pair-second {f} {p} {q} e r u =
       let c = pattern-child b at n R.walk k q (pair-facts e r).second_fits in (
@@ -55,20 +56,20 @@ module _ (b : List ℕ) (at n k : ℕ) {s : Scopes} (R : Ready b at n is_pattern
       )
 
   -- a pattern with a name
-  as-facts : {p x : ℕ} → entry_of b at k ≡ Entry.Pattern (Shape.As p x) → Child-facts b at n R.walk k (Child.Pattern p) (Child.Name x) Child.Nothing
+  as-facts : {p x : ℕ} → entry_of b at k ≡ Some (Node.Pattern (Shape.As p x)) → Child-facts b at n R.walk k (Child.Pattern p) (Child.Name x) Child.Nothing
   as-facts e = child-facts b at n R.walk k R.below _ _ _ e refl
 
-  as_parts : {p x : ℕ} → entry_of b at k ≡ Entry.Pattern (Shape.As p x) → Parts (λ own. weight b at own k) (λ own. weight b at own p) (λ own. own k)
+  as_parts : {p x : ℕ} → entry_of b at k ≡ Some (Node.Pattern (Shape.As p x)) → Parts (λ own. weight b at own k) (λ own. weight b at own p) (λ own. own k)
   unfolding child_weight
   as_parts e = record { hold = λ own. omega (arith, (as-facts e).weighs own) }
 
-  pub as_first : {p x : ℕ} → entry_of b at k ≡ Entry.Pattern (Shape.As p x) → (p < k) × Ready b at n is_pattern p s
+  pub as_first : {p x : ℕ} → entry_of b at k ≡ Some (Node.Pattern (Shape.As p x)) → (p < k) × Ready b at n is_pattern p s
   as_first {p} {x} e =
       let c = pattern-child b at n R.walk k p (as-facts e).first_fits in
       (c.0, record { walk = R.walk; below = omega (arith, c.0, R.below); sorted = c.1; room = room-first (as_parts e) R.room })
 
   -- what `bind` asks
-  pub as-bind : {p x : ℕ} {s₁ : Scopes} → entry_of b at k ≡ Entry.Pattern (Shape.As p x) → PatternWalk b at n p s s₁
+  pub as-bind : {p x : ℕ} {s₁ : Scopes} → entry_of b at k ≡ Some (Node.Pattern (Shape.As p x)) → PatternWalk b at n p s s₁
       → ((x < 512) × (k < 2048)) × ((s₁.next < 65536) × (s₁.top < 2048))
   unfolding each
   as-bind {p} {x} e u =
@@ -77,10 +78,10 @@ module _ (b : List ℕ) (at n k : ℕ) {s : Scopes} (R : Ready b at n is_pattern
         (omega (arith, r.ids), omega (arith, r.entries)),
       )
 
-  variable-facts : {x : ℕ} → entry_of b at k ≡ Entry.Pattern (Shape.Variable x) → Child-facts b at n R.walk k (Child.Name x) Child.Nothing Child.Nothing
+  variable-facts : {x : ℕ} → entry_of b at k ≡ Some (Node.Pattern (Shape.Variable x)) → Child-facts b at n R.walk k (Child.Name x) Child.Nothing Child.Nothing
   variable-facts e = child-facts b at n R.walk k R.below _ _ _ e refl
 
-  pub variable-bind : {x : ℕ} → entry_of b at k ≡ Entry.Pattern (Shape.Variable x) → ((x < 512) × (k < 2048)) × ((s.next < 65536) × (s.top < 2048))
+  pub variable-bind : {x : ℕ} → entry_of b at k ≡ Some (Node.Pattern (Shape.Variable x)) → ((x < 512) × (k < 2048)) × ((s.next < 65536) × (s.top < 2048))
   unfolding each child_weight
   variable-bind {x} e =
       let w = (variable-facts e).weighs each in (
@@ -89,7 +90,7 @@ module _ (b : List ℕ) (at n k : ℕ) {s : Scopes} (R : Ready b at n is_pattern
       )
 
   module _ {s₁ s₂ : Scopes} where
-    pub product-way : {p q : ℕ} → entry_of b at k ≡ Entry.Pattern (Shape.Product p q) → PatternWalk b at n p s s₁ → PatternWalk b at n q s₁ s₂
+    pub product-way : {p q : ℕ} → entry_of b at k ≡ Some (Node.Pattern (Shape.Product p q)) → PatternWalk b at n p s s₁ → PatternWalk b at n q s₁ s₂
         → PatternWalk b at n k s s₂
     unfolding number_pattern_variables ◌>>=◌ return entry_with shape_with
     product-way {p} {q} e u v =
@@ -100,7 +101,7 @@ module _ (b : List ℕ) (at n k : ℕ) {s : Scopes} (R : Ready b at n is_pattern
         (λ t. product_p-is (numbered_tree t b at) _ (numbered-grow t b at) n k R.below (entry-with t b at k e) i j)
         u v
 
-    pub cons-way : {p q : ℕ} → entry_of b at k ≡ Entry.Pattern (Shape.Cons p q) → PatternWalk b at n p s s₁ → PatternWalk b at n q s₁ s₂
+    pub cons-way : {p q : ℕ} → entry_of b at k ≡ Some (Node.Pattern (Shape.Cons p q)) → PatternWalk b at n p s s₁ → PatternWalk b at n q s₁ s₂
         → PatternWalk b at n k s s₂
     unfolding number_pattern_variables ◌>>=◌ return entry_with shape_with
     cons-way {p} {q} e u v =
@@ -111,12 +112,12 @@ module _ (b : List ℕ) (at n k : ℕ) {s : Scopes} (R : Ready b at n is_pattern
         (λ t. cons_p-is (numbered_tree t b at) _ (numbered-grow t b at) n k R.below (entry-with t b at k e) i j)
         u v
 
-    pub pair-way : {f : Shape} {p q : ℕ} → entry_of b at k ≡ Entry.Pattern f → (f ≡ Shape.Product p q) ⊎ (f ≡ Shape.Cons p q)
+    pub pair-way : {f : Shape} {p q : ℕ} → entry_of b at k ≡ Some (Node.Pattern f) → (f ≡ Shape.Product p q) ⊎ (f ≡ Shape.Cons p q)
         → PatternWalk b at n p s s₁ → PatternWalk b at n q s₁ s₂ → PatternWalk b at n k s s₂
-    pair-way e (inl i) u v = product-way (e ∙ ap Entry.Pattern i) u v
-    pair-way e (inr i) u v = cons-way (e ∙ ap Entry.Pattern i) u v
+    pair-way e (inl i) u v = product-way (e ∙ ap (λ (f : Shape). Some (Node.Pattern f)) i) u v
+    pair-way e (inr i) u v = cons-way (e ∙ ap (λ (f : Shape). Some (Node.Pattern f)) i) u v
 
-    pub as-way : {p x : ℕ} → entry_of b at k ≡ Entry.Pattern (Shape.As p x) → PatternWalk b at n p s s₁
+    pub as-way : {p x : ℕ} → entry_of b at k ≡ Some (Node.Pattern (Shape.As p x)) → PatternWalk b at n p s s₁
         → s₂ ≡ bound_to x k s₁ → Sized s₁ → PatternWalk b at n k s s₂
     unfolding number_pattern_variables ◌>>=◌ return generate_id entry_with shape_with bears is_name
     as-way {p} {x} e u v z =
@@ -129,7 +130,7 @@ module _ (b : List ℕ) (at n k : ℕ) {s : Scopes} (R : Ready b at n is_pattern
         u
         (bound-one x k (ap bears e) q.0.0 q.0.1 q.1.1 z v)
 
-  pub variable-way : {x : ℕ} {s₁ : Scopes} → entry_of b at k ≡ Entry.Pattern (Shape.Variable x) → s₁ ≡ bound_to x k s → Sized s → PatternWalk b at n k s s₁
+  pub variable-way : {x : ℕ} {s₁ : Scopes} → entry_of b at k ≡ Some (Node.Pattern (Shape.Variable x)) → s₁ ≡ bound_to x k s → Sized s → PatternWalk b at n k s s₁
   unfolding number_pattern_variables ◌>>=◌ return generate_id entry_with shape_with pattern_of bears is_name
   variable-way {x} e v z =
       let q = variable-bind e in
@@ -140,24 +141,24 @@ module _ (b : List ℕ) (at n k : ℕ) {s : Scopes} (R : Ready b at n is_pattern
       (bound-one x k (ap bears e) q.0.0 q.0.1 q.1.1 z v)
 
   -- patterns that bind nothing
-  pub leaf-way : {f : Shape} → entry_of b at k ≡ Entry.Pattern f → ((c : ℤ) × (f ≡ Shape.Constant c)) ⊎ ((f ≡ Shape.Unit) ⊎ (f ≡ Shape.Nil))
+  pub leaf-way : {f : Shape} → entry_of b at k ≡ Some (Node.Pattern f) → ((c : ℤ) × (f ≡ Shape.Constant c)) ⊎ ((f ≡ Shape.Unit) ⊎ (f ≡ Shape.Nil))
       → PatternWalk b at n k s s
   unfolding number_pattern_variables return entry_with shape_with pattern_of
   leaf-way e (inl (c, i)) = bound-none (λ l g t. rw (
-    stem-is (tree b at) (entry_of b at) (trees-grow b at) n k R.below (e ∙ ap Entry.Pattern i),
-    stem-is (numbered_tree t b at) _ (numbered-grow t b at) n k R.below (entry-with t b at k (e ∙ ap Entry.Pattern i)),
+    stem-is (tree b at) (entry_of b at) (trees-grow b at) n k R.below (e ∙ ap (λ (f : Shape). Some (Node.Pattern f)) i),
+    stem-is (numbered_tree t b at) _ (numbered-grow t b at) n k R.below (entry-with t b at k (e ∙ ap (λ (f : Shape). Some (Node.Pattern f)) i)),
   ))
   leaf-way e (inr (inl i)) = bound-none (λ l g t. rw (
-    stem-is (tree b at) (entry_of b at) (trees-grow b at) n k R.below (e ∙ ap Entry.Pattern i),
-    stem-is (numbered_tree t b at) _ (numbered-grow t b at) n k R.below (entry-with t b at k (e ∙ ap Entry.Pattern i)),
+    stem-is (tree b at) (entry_of b at) (trees-grow b at) n k R.below (e ∙ ap (λ (f : Shape). Some (Node.Pattern f)) i),
+    stem-is (numbered_tree t b at) _ (numbered-grow t b at) n k R.below (entry-with t b at k (e ∙ ap (λ (f : Shape). Some (Node.Pattern f)) i)),
   ))
   leaf-way e (inr (inr i)) = bound-none (λ l g t. rw (
-    stem-is (tree b at) (entry_of b at) (trees-grow b at) n k R.below (e ∙ ap Entry.Pattern i),
-    stem-is (numbered_tree t b at) _ (numbered-grow t b at) n k R.below (entry-with t b at k (e ∙ ap Entry.Pattern i)),
+    stem-is (tree b at) (entry_of b at) (trees-grow b at) n k R.below (e ∙ ap (λ (f : Shape). Some (Node.Pattern f)) i),
+    stem-is (numbered_tree t b at) _ (numbered-grow t b at) n k R.below (entry-with t b at k (e ∙ ap (λ (f : Shape). Some (Node.Pattern f)) i)),
   ))
 
 -- parameters
-module _ (b : List ℕ) (at n l : ℕ) {s : Scopes} (R : ReadyChain b at n Chain.Parameters l s) {x y z : ℕ} (e : entry_of b at l ≡ Entry.Link x y z) where
+module _ (b : List ℕ) (at n l : ℕ) {s : Scopes} (R : ReadyChain b at n Chain.Parameters l s) {x y z : ℕ} (e : entry_of b at l ≡ Some (Node.Link x y z)) where
   facts : Link-facts b at n R.walk Chain.Parameters l x y z
   facts = link-facts b at n R.walk Chain.Parameters l R.below R.chained e
 

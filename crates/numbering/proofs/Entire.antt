@@ -8,12 +8,12 @@ use lib.ListN.{length, get_or, replicate}
 use borrow.Author.Tests.{eqb-true}
 use Rattle.source.specs.declared.Layout.{Layout}
 use Rattle.source.specs.Trees.{Pat, Expr}
-use Rattle.source.specs.Indices.{total, rows}
+use Rattle.marks.specs.Indices.{total, rows, same}
 use Rattle.source.specs.Layout.{names, publics, definitions, expressions, nodes, publics_offset, definitions_offset, expressions_offset, nodes_offset, text_offset, layout_of}
 use Rattle.source.specs.Layout.{definition_entry, expression_root, NAME-WORDS, DEFINITION-WORDS}
 use Rattle.source.specs.Names.{names_fit, name_of}
 use Rattle.source.specs.Nodes.{pattern_fits, publics_fit, definitions_fit, expressions_fit}
-use Rattle.source.specs.Uses.{same, by_nodes, by_definitions, by_expressions}
+use Rattle.source.specs.Uses.{by_nodes, by_definitions, by_expressions}
 use Rattle.source.specs.Record.{Read, module_of, used_once}
 use Rattle.source.specs.Readable.{Readable}
 use Rattle.std.specs.Prelude.{Err}

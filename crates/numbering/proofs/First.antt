@@ -12,7 +12,7 @@ use lib.Dec.{eqb}
 use lib.Pointwise.{pointwise}
 use borrow.Author.Tests.{eqb-true, ltb-true}
 use Rattle.source.specs.Trees.{Text}
-use Rattle.source.specs.Indices.{every, rows}
+use Rattle.marks.specs.Indices.{every, rows}
 use Rattle.source.specs.Names.{offset_of, length_of, end_of, name_fits, names_fit, name_of}
 use Rattle.source.specs.Nodes.{publics_fit}
 use Rattle.source.specs.Layout.{name_entry, public_at}

@@ -6,9 +6,8 @@ use mathlib.Core.Bool.{Bool, true}
 use native.Mathlib.Numerals.{add-one}
 use native.Mathlib.Omega.{arith}
 use lib.ListN.{get_or}
-use Rattle.source.specs.Indices.{rows}
+use Rattle.marks.specs.Indices.{rows, same}
 use Rattle.source.specs.Nodes.{is_expression, is_pattern, pattern_fits, definitions_fit, expressions_fit}
-use Rattle.source.specs.Uses.{same}
 use Rattle.source.specs.Record.{definition_at, expression_at}
 use Rattle.source.specs.Layout.{definition_entry, expression_root}
 use Rattle.numbering.specs.Numbering.{Ids, Names, Naming, ◌>>=◌, return, number_def_variables, number_definitions, number_expressions}

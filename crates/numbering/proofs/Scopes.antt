@@ -8,7 +8,7 @@ use native.Mathlib.Numerals.{add-one}
 use native.Mathlib.Omega.{arith}
 use lib.ListN.{length, get_or, set, length-set}
 use lib.Seq.{get_or-set_same, get_or-set_other}
-use Rattle.source.specs.Uses.{same}
+use Rattle.marks.specs.Indices.{same}
 use Rattle.numbering.specs.Numbering.{Ids, Names, Naming, number_variable}
 use Rattle.numbering.specs.Walks.{names, undone, unwound, bound_to, unwound_to, each, Sized, Room, Else, Agree, Bound, Walked, Chosen}
 use Rattle.numbering.specs.declared.rows.Scopes.{Scopes}

@@ -6,8 +6,7 @@ use mathlib.Core.Logic.{⊎_elim}
 use native.Mathlib.Nat.{add-mul, one-mul, zero-mul}
 use native.Mathlib.Omega.{arith}
 use borrow.Author.Tests.{eq-eqb, ne_eqb}
-use Rattle.source.specs.Indices.{total, pick}
-use Rattle.source.specs.Uses.{same}
+use Rattle.marks.specs.Indices.{total, pick, same}
 use Rattle.numbering.proofs.Laws.{alike}
 
 pub total-same : (n : ℕ) (f g : ℕ → ℕ) → ((k : ℕ) → k < n → f k ≡ g k) → total n f ≡ total n g

@@ -10,11 +10,10 @@ use lib.ListN.{length, get_or, replicate, length-replicate, get_or-eq_default}
 use lib.Seq.{ext_get_or}
 use borrow.Author.Tests.{eq-eqb, ne_eqb}
 use Rattle.source.specs.Trees.{Pat, Expr, Module}
-use Rattle.source.specs.Indices.{total, rows, pick}
+use Rattle.marks.specs.Indices.{total, rows, pick, same}
 use Rattle.source.specs.Layout.{publics, definitions, expressions, nodes, publics_offset, definitions_offset, expressions_offset, nodes_offset}
 use Rattle.source.specs.Layout.{public_at, definition_entry, expression_root}
 use Rattle.source.specs.Nodes.{entry_of, pattern_fits, definitions_fit, expressions_fit}
-use Rattle.source.specs.Uses.{same}
 use Rattle.source.specs.Record.{Read, source_of, module_of, tree, definition_at, expression_at}
 use Rattle.source.specs.Readable.{Readable}
 use Rattle.source.proofs.Accepted.{accepted-readable, accepted-module}

@@ -8,10 +8,11 @@ use native.Mathlib.Omega.{arith}
 use lib.ListN.{length, set}
 use lib.IntN.{ℤ}
 use Rattle.field.specs.declared.InfixOp.{InfixOp}
-use Rattle.source.specs.declared.Entry.{Entry}
+use Rattle.std.specs.Prelude.{Some}
+use Rattle.source.specs.declared.Node.{Node}
 use Rattle.source.specs.declared.Form.{Form}
 use Rattle.source.specs.declared.Chain.{Chain}
-use Rattle.source.specs.declared.Child.{Child}
+use Rattle.source.specs.Children.{Child}
 use Rattle.source.specs.Trees.{Pat, Expr, Items, Arms, Env}
 use Rattle.source.specs.Nodes.{entry_of, children_of, three, is_expression, is_pattern, item_fits, result_fits}
 use Rattle.source.specs.Record.{tree, expression_of}
@@ -82,7 +83,7 @@ module _ (b : List ℕ) (at n p y : ℕ) {s : Scopes} (R : ReadyFunction b at n 
       body-way w = walked-scope _ _ (λ p q. (p, q)) function-parts R.room (λ l t p l₁ t₁ q t₂ g h. rw (g, h)) (λ t. refl) u v w
 
 -- ---- items
-module _ (b : List ℕ) (at n l : ℕ) {s : Scopes} (R : ReadyChain b at n Chain.Items l s) {x y z : ℕ} (e : entry_of b at l ≡ Entry.Link x y z) where
+module _ (b : List ℕ) (at n l : ℕ) {s : Scopes} (R : ReadyChain b at n Chain.Items l s) {x y z : ℕ} (e : entry_of b at l ≡ Some (Node.Link x y z)) where
   items-facts : Link-facts b at n R.walk Chain.Items l x y z
   items-facts = link-facts b at n R.walk Chain.Items l R.below R.chained e
 
@@ -132,7 +133,7 @@ module _ (b : List ℕ) (at n l : ℕ) {s : Scopes} (R : ReadyChain b at n Chain
       u v
 
 -- ---- arms
-module _ (b : List ℕ) (at n l : ℕ) {s : Scopes} (R : ReadyChain b at n Chain.Arms l s) {x y z : ℕ} (e : entry_of b at l ≡ Entry.Link x y z) where
+module _ (b : List ℕ) (at n l : ℕ) {s : Scopes} (R : ReadyChain b at n Chain.Arms l s) {x y z : ℕ} (e : entry_of b at l ≡ Some (Node.Link x y z)) where
   arms-facts : Link-facts b at n R.walk Chain.Arms l x y z
   arms-facts = link-facts b at n R.walk Chain.Arms l R.below R.chained e
 
@@ -202,7 +203,7 @@ module _ (b : List ℕ) (at n l : ℕ) {s : Scopes} (R : ReadyChain b at n Chain
 -- ---- an expression
 
 abbrev pub Two : Form → ℕ → ℕ → Type 0
-Two f x y = children_of (Entry.Expression f) ≡ three (Child.Expression x) (Child.Expression y) Child.Nothing
+Two f x y = children_of (Some (Node.Expression f)) ≡ three (Child.Expression x) (Child.Expression y) Child.Nothing
 
 -- the forms with two operands
 abbrev pub Operands : Form → ℕ → ℕ → Type 0
@@ -215,21 +216,21 @@ operands (inr (inr (inl (o, e)))) = rw e refl
 operands (inr (inr (inr e))) = rw e refl
 
 module _ (b : List ℕ) (at n k : ℕ) {s : Scopes} (R : Ready b at n is_expression k s) where
-  two_facts : {f : Form} {x y : ℕ} → entry_of b at k ≡ Entry.Expression f → Two f x y
+  two_facts : {f : Form} {x y : ℕ} → entry_of b at k ≡ Some (Node.Expression f) → Two f x y
       → Child-facts b at n R.walk k (Child.Expression x) (Child.Expression y) Child.Nothing
   two_facts e r = child-facts b at n R.walk k R.below _ _ _ e r
 
-  two-parts : {f : Form} {x y : ℕ} → entry_of b at k ≡ Entry.Expression f → Two f x y
+  two-parts : {f : Form} {x y : ℕ} → entry_of b at k ≡ Some (Node.Expression f) → Two f x y
       → Parts (λ own. weight b at own k) (λ own. weight b at own x) (λ own. weight b at own y)
   unfolding child_weight
   two-parts e r = record { hold = λ own. omega (arith, (two_facts e r).weighs own) }
 
-  pub two-first : {f : Form} {x y : ℕ} → entry_of b at k ≡ Entry.Expression f → Two f x y → (x < k) × Ready b at n is_expression x s
+  pub two-first : {f : Form} {x y : ℕ} → entry_of b at k ≡ Some (Node.Expression f) → Two f x y → (x < k) × Ready b at n is_expression x s
   two-first {f} {x} {y} e r =
       let i = expression-child b at n R.walk k x (two_facts e r).first_fits in
       (i.0, record { walk = R.walk; below = omega (arith, i.0, R.below); sorted = i.1; room = room-first (two-parts e r) R.room })
 
-  pub two-second : {f : Form} {x y : ℕ} {s₁ : Scopes} → entry_of b at k ≡ Entry.Expression f → Two f x y → ExpressionWalk b at n x s s₁
+  pub two-second : {f : Form} {x y : ℕ} {s₁ : Scopes} → entry_of b at k ≡ Some (Node.Expression f) → Two f x y → ExpressionWalk b at n x s s₁
       → (y < k) × Ready b at n is_expression y s₁
   two-second {f} {x} {y} e r u =
       let i = expression-child b at n R.walk k y (two_facts e r).second_fits in
@@ -239,7 +240,7 @@ module _ (b : List ℕ) (at n k : ℕ) {s : Scopes} (R : Ready b at n is_express
   least h = record { hold = λ own. omega (arith, h own) }
 
   module _ {x y : ℕ} {s₁ s₂ : Scopes} where
-    pub product-way : entry_of b at k ≡ Entry.Expression (Form.Product x y) → ExpressionWalk b at n x s s₁ → ExpressionWalk b at n y s₁ s₂
+    pub product-way : entry_of b at k ≡ Some (Node.Expression (Form.Product x y)) → ExpressionWalk b at n x s s₁ → ExpressionWalk b at n y s₁ s₂
         → ExpressionWalk b at n k s s₂
     unfolding number_expr_variables ◌>>=◌ return entry_with form_with
     product-way e u v =
@@ -250,7 +251,7 @@ module _ (b : List ℕ) (at n k : ℕ) {s : Scopes} (R : Ready b at n is_express
         (λ t. product_is (numbered_tree t b at) _ (numbered-grow t b at) n k R.below (entry-with t b at k e) i j)
         u v
 
-    pub cons-way : entry_of b at k ≡ Entry.Expression (Form.Cons x y) → ExpressionWalk b at n x s s₁ → ExpressionWalk b at n y s₁ s₂
+    pub cons-way : entry_of b at k ≡ Some (Node.Expression (Form.Cons x y)) → ExpressionWalk b at n x s s₁ → ExpressionWalk b at n y s₁ s₂
         → ExpressionWalk b at n k s s₂
     unfolding number_expr_variables ◌>>=◌ return entry_with form_with
     cons-way e u v =
@@ -261,7 +262,7 @@ module _ (b : List ℕ) (at n k : ℕ) {s : Scopes} (R : Ready b at n is_express
         (λ t. cons-is (numbered_tree t b at) _ (numbered-grow t b at) n k R.below (entry-with t b at k e) i j)
         u v
 
-    pub infix-way : {o : InfixOp} → entry_of b at k ≡ Entry.Expression (Form.Infix o x y) → ExpressionWalk b at n x s s₁ → ExpressionWalk b at n y s₁ s₂
+    pub infix-way : {o : InfixOp} → entry_of b at k ≡ Some (Node.Expression (Form.Infix o x y)) → ExpressionWalk b at n x s s₁ → ExpressionWalk b at n y s₁ s₂
         → ExpressionWalk b at n k s s₂
     unfolding number_expr_variables ◌>>=◌ return entry_with form_with
     infix-way {o} e u v =
@@ -272,7 +273,7 @@ module _ (b : List ℕ) (at n k : ℕ) {s : Scopes} (R : Ready b at n is_express
         (λ t. infix-is (numbered_tree t b at) _ (numbered-grow t b at) n k R.below (entry-with t b at k e) i j)
         u v
 
-    pub application-way : entry_of b at k ≡ Entry.Expression (Form.Application x y) → ExpressionWalk b at n x s s₁ → ExpressionWalk b at n y s₁ s₂
+    pub application-way : entry_of b at k ≡ Some (Node.Expression (Form.Application x y)) → ExpressionWalk b at n x s s₁ → ExpressionWalk b at n y s₁ s₂
         → ExpressionWalk b at n k s s₂
     unfolding number_expr_variables ◌>>=◌ return entry_with form_with
     application-way e u v =
@@ -283,28 +284,28 @@ module _ (b : List ℕ) (at n k : ℕ) {s : Scopes} (R : Ready b at n is_express
         (λ t. application-is (numbered_tree t b at) _ (numbered-grow t b at) n k R.below (entry-with t b at k e) i j)
         u v
 
-    pub operands-way : {f : Form} → entry_of b at k ≡ Entry.Expression f → Operands f x y → ExpressionWalk b at n x s s₁ → ExpressionWalk b at n y s₁ s₂
+    pub operands-way : {f : Form} → entry_of b at k ≡ Some (Node.Expression f) → Operands f x y → ExpressionWalk b at n x s s₁ → ExpressionWalk b at n y s₁ s₂
         → ExpressionWalk b at n k s s₂
-    operands-way e (inl i) u v = product-way (e ∙ ap Entry.Expression i) u v
-    operands-way e (inr (inl i)) u v = cons-way (e ∙ ap Entry.Expression i) u v
-    operands-way e (inr (inr (inl (o, i)))) u v = infix-way (e ∙ ap Entry.Expression i) u v
-    operands-way e (inr (inr (inr i))) u v = application-way (e ∙ ap Entry.Expression i) u v
+    operands-way e (inl i) u v = product-way (e ∙ ap (λ (f : Form). Some (Node.Expression f)) i) u v
+    operands-way e (inr (inl i)) u v = cons-way (e ∙ ap (λ (f : Form). Some (Node.Expression f)) i) u v
+    operands-way e (inr (inr (inl (o, i)))) u v = infix-way (e ∙ ap (λ (f : Form). Some (Node.Expression f)) i) u v
+    operands-way e (inr (inr (inr i))) u v = application-way (e ∙ ap (λ (f : Form). Some (Node.Expression f)) i) u v
 
   -- negation
-  negate-facts : {x : ℕ} → entry_of b at k ≡ Entry.Expression (Form.Negate x) → Child-facts b at n R.walk k (Child.Expression x) Child.Nothing Child.Nothing
+  negate-facts : {x : ℕ} → entry_of b at k ≡ Some (Node.Expression (Form.Negate x)) → Child-facts b at n R.walk k (Child.Expression x) Child.Nothing Child.Nothing
   negate-facts e = child-facts b at n R.walk k R.below _ _ _ e refl
 
-  negate-least : {x : ℕ} → entry_of b at k ≡ Entry.Expression (Form.Negate x) → (own : ℕ → ℕ) → weight b at own x ≤ weight b at own k
+  negate-least : {x : ℕ} → entry_of b at k ≡ Some (Node.Expression (Form.Negate x)) → (own : ℕ → ℕ) → weight b at own x ≤ weight b at own k
   unfolding child_weight
   negate-least e own = omega (arith, (negate-facts e).weighs own)
 
-  pub negate-ready : {x : ℕ} → entry_of b at k ≡ Entry.Expression (Form.Negate x) → (x < k) × Ready b at n is_expression x s
+  pub negate-ready : {x : ℕ} → entry_of b at k ≡ Some (Node.Expression (Form.Negate x)) → (x < k) × Ready b at n is_expression x s
   negate-ready {x} e =
       let i = expression-child b at n R.walk k x (negate-facts e).first_fits in
       (i.0, record { walk = R.walk; below = omega (arith, i.0, R.below); sorted = i.1; room = room-first (least (negate-least e)) R.room })
 
   pub negate-way : {x : ℕ} {s₁ : Scopes}
-      → entry_of b at k ≡ Entry.Expression (Form.Negate x) → ExpressionWalk b at n x s s₁
+      → entry_of b at k ≡ Some (Node.Expression (Form.Negate x)) → ExpressionWalk b at n x s s₁
       → ExpressionWalk b at n k s s₁
   unfolding number_expr_variables ◌>>=◌ return entry_with form_with
   negate-way e u =
@@ -314,17 +315,17 @@ module _ (b : List ℕ) (at n k : ℕ) {s : Scopes} (R : Ready b at n is_express
       u
 
   -- a variable
-  variable-facts : {x : ℕ} → entry_of b at k ≡ Entry.Expression (Form.Variable x) → Child-facts b at n R.walk k (Child.Name x) Child.Nothing Child.Nothing
+  variable-facts : {x : ℕ} → entry_of b at k ≡ Some (Node.Expression (Form.Variable x)) → Child-facts b at n R.walk k (Child.Name x) Child.Nothing Child.Nothing
   variable-facts e = child-facts b at n R.walk k R.below _ _ _ e refl
 
-  pub variable-ready : {x : ℕ} → entry_of b at k ≡ Entry.Expression (Form.Variable x) → (x < 512) × ((s.next < 65536) × (k < 2048))
+  pub variable-ready : {x : ℕ} → entry_of b at k ≡ Some (Node.Expression (Form.Variable x)) → (x < 512) × ((s.next < 65536) × (k < 2048))
   unfolding each child_weight
   variable-ready {x} e = (
     name-child b at n R.walk k x (variable-facts e).first_fits,
     (omega (arith, (variable-facts e).weighs each, R.room.ids), omega (arith, R.below, R.walk.few-nodes)),
   )
 
-  pub variable-way : {x : ℕ} {id : ℕ} {s₁ : Scopes} → entry_of b at k ≡ Entry.Expression (Form.Variable x) → length s.ids ≡ 2048 → Chosen x s id s₁
+  pub variable-way : {x : ℕ} {id : ℕ} {s₁ : Scopes} → entry_of b at k ≡ Some (Node.Expression (Form.Variable x)) → length s.ids ≡ 2048 → Chosen x s id s₁
       → ExpressionWalk b at n k s (record s₁ { ids = set s₁.ids k id })
   unfolding number_expr_variables ◌>>=◌ return entry_with form_with expression_of bears is_name
   variable-way {x} e z c =
@@ -334,16 +335,16 @@ module _ (b : List ℕ) (at n k : ℕ) {s : Scopes} (R : Ready b at n is_express
       (walked-variable x k (ap bears e) (omega (arith, z, (variable-ready e).1.1)) c)
 
   -- a function
-  function-facts : {x y : ℕ} → entry_of b at k ≡ Entry.Expression (Form.Function x y)
+  function-facts : {x y : ℕ} → entry_of b at k ≡ Some (Node.Expression (Form.Function x y))
       → Child-facts b at n R.walk k (Child.Links Chain.Parameters x) (Child.Expression y) Child.Nothing
   function-facts e = child-facts b at n R.walk k R.below _ _ _ e refl
 
-  function-least : {x y : ℕ} → entry_of b at k ≡ Entry.Expression (Form.Function x y) → (own : ℕ → ℕ)
+  function-least : {x y : ℕ} → entry_of b at k ≡ Some (Node.Expression (Form.Function x y)) → (own : ℕ → ℕ)
       → chain_weight b at n own Chain.Parameters x + weight b at own y ≤ weight b at own k
   unfolding child_weight
   function-least e own = omega (arith, (function-facts e).weighs own)
 
-  pub function-ready : {x y : ℕ} → entry_of b at k ≡ Entry.Expression (Form.Function x y) → ((x < k) × (y < k)) × ReadyFunction b at n x y s
+  pub function-ready : {x y : ℕ} → entry_of b at k ≡ Some (Node.Expression (Form.Function x y)) → ((x < k) × (y < k)) × ReadyFunction b at n x y s
   function-ready {x} {y} e =
       let i = links-child b at n R.walk k Chain.Parameters x (function-facts e).first_fits in
       let j = expression-child b at n R.walk k y (function-facts e).second_fits in (
@@ -359,7 +360,7 @@ module _ (b : List ℕ) (at n k : ℕ) {s : Scopes} (R : Ready b at n is_express
       )
 
   pub function-way : {x y : ℕ} {s₁ : Scopes}
-      → entry_of b at k ≡ Entry.Expression (Form.Function x y)
+      → entry_of b at k ≡ Some (Node.Expression (Form.Function x y))
       → FunctionWalk b at n x y s s₁
       → ExpressionWalk b at n k s s₁
   unfolding number_expr_variables number_function ◌>>=◌ return entry_with form_with
@@ -372,21 +373,21 @@ module _ (b : List ℕ) (at n k : ℕ) {s : Scopes} (R : Ready b at n is_express
       u
 
   -- a let
-  let-facts : {p x y : ℕ} → entry_of b at k ≡ Entry.Expression (Form.Let p x y)
+  let-facts : {p x y : ℕ} → entry_of b at k ≡ Some (Node.Expression (Form.Let p x y))
       → Child-facts b at n R.walk k (Child.Pattern p) (Child.Expression x) (Child.Expression y)
   let-facts e = child-facts b at n R.walk k R.below _ _ _ e refl
 
-  let-parts : {p x y : ℕ} → entry_of b at k ≡ Entry.Expression (Form.Let p x y)
+  let-parts : {p x y : ℕ} → entry_of b at k ≡ Some (Node.Expression (Form.Let p x y))
       → Parts (λ own. weight b at own k) (λ own. weight b at own x) (λ own. weight b at own p + weight b at own y)
   unfolding child_weight
   let-parts e = record { hold = λ own. omega (arith, (let-facts e).weighs own) }
 
-  pub let-first : {p x y : ℕ} → entry_of b at k ≡ Entry.Expression (Form.Let p x y) → (x < k) × Ready b at n is_expression x s
+  pub let-first : {p x y : ℕ} → entry_of b at k ≡ Some (Node.Expression (Form.Let p x y)) → (x < k) × Ready b at n is_expression x s
   let-first {p} {x} {y} e =
       let i = expression-child b at n R.walk k x (let-facts e).second_fits in
       (i.0, record { walk = R.walk; below = omega (arith, i.0, R.below); sorted = i.1; room = room-first (let-parts e) R.room })
 
-  pub let-second : {p x y : ℕ} {s₁ : Scopes} → entry_of b at k ≡ Entry.Expression (Form.Let p x y) → ExpressionWalk b at n x s s₁
+  pub let-second : {p x y : ℕ} {s₁ : Scopes} → entry_of b at k ≡ Some (Node.Expression (Form.Let p x y)) → ExpressionWalk b at n x s s₁
       → ((p < k) × (y < k)) × ReadyTwo b at n is_pattern p y s₁
   let-second {p} {x} {y} e u =
       let i = pattern-child b at n R.walk k p (let-facts e).first_fits in
@@ -402,7 +403,7 @@ module _ (b : List ℕ) (at n k : ℕ) {s : Scopes} (R : Ready b at n is_express
         },
       )
 
-  pub let-way : {p x y : ℕ} {s₁ s₂ : Scopes} → entry_of b at k ≡ Entry.Expression (Form.Let p x y)
+  pub let-way : {p x y : ℕ} {s₁ s₂ : Scopes} → entry_of b at k ≡ Some (Node.Expression (Form.Let p x y))
       → ExpressionWalk b at n x s s₁
       → ScopeWalk b at n p y s₁ s₂
       → ExpressionWalk b at n k s s₂
@@ -417,21 +418,21 @@ module _ (b : List ℕ) (at n k : ℕ) {s : Scopes} (R : Ready b at n is_express
       u v
 
   -- a match
-  match-facts : {x y : ℕ} → entry_of b at k ≡ Entry.Expression (Form.Match x y)
+  match-facts : {x y : ℕ} → entry_of b at k ≡ Some (Node.Expression (Form.Match x y))
       → Child-facts b at n R.walk k (Child.Expression x) (Child.Links Chain.Arms y) Child.Nothing
   match-facts e = child-facts b at n R.walk k R.below _ _ _ e refl
 
-  match-parts : {x y : ℕ} → entry_of b at k ≡ Entry.Expression (Form.Match x y)
+  match-parts : {x y : ℕ} → entry_of b at k ≡ Some (Node.Expression (Form.Match x y))
       → Parts (λ own. weight b at own k) (λ own. weight b at own x) (λ own. chain_weight b at n own Chain.Arms y)
   unfolding child_weight
   match-parts e = record { hold = λ own. omega (arith, (match-facts e).weighs own) }
 
-  pub match-first : {x y : ℕ} → entry_of b at k ≡ Entry.Expression (Form.Match x y) → (x < k) × Ready b at n is_expression x s
+  pub match-first : {x y : ℕ} → entry_of b at k ≡ Some (Node.Expression (Form.Match x y)) → (x < k) × Ready b at n is_expression x s
   match-first {x} {y} e =
       let i = expression-child b at n R.walk k x (match-facts e).first_fits in
       (i.0, record { walk = R.walk; below = omega (arith, i.0, R.below); sorted = i.1; room = room-first (match-parts e) R.room })
 
-  pub match-second : {x y : ℕ} {s₁ : Scopes} → entry_of b at k ≡ Entry.Expression (Form.Match x y) → ExpressionWalk b at n x s s₁
+  pub match-second : {x y : ℕ} {s₁ : Scopes} → entry_of b at k ≡ Some (Node.Expression (Form.Match x y)) → ExpressionWalk b at n x s s₁
       → (y < k) × ReadyChain b at n Chain.Arms y s₁
   match-second {x} {y} e u =
       let i = links-child b at n R.walk k Chain.Arms y (match-facts e).second_fits in (
@@ -439,7 +440,7 @@ module _ (b : List ℕ) (at n k : ℕ) {s : Scopes} (R : Ready b at n is_express
         record { walk = R.walk; below = omega (arith, i.0, R.below); chained = i.1; room = room-second (match-parts e) R.room u.few u.same_top },
       )
 
-  pub match-way : {x y : ℕ} {s₁ s₂ : Scopes} → entry_of b at k ≡ Entry.Expression (Form.Match x y)
+  pub match-way : {x y : ℕ} {s₁ s₂ : Scopes} → entry_of b at k ≡ Some (Node.Expression (Form.Match x y))
       → ExpressionWalk b at n x s s₁
       → ArmWalk b at n y s₁ s₂
       → ExpressionWalk b at n k s s₂
@@ -453,21 +454,21 @@ module _ (b : List ℕ) (at n k : ℕ) {s : Scopes} (R : Ready b at n is_express
       u v
 
   -- a sequence
-  sequence-facts : {x : ℕ} → entry_of b at k ≡ Entry.Expression (Form.Sequence x)
+  sequence-facts : {x : ℕ} → entry_of b at k ≡ Some (Node.Expression (Form.Sequence x))
       → Child-facts b at n R.walk k (Child.Links Chain.Items x) Child.Nothing Child.Nothing
   sequence-facts e = child-facts b at n R.walk k R.below _ _ _ e refl
 
-  sequence-least : {x : ℕ} → entry_of b at k ≡ Entry.Expression (Form.Sequence x) → (own : ℕ → ℕ) → chain_weight b at n own Chain.Items x ≤ weight b at own k
+  sequence-least : {x : ℕ} → entry_of b at k ≡ Some (Node.Expression (Form.Sequence x)) → (own : ℕ → ℕ) → chain_weight b at n own Chain.Items x ≤ weight b at own k
   unfolding child_weight
   sequence-least e own = omega (arith, (sequence-facts e).weighs own)
 
-  pub sequence-ready : {x : ℕ} → entry_of b at k ≡ Entry.Expression (Form.Sequence x) → (x < k) × ReadyChain b at n Chain.Items x s
+  pub sequence-ready : {x : ℕ} → entry_of b at k ≡ Some (Node.Expression (Form.Sequence x)) → (x < k) × ReadyChain b at n Chain.Items x s
   sequence-ready {x} e =
       let i = links-child b at n R.walk k Chain.Items x (sequence-facts e).first_fits in
       (i.0, record { walk = R.walk; below = omega (arith, i.0, R.below); chained = i.1; room = room-first (least (sequence-least e)) R.room })
 
   pub sequence-way : {x : ℕ} {s₁ : Scopes}
-      → entry_of b at k ≡ Entry.Expression (Form.Sequence x) → ItemWalk b at n x s s₁
+      → entry_of b at k ≡ Some (Node.Expression (Form.Sequence x)) → ItemWalk b at n x s s₁
       → ExpressionWalk b at n k s s₁
   unfolding number_expr_variables ◌>>=◌ return entry_with form_with
   sequence-way e u =
@@ -477,18 +478,18 @@ module _ (b : List ℕ) (at n k : ℕ) {s : Scopes} (R : Ready b at n is_express
       u
 
   -- leaves
-  pub leaf-way : {f : Form} → entry_of b at k ≡ Entry.Expression f → ((c : ℤ) × (f ≡ Form.Constant c)) ⊎ ((f ≡ Form.Unit) ⊎ (f ≡ Form.Nil))
+  pub leaf-way : {f : Form} → entry_of b at k ≡ Some (Node.Expression f) → ((c : ℤ) × (f ≡ Form.Constant c)) ⊎ ((f ≡ Form.Unit) ⊎ (f ≡ Form.Nil))
       → ExpressionWalk b at n k s s
   unfolding number_expr_variables return entry_with form_with expression_of
   leaf-way e (inl (c, i)) = walked_none (λ l g t. rw (
-    leaf-is (tree b at) (entry_of b at) (trees-grow b at) n k R.below (e ∙ ap Entry.Expression i),
-    leaf-is (numbered_tree t b at) _ (numbered-grow t b at) n k R.below (entry-with t b at k (e ∙ ap Entry.Expression i)),
+    leaf-is (tree b at) (entry_of b at) (trees-grow b at) n k R.below (e ∙ ap (λ (f : Form). Some (Node.Expression f)) i),
+    leaf-is (numbered_tree t b at) _ (numbered-grow t b at) n k R.below (entry-with t b at k (e ∙ ap (λ (f : Form). Some (Node.Expression f)) i)),
   ))
   leaf-way e (inr (inl i)) = walked_none (λ l g t. rw (
-    leaf-is (tree b at) (entry_of b at) (trees-grow b at) n k R.below (e ∙ ap Entry.Expression i),
-    leaf-is (numbered_tree t b at) _ (numbered-grow t b at) n k R.below (entry-with t b at k (e ∙ ap Entry.Expression i)),
+    leaf-is (tree b at) (entry_of b at) (trees-grow b at) n k R.below (e ∙ ap (λ (f : Form). Some (Node.Expression f)) i),
+    leaf-is (numbered_tree t b at) _ (numbered-grow t b at) n k R.below (entry-with t b at k (e ∙ ap (λ (f : Form). Some (Node.Expression f)) i)),
   ))
   leaf-way e (inr (inr i)) = walked_none (λ l g t. rw (
-    leaf-is (tree b at) (entry_of b at) (trees-grow b at) n k R.below (e ∙ ap Entry.Expression i),
-    leaf-is (numbered_tree t b at) _ (numbered-grow t b at) n k R.below (entry-with t b at k (e ∙ ap Entry.Expression i)),
+    leaf-is (tree b at) (entry_of b at) (trees-grow b at) n k R.below (e ∙ ap (λ (f : Form). Some (Node.Expression f)) i),
+    leaf-is (numbered_tree t b at) _ (numbered-grow t b at) n k R.below (entry-with t b at k (e ∙ ap (λ (f : Form). Some (Node.Expression f)) i)),
   ))

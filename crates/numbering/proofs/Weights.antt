@@ -9,13 +9,14 @@ use native.Mathlib.Nat.{one-mul, zero-mul}
 use native.Mathlib.Omega.{arith}
 use lib.Dec.{eqb, ltb}
 use borrow.Author.Tests.{eq-eqb, ne_eqb, eqb-false, ltb-true}
-use Rattle.source.specs.declared.Entry.{Entry}
+use Rattle.std.specs.Prelude.{Option, Some, None}
+use Rattle.source.specs.declared.Node.{Node}
 use Rattle.source.specs.declared.Chain.{Chain}
-use Rattle.source.specs.declared.Child.{Child}
-use Rattle.source.specs.Indices.{total, pick}
+use Rattle.source.specs.Children.{Child}
+use Rattle.marks.specs.Indices.{total, pick, same}
 use Rattle.source.specs.Nodes.{entry_of, children_of, expression_fits, pattern_fits}
 use Rattle.source.specs.Nodes.{item_fits, result_fits, link_fits, chain_fits, child_fits, children_fit, nodes_fit}
-use Rattle.source.specs.Uses.{same, result_uses, link_uses, chain_uses, child_uses, children_use, by_nodes}
+use Rattle.source.specs.Uses.{result_uses, link_uses, chain_uses, child_uses, children_use, by_nodes}
 use Rattle.numbering.proofs.Laws.{alike, and_left, and_right, or-second, every-at, not-both}
 use Rattle.numbering.specs.Walks.{summed, weight, chain_weight}
 use Rattle.numbering.proofs.Sums.{total-same, total-sum, total-times, total-exchange}
@@ -26,7 +27,7 @@ pub record Linked (b : List ℕ) (at : ℕ) (h : Chain) (l : ℕ) : Type 0 where
   pub item : ℕ
   pub next : ℕ
   pub result : ℕ
-  pub says : entry_of b at l ≡ Entry.Link item next result
+  pub says : entry_of b at l ≡ Some (Node.Link item next result)
   pub item-fits : item_fits b at h l item ≡ true
   pub result-fits : result_fits b at h l result ≡ true
   pub rest-fits : (eqb next 4294967295 || chain_fits b at h l next) ≡ true
@@ -34,11 +35,11 @@ pub record Linked (b : List ℕ) (at : ℕ) (h : Chain) (l : ℕ) : Type 0 where
 module _ (b : List ℕ) (at : ℕ) where
   -- ---- chains
 
-  linked-at : (h : Chain) (l : ℕ) (e : Entry) → entry_of b at l ≡ e → link_fits b at h (chain_fits b at h l) l e ≡ true → Linked b at h l
+  linked-at : (h : Chain) (l : ℕ) (e : Option Node) → entry_of b at l ≡ e → link_fits b at h (chain_fits b at h l) l e ≡ true → Linked b at h l
   unfolding link_fits
-  linked-at h l (Entry.Expression f) q e = absurd (not-both refl e)
-  linked-at h l (Entry.Pattern p) q e = absurd (not-both refl e)
-  linked-at h l (Entry.Link item next result) q e =
+  linked-at h l (Some (Node.Expression f)) q e = absurd (not-both refl e)
+  linked-at h l (Some (Node.Pattern p)) q e = absurd (not-both refl e)
+  linked-at h l (Some (Node.Link item next result)) q e =
       let r = and_right (item_fits b at h l item) _ e in
       record {
         item = item;
@@ -49,7 +50,7 @@ module _ (b : List ℕ) (at : ℕ) where
         result-fits = and_left (result_fits b at h l result) _ r;
         rest-fits = and_right (result_fits b at h l result) _ r;
       }
-  linked-at h l Entry.Bad q e = absurd (not-both refl e)
+  linked-at h l None q e = absurd (not-both refl e)
 
   pub linked : (h : Chain) (l : ℕ) → chain_fits b at h (suc l) l ≡ true → Linked b at h l
   unfolding chain_fits

@@ -2,12 +2,13 @@
 use Rattle.std.specs.Prelude.{ℕ, zero, suc, ◌+◌, ◌*◌, ◌-◌, ◌≤◌, ◌<◌, ◌≡◌, List, [], ◌++◌, Bool, true, false, length, get_or, set, replicate, eqb}
 use Rattle.std.proofs.Math.Option.{Option, none, some}
 use Rattle.source.specs.declared.Chain.{Chain}
-use Rattle.source.specs.declared.Entry.{Entry}
+use Rattle.std.specs.Prelude.{Option as Maybe}
+use Rattle.source.specs.declared.Node.{Node}
 use Rattle.source.specs.Names.{name_of}
 use Rattle.source.specs.Trees.{Pat, Expr}
-use Rattle.source.specs.Indices.{total, rows}
+use Rattle.marks.specs.Indices.{total, rows, same}
 use Rattle.source.specs.Nodes.{entry_of, children_of, is_expression, chain_fits, nodes_fit}
-use Rattle.source.specs.Uses.{same, chain_uses, children_use}
+use Rattle.source.specs.Uses.{chain_uses, children_use}
 use Rattle.source.specs.Record.{tree, definition_at, expression_at}
 use Rattle.source.specs.Layout.{public_at, definition_entry, expression_root}
 use Rattle.numbering.specs.Numbering.{Ids, Names, Naming, ◌>>=◌, return, found, number_variable, number_pattern_variables}
@@ -134,14 +135,14 @@ pub record Room (w : (ℕ → ℕ) → ℕ) (next top : ℕ) : Type 0 where
   pub ids : next + w each ≤ IDS
 
 -- at node k, of a sort; at the chain from link l on
-pub record Ready (b : List ℕ) (at n : ℕ) (sort : Entry → Bool) (k : ℕ) (s : Scopes) : Type 0 where
+pub record Ready (b : List ℕ) (at n : ℕ) (sort : Maybe Node → Bool) (k : ℕ) (s : Scopes) : Type 0 where
   pub walk : Walkable b at n
   pub below : k < n
   pub sorted : sort (entry_of b at k) ≡ true
   pub room : Room (λ own. weight b at own k) s.next s.top
 
 -- at two nodes, the second an expression
-pub record ReadyTwo (b : List ℕ) (at n : ℕ) (sort : Entry → Bool) (x y : ℕ) (s : Scopes) : Type 0 where
+pub record ReadyTwo (b : List ℕ) (at n : ℕ) (sort : Maybe Node → Bool) (x y : ℕ) (s : Scopes) : Type 0 where
   pub walk : Walkable b at n
   pub first_below : x < n
   pub second_below : y < n
