@@ -6,7 +6,7 @@ use mathlib.Core.Bool.{Bool, true, false, ◌&&◌, cond}
 use mathlib.Core.Logic.{⊎_elim}
 use native.Mathlib.Numerals.{add-one}
 use native.Mathlib.Omega.{arith}
-use lib.ListN.{length, get_or, set, take, drop, length-set}
+use lib.ListN.{length, get_or, set, take, drop}
 use lib.Seq.{get_or-set_same, get_or-set_other}
 use lib.Dec.{eqb}
 use lib.Pointwise.{pointwise}
@@ -53,9 +53,6 @@ name-within b text n k f l =
 module _ (b t : List ℕ) (text count id : ℕ) where
   all : Ids
   all = named t id 0 (rows count 0 (name_of b text))
-
-  pub found-start : named t id 0 (rows (count - 0) 0 (name_of b text)) ≡ named t id 0 (rows count 0 (name_of b text))
-  found-start = let q : count - 0 ≡ count = omega arith in ap (λ (m : ℕ). named t id 0 (rows m 0 (name_of b text))) q
 
   pub found-no : (k : ℕ) {r : Bool} → k < count → r ≡ same_text t (name_of b text k) → r ≡ false
       → named t id k (rows (count - k) k (name_of b text)) ≡ named t id 0 (rows count 0 (name_of b text))

@@ -43,12 +43,6 @@ module _ (b : List ℕ) (at n p v : ℕ) {s : Scopes} (R : ReadyTwo b at n is_pa
   def-parts : Parts (λ own. weight b at own p + weight b at own v) (λ own. weight b at own v) (λ own. weight b at own p)
   def-parts = record { hold = λ own. omega arith }
 
-  pub def-first : Ready b at n is_expression v s
-  def-first = record { walk = R.walk; below = R.second_below; sorted = R.second-sorted; room = room-first def-parts R.room }
-
-  pub def-second : {s₁ : Scopes} → ExpressionWalk b at n v s s₁ → Ready b at n is_pattern p s₁
-  def-second u = record { walk = R.walk; below = R.first_below; sorted = R.first-sorted; room = room-second def-parts R.room u.few u.same_top }
-
   pub def-way : {s₁ s₂ : Scopes} → ExpressionWalk b at n v s s₁ → PatternWalk b at n p s₁ s₂ → DefinitionWalk b at n p v s (record s₂ { top = s.top })
   unfolding number_def_variables ◌>>=◌ return
   def-way {s₁} {s₂} u w = record {

@@ -6,14 +6,14 @@ use mathlib.Core.Bool.{Bool, true}
 use mathlib.Core.Logic.{⊎_elim}
 use native.Mathlib.Numerals.{add-one}
 use native.Mathlib.Omega.{arith}
-use lib.ListN.{length, get_or, set, length-set}
+use lib.ListN.{length, get_or, set}
 use lib.Seq.{get_or-set_same, get_or-set_other}
 use Rattle.marks.specs.Indices.{same}
 use Rattle.numbering.specs.Numbering.{Ids, Names, Naming, number_variable}
 use Rattle.numbering.specs.Walks.{names, undone, unwound, bound_to, unwound_to, each, Sized, Room, Else, Agree, Bound, Walked, Chosen}
 use Rattle.numbering.specs.declared.rows.Scopes.{Scopes}
 use Rattle.numbering.specs.declared.rows.Undo.{Undo}
-use Rattle.numbering.proofs.Laws.{split, not-both}
+use Rattle.numbering.proofs.Laws.{alike, split, not-both}
 use Rattle.numbering.proofs.Sums.{same-yes}
 use Rattle.numbering.proofs.Held.{held_more, unwound-none, unwound-parts, unwound-same, unwound-bound}
 
@@ -23,6 +23,19 @@ Weight = (ℕ → ℕ) → ℕ
 -- two parts of a walk
 pub record Parts (w u v : Weight) : Type 0 where
   pub hold : (own : ℕ → ℕ) → u own + v own ≤ w own
+
+-- the first alone
+pub least_parts : {w u : Weight} → ((own : ℕ → ℕ) → u own ≤ w own) → Parts w u (λ own. 0)
+least_parts h = record { hold = λ own. omega (arith, h own) }
+
+-- what the item of a link is of its chain: all of the last link, and else the first part
+pub item-parts : {w u v : Weight} (next : ℕ) → (next ≡ 4294967295 → (own : ℕ → ℕ) → u own ≤ w own) → ((next ≡ 4294967295 → ⊥) → Parts w u v)
+    → Parts w u (λ own. 0)
+item-parts next last more =
+    least_parts (λ own. ⊎_elim
+    (λ (m : next ≡ 4294967295). last m own)
+    (λ (m : next ≡ 4294967295 → ⊥). omega (arith, (more m).hold own))
+    (alike next 4294967295))
 
 -- ---- room
 
