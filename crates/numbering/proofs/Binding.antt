@@ -97,7 +97,8 @@ module _ (b : List ℕ) (at n k : ℕ) {s : Scopes} (R : Ready b at n is_pattern
   module _ {s₁ s₂ : Scopes} where
     -- one pattern, then the other: `make` is what the shape stands for
     two-way : {f : Shape} {p q : ℕ} (make : Pat → Pat → Pat) → entry_of b at k ≡ Some (Node.Pattern f) → Paired f p q
-        → ((T : ℕ → ℕ → Tree) (E : ℕ → Maybe Node) → Growing T E → E k ≡ Some (Node.Pattern f) → p < k → q < k → (T n k).pattern ≡ make (T n p).pattern (T n q).pattern)
+        → ((T : ℕ → ℕ → Tree) (E : ℕ → Maybe Node) → Growing T E → E k ≡ Some (Node.Pattern f) → p < k → q < k
+        → (T n k).pattern ≡ make (T n p).pattern (T n q).pattern)
         → ((i : ℕ) → shape_with i f ≡ f)
         → ((x y : Pat) (l : Ids) → number_pattern_variables (make x y) l ≡ number_two make x y l)
         → PatternWalk b at n p s s₁ → PatternWalk b at n q s₁ s₂ → PatternWalk b at n k s s₂
@@ -113,8 +114,10 @@ module _ (b : List ℕ) (at n k : ℕ) {s : Scopes} (R : Ready b at n is_pattern
     pub pair-way : {f : Shape} {p q : ℕ} → entry_of b at k ≡ Some (Node.Pattern f) → (f ≡ Shape.Product p q) ⊎ (f ≡ Shape.Cons p q)
         → PatternWalk b at n p s s₁ → PatternWalk b at n q s₁ s₂ → PatternWalk b at n k s s₂
     unfolding number_pattern_variables number_two shape_with
-    pair-way e (inl i) = two-way Pat.product_p (e ∙ ap (λ (f : Shape). Some (Node.Pattern f)) i) refl (λ T E G. product_p-is T E G n k R.below) (λ _. refl) (λ x y l. refl)
-    pair-way e (inr i) = two-way Pat.cons_p (e ∙ ap (λ (f : Shape). Some (Node.Pattern f)) i) refl (λ T E G. cons_p-is T E G n k R.below) (λ _. refl) (λ x y l. refl)
+    pair-way e (inl i) =
+        two-way Pat.product_p (e ∙ ap (λ (f : Shape). Some (Node.Pattern f)) i) refl (λ T E G. product_p-is T E G n k R.below) (λ _. refl) (λ x y l. refl)
+    pair-way e (inr i) =
+        two-way Pat.cons_p (e ∙ ap (λ (f : Shape). Some (Node.Pattern f)) i) refl (λ T E G. cons_p-is T E G n k R.below) (λ _. refl) (λ x y l. refl)
 
     pub as-way : {p x : ℕ} → entry_of b at k ≡ Some (Node.Pattern (Shape.As p x)) → PatternWalk b at n p s s₁
         → s₂ ≡ bound_to x k s₁ → Sized s₁ → PatternWalk b at n k s s₂
@@ -129,7 +132,8 @@ module _ (b : List ℕ) (at n k : ℕ) {s : Scopes} (R : Ready b at n is_pattern
         u
         (bound-one x k (ap bears e) q.0.0 q.0.1 q.1.1 z v)
 
-  pub variable-way : {x : ℕ} {s₁ : Scopes} → entry_of b at k ≡ Some (Node.Pattern (Shape.Variable x)) → s₁ ≡ bound_to x k s → Sized s → PatternWalk b at n k s s₁
+  pub variable-way : {x : ℕ} {s₁ : Scopes} → entry_of b at k ≡ Some (Node.Pattern (Shape.Variable x)) → s₁ ≡ bound_to x k s → Sized s
+      → PatternWalk b at n k s s₁
   unfolding number_pattern_variables ◌>>=◌ return generate_id entry_with shape_with pattern_of bears is_name
   variable-way {x} e v z =
       let q = variable-bind e in
@@ -145,7 +149,8 @@ module _ (b : List ℕ) (at n k : ℕ) {s : Scopes} (R : Ready b at n is_pattern
   unfolding return entry_with
   leaf p e is keep steps = bound-none (λ l g t. rw (
     stem-is (tree b at) (entry_of b at) (trees-grow b at) n k R.below e,
-    stem-is (numbered_tree t b at) _ (numbered-grow t b at) n k R.below (entry-with t b at k e ∙ ap (λ (f : Shape). Some (Node.Pattern f)) (keep (get_or t k 0))),
+    stem-is (numbered_tree t b at) _ (numbered-grow t b at) n k R.below
+        (entry-with t b at k e ∙ ap (λ (f : Shape). Some (Node.Pattern f)) (keep (get_or t k 0))),
     is,
     is,
     steps,

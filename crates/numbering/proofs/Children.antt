@@ -16,7 +16,8 @@ use Rattle.marks.specs.Indices.{pick}
 use Rattle.source.specs.Nodes.{entry_of, children_of, three, is_expression, is_pattern, expression_fits}
 use Rattle.source.specs.Nodes.{pattern_fits, item_fits, result_fits, link_fits, chain_fits, child_fits, children_fit}
 use Rattle.numbering.specs.Walks.{weight, chain_weight, Walkable}
-use Rattle.numbering.proofs.Laws.{and_left, and_right, or-second, not-both}
+use Rattle.marks.proofs.Indices.{and_left, and_right}
+use Rattle.numbering.proofs.Laws.{or-second, not-both}
 use Rattle.numbering.proofs.Weights.{Linked, child_weight, result_weight, children-fit, grows, chain_first, chain-grows, item-below}
 
 -- a node that is read
@@ -128,7 +129,8 @@ module _ (b : List ℕ) (at n : ℕ) (W : Walkable b at n) where
     pub weighs-more : (y ≡ 4294967295 → ⊥) → (own : ℕ → ℕ)
         → chain_weight b at n own h l ≡ weight b at own l + (weight b at own x + (result_weight b at own h z + chain_weight b at n own h y))
 
-  pub link-facts : (h : Chain) (l : ℕ) {x y z : ℕ} → l < n → chain_fits b at h (suc l) l ≡ true → entry_of b at l ≡ Some (Node.Link x y z) → Link-facts h l x y z
+  pub link-facts : (h : Chain) (l : ℕ) {x y z : ℕ} → l < n → chain_fits b at h (suc l) l ≡ true → entry_of b at l ≡ Some (Node.Link x y z)
+      → Link-facts h l x y z
   unfolding pick
   link-facts h l {x} {y} {z} q c e =
       let f = link_fits_lem h l x y z c e in
@@ -162,7 +164,8 @@ module _ (b : List ℕ) (at n : ℕ) (W : Walkable b at n) where
   expression-item l x e = (ltb-true x l (and_left (ltb x l) _ e), and_right (ltb x l) _ e)
 
 -- an entry of a chain is a link
-pub no-chain-expression : (b : List ℕ) (at : ℕ) (h : Chain) (l : ℕ) {f : Form} → chain_fits b at h (suc l) l ≡ true → entry_of b at l ≡ Some (Node.Expression f) → ⊥
+pub no-chain-expression : (b : List ℕ) (at : ℕ) (h : Chain) (l : ℕ) {f : Form} → chain_fits b at h (suc l) l ≡ true
+    → entry_of b at l ≡ Some (Node.Expression f) → ⊥
 unfolding chain_fits link_fits
 no-chain-expression b at h l c e = not-both (ap (link_fits b at h (chain_fits b at h l) l) e) (rw (eq-eqb l l refl, chain_fits) at c)
 

@@ -19,8 +19,9 @@ use Rattle.numbering.specs.Numbers.{form_with, shape_with, entry_with, is_name, 
 use Rattle.numbering.specs.Statements.{pattern_ids, parameter_ids}
 use Rattle.numbering.specs.Places.{expr_names, item_names, arm_names, indices}
 use Rattle.numbering.specs.Walks.{weight, chain_weight, Walkable}
-use Rattle.numbering.proofs.Laws.{alike, not-both}
-use Rattle.numbering.proofs.Sums.{same-no}
+use Rattle.std.proofs.lemmas.Bool.{cases_eq}
+use Rattle.numbering.proofs.Laws.{not-both}
+use Rattle.marks.proofs.Indices.{same-no}
 use Rattle.numbering.proofs.Weights.{linked, child_weight, result_weight}
 use Rattle.numbering.proofs.Grown.{Growing, numbered-grow, leaf-is, stem-is, product_is, cons-is, infix-is, application-is}
 use Rattle.numbering.proofs.Grown.{negate-is, function-is, let-is, match_is, sequence-is, as_is, product_p-is, cons_p-is}
@@ -108,7 +109,8 @@ module _ (b : List ℕ) (at n : ℕ) (W : Walkable b at n) (j : ℕ) (o : bears 
         let q = expression-child b at n W k y f.second_fits in
         two-counts j _ _ (is p.0 q.0) ((C x p.0).expression p.1) ((C y q.0).expression q.1) (f.weighs (same j)) (another k e g)
 
-    patterns-count : (x y : ℕ) {e : Option Node} → entry_of b at k ≡ e → children_of e ≡ three (Child.Pattern x) (Child.Pattern y) Child.Nothing → bears e ≡ false →
+    patterns-count : (x y : ℕ) {e : Option Node} → entry_of b at k ≡ e → children_of e ≡ three (Child.Pattern x) (Child.Pattern y) Child.Nothing
+        → bears e ≡ false →
         (x < k → y < k → pattern_ids (T n k).pattern ≡ pattern_ids (T n x).pattern ++ pattern_ids (T n y).pattern) →
         count j (pattern_ids (T n k).pattern) ≡ w k
     unfolding child_weight
@@ -220,7 +222,7 @@ module _ (b : List ℕ) (at n : ℕ) (W : Walkable b at n) (j : ℕ) (o : bears 
             f.weighs-more m (same j),
             link-weighs e,
           ))
-          (alike y 4294967295)
+          (cases_eq y 4294967295)
 
       arms-count : chain_fits b at Chain.Arms (suc k) k ≡ true → count j (arm_names (T n k).arms) ≡ chain_weight b at n (same j) Chain.Arms k
       unfolding arm_names item_fits result_fits result_weight chain_names count
@@ -257,7 +259,7 @@ module _ (b : List ℕ) (at n : ℕ) (W : Walkable b at n) (j : ℕ) (o : bears 
             f.weighs-more m (same j),
             link-weighs e,
           ))
-          (alike y 4294967295)
+          (cases_eq y 4294967295)
 
       items-count : chain_fits b at Chain.Items (suc k) k ≡ true → count j (item_names (T n k).items) ≡ chain_weight b at n (same j) Chain.Items k
       unfolding item_names item_fits result_weight chain_names
@@ -285,7 +287,7 @@ module _ (b : List ℕ) (at n : ℕ) (W : Walkable b at n) (j : ℕ) (o : bears 
             f.weighs-more m (same j),
             link-weighs e,
           ))
-          (alike y 4294967295)
+          (cases_eq y 4294967295)
 
     by-expression : (e : Option Node) → entry_of b at k ≡ e → is_expression (entry_of b at k) ≡ true → count j (expr_names (T n k).expression) ≡ w k
     by-expression (Some (Node.Expression f)) q s = form-counts f q

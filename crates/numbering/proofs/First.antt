@@ -19,7 +19,8 @@ use Rattle.source.specs.Layout.{name_entry, public_at}
 use Rattle.numbering.specs.Numbering.{Ids, ◌>>=◌, return, same_text, named, number_publics}
 use Rattle.numbering.specs.Walks.{names, Chosen, Published, Registered}
 use Rattle.numbering.specs.declared.rows.Scopes.{Scopes}
-use Rattle.numbering.proofs.Laws.{and_left, and_right, every-at, split}
+use Rattle.std.proofs.lemmas.Bool.{cases_lt}
+use Rattle.marks.proofs.Indices.{and_left, and_right, every-at}
 use Rattle.numbering.proofs.Held.{held_more, only-globals}
 use Rattle.numbering.proofs.Listed.{rows_step, rows_none}
 
@@ -43,7 +44,7 @@ name-ends b text (suc n) k f l =
     (λ (q : k < n).
     omega (arith, name-ends b text n k (and_left _ _ f) q, eqb-true (offset_of b n) (end_of b n) (and_left _ _ (and_right (every n (name_fits b text)) _ f))))
     (λ (q : n ≤ k). let e : k ≡ n = omega arith in rw e (omega arith))
-    (split k n)
+    (cases_lt k n)
 
 pub name-within : (b : List ℕ) (text n k : ℕ) → names_fit b text n ≡ true → k < n → text + offset_of b k + length_of b k ≤ length b
 unfolding names_fit
@@ -140,5 +141,6 @@ module _ (b : List ℕ) (list count : ℕ) where
     numbers = λ g h k e. (g.globals, (rw (rows_none count i (public_at b list) l, rows_none count i (λ k. get_or public k 0) l, ← e), k));
   }
 
-  pub publics-start : {s s₂ : Scopes} {public public₂ : List ℕ} → Published b list (count - 0) 0 s public s₂ public₂ → Published b list count 0 s public s₂ public₂
+  pub publics-start : {s s₂ : Scopes} {public public₂ : List ℕ} → Published b list (count - 0) 0 s public s₂ public₂
+      → Published b list count 0 s public s₂ public₂
   publics-start w = let e : count - 0 ≡ count = omega arith in rw e at w

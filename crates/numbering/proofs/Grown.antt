@@ -17,7 +17,7 @@ use Rattle.source.specs.Trees.{Pat, Expr, Items, Arms, Env}
 use Rattle.source.specs.Nodes.{entry_of}
 use Rattle.source.specs.Record.{Tree, tree, grown, expression_of, pattern_of, link_of}
 use Rattle.numbering.specs.Numbers.{entry_with, numbered_tree}
-use Rattle.numbering.proofs.Laws.{alike}
+use Rattle.std.proofs.lemmas.Bool.{cases_eq}
 
 -- trees by falling index: node k of the first n
 pub record Growing (T : ℕ → ℕ → Tree) (E : ℕ → Option Node) : Type 0 where
@@ -31,7 +31,7 @@ module _ (T : ℕ → ℕ → Tree) (E : ℕ → Option Node) (G : Growing T E) 
       ⊎_elim
       (λ (e : k ≡ n). ap (λ (m : ℕ). T (suc m) k) (sym e))
       (λ (f : k ≡ n → ⊥). G.there n k f ∙ settled n k (omega arith))
-      (alike k n)
+      (cases_eq k n)
 
   module _ (n k : ℕ) (l : k < n) where
     low : (c : ℕ) → c < k → T k c ≡ T n c
@@ -50,7 +50,8 @@ module _ (T : ℕ → ℕ → Tree) (E : ℕ → Option Node) (G : Growing T E) 
     unfolding expression_of
     product_is {x} {y} q i j = leaf-is q ∙ ap₂ (λ (a b : Tree). Expr.product a.expression b.expression) (low x i) (low y j)
 
-    pub cons-is : {x y : ℕ} → E k ≡ Some (Node.Expression (Form.Cons x y)) → x < k → y < k → (T n k).expression ≡ Expr.cons (T n x).expression (T n y).expression
+    pub cons-is : {x y : ℕ} → E k ≡ Some (Node.Expression (Form.Cons x y)) → x < k → y < k
+        → (T n k).expression ≡ Expr.cons (T n x).expression (T n y).expression
     unfolding expression_of
     cons-is {x} {y} q i j = leaf-is q ∙ ap₂ (λ (a b : Tree). Expr.cons a.expression b.expression) (low x i) (low y j)
 
@@ -80,7 +81,8 @@ module _ (T : ℕ → ℕ → Tree) (E : ℕ → Option Node) (G : Growing T E) 
         leaf-is q ∙ ap₂ (λ (a b : Tree). Expr.letting a.pattern b.expression (T k y).expression) (low p h) (low x i)
         ∙ ap (λ (a : Tree). Expr.letting (T n p).pattern (T n x).expression a.expression) (low y j)
 
-    pub match_is : {x y : ℕ} → E k ≡ Some (Node.Expression (Form.Match x y)) → x < k → y < k → (T n k).expression ≡ Expr.matching (T n x).expression (T n y).arms
+    pub match_is : {x y : ℕ} → E k ≡ Some (Node.Expression (Form.Match x y)) → x < k → y < k
+        → (T n k).expression ≡ Expr.matching (T n x).expression (T n y).arms
     unfolding expression_of
     match_is {x} {y} q i j = leaf-is q ∙ ap₂ (λ (a b : Tree). Expr.matching a.expression b.arms) (low x i) (low y j)
 
@@ -97,7 +99,8 @@ module _ (T : ℕ → ℕ → Tree) (E : ℕ → Option Node) (G : Growing T E) 
     unfolding pattern_of
     as_is {x} {v} q i = stem-is q ∙ ap (λ (a : Tree). Pat.as_p a.pattern v) (low x i)
 
-    pub product_p-is : {x y : ℕ} → E k ≡ Some (Node.Pattern (Shape.Product x y)) → x < k → y < k → (T n k).pattern ≡ Pat.product_p (T n x).pattern (T n y).pattern
+    pub product_p-is : {x y : ℕ} → E k ≡ Some (Node.Pattern (Shape.Product x y)) → x < k → y < k
+        → (T n k).pattern ≡ Pat.product_p (T n x).pattern (T n y).pattern
     unfolding pattern_of
     product_p-is {x} {y} q i j = stem-is q ∙ ap₂ (λ (a b : Tree). Pat.product_p a.pattern b.pattern) (low x i) (low y j)
 
@@ -157,5 +160,6 @@ unfolding numbered_tree
 numbered-grow ids b at = record { here = λ k. rw (eq-eqb k k refl, numbered_tree); there = λ n k f. rw (ne_eqb k n f, numbered_tree) }
 
 -- a node with its id
-pub entry-with : (ids b : List ℕ) (at k : ℕ) {e : Option Node} → entry_of b at k ≡ e → entry_with (get_or ids k 0) (entry_of b at k) ≡ entry_with (get_or ids k 0) e
+pub entry-with : (ids b : List ℕ) (at k : ℕ) {e : Option Node} → entry_of b at k ≡ e
+    → entry_with (get_or ids k 0) (entry_of b at k) ≡ entry_with (get_or ids k 0) e
 entry-with ids b at k q = ap (entry_with (get_or ids k 0)) q

@@ -16,7 +16,7 @@ use Rattle.numbering.specs.Walks.{names, weight, each, Ready, ReadyTwo, ReadyDef
 use Rattle.numbering.specs.declared.rows.Scopes.{Scopes}
 use Rattle.numbering.specs.Walks.{ReadyExpressions, Defined, sum_from, definitions_weight, expressions_weight}
 use Rattle.numbering.specs.Walks.{PatternWalk, ExpressionWalk, DefinitionWalk, DefinitionsWalk, ExpressionsWalk}
-use Rattle.numbering.proofs.Laws.{every-at, and_left, and_right}
+use Rattle.marks.proofs.Indices.{every-at, and_left, and_right}
 use Rattle.numbering.proofs.Children.{pattern-item, expression-item}
 use Rattle.numbering.proofs.Scopes.{Weight, Parts, room-first, room-second, both-else, earlier, later, walked_none, walked-two}
 

@@ -178,7 +178,8 @@ module _ (own : ℕ → Type 0) where
 
   -- where the facts hold of all nodes before node n
   module _ (n : ℕ) (small : n < 2048) (bs : ℕ → Tree) (bn : List ℕ → ℕ → Tree) (F : (k : ℕ) → Facts own (bs k) (λ ids. bn ids k)) where
-    form-part : (f : Form) → (bears (Some (Node.Expression f)) ≡ true → own n) → Part own expr_names (λ ids. expression_of (bn ids) (form_with (get_or ids n 0) f))
+    form-part : (f : Form) → (bears (Some (Node.Expression f)) ≡ true → own n)
+        → Part own expr_names (λ ids. expression_of (bn ids) (form_with (get_or ids n 0) f))
     unfolding expression_of form_with expr_names bears is_name
     form-part Form.Unit o = part_none own expr_names Expr.unit refl
     form-part Form.Nil o = part_none own expr_names Expr.nil refl
@@ -231,7 +232,8 @@ module _ (own : ℕ → Type 0) where
         ((F y).arms-shape l (number_expr_variables (bs x).expression l g).1)
     form-shape (Form.Sequence x) l g = shaped-one item_names expr_names Expr.sequence (λ a. refl) ((F x).items-shape l g)
 
-    shape-part : (f : Shape) → (bears (Some (Node.Pattern f)) ≡ true → own n) → Part own pattern_ids (λ ids. pattern_of (bn ids) (shape_with (get_or ids n 0) f))
+    shape-part : (f : Shape) → (bears (Some (Node.Pattern f)) ≡ true → own n)
+        → Part own pattern_ids (λ ids. pattern_of (bn ids) (shape_with (get_or ids n 0) f))
     unfolding pattern_of shape_with pattern_ids bears is_name
     shape-part Shape.Unit o = part_none own pattern_ids Pat.unit_p refl
     shape-part Shape.Nil o = part_none own pattern_ids Pat.nil_p refl

@@ -13,8 +13,9 @@ use Rattle.numbering.specs.Numbering.{Ids, Names, Naming, number_variable}
 use Rattle.numbering.specs.Walks.{names, undone, unwound, bound_to, unwound_to, each, Sized, Room, Else, Agree, Bound, Walked, Chosen}
 use Rattle.numbering.specs.declared.rows.Scopes.{Scopes}
 use Rattle.numbering.specs.declared.rows.Undo.{Undo}
-use Rattle.numbering.proofs.Laws.{alike, split, not-both}
-use Rattle.numbering.proofs.Sums.{same-yes}
+use Rattle.std.proofs.lemmas.Bool.{cases_eq, cases_lt}
+use Rattle.numbering.proofs.Laws.{not-both}
+use Rattle.marks.proofs.Indices.{same-yes}
 use Rattle.numbering.proofs.Held.{held_more, unwound-none, unwound-parts, unwound-same, unwound-bound}
 
 abbrev pub Weight : Type 0
@@ -35,7 +36,7 @@ item-parts next last more =
     least_parts (λ own. ⊎_elim
     (λ (m : next ≡ 4294967295). last m own)
     (λ (m : next ≡ 4294967295 → ⊥). omega (arith, (more m).hold own))
-    (alike next 4294967295))
+    (cases_eq next 4294967295))
 
 -- ---- room
 
@@ -115,10 +116,10 @@ bound-one {named} x k {s} nk xl kl tl z is = rw is (record {
   unwinds =
       let e : s.top + 1 - s.top ≡ 1 = omega arith in
       rw e (unwound-bound s.undo s.top x (s.next + 1) s.locals (omega (arith, z.entries)) (omega (arith, z.rows)));
-  elsewhere = λ j l. get_or-set_other s.ids k j s.next 0 (λ (e : j ≡ k). let q : same j k ≡ 1 = rw e (same-yes k) in omega arith);
+  elsewhere = λ j l. get_or-set_other s.ids k j s.next 0 (λ (e : j ≡ k). omega (arith, same-yes j k e));
   unnamed = λ j l. get_or-set_other s.ids k j s.next 0 (λ (e : j ≡ k). not-both (rw e at l) nk);
   numbers = λ l g final h e a.
-      let q : 0 < same k k = omega (arith, same-yes k) in
+      let q : 0 < same k k = omega (arith, same-yes k k refl) in
       let r : get_or final k 0 ≡ s.next = a k q ∙ get_or-set_same s.ids k s.next 0 (omega (arith, z.nodes)) in
       ((x, s.next) ∷ l, (rw (r, add-one, e), held_more s.locals l x s.next h (omega (arith, z.rows))));
 })
@@ -164,7 +165,7 @@ bound-two {s = s} {s₁ = s₁} {s₂ = s₂} both value make p room is val r q 
   undo-names = λ i l m. ⊎_elim
       (λ (z : i < s₁.top). rw (q.undo-below i z) (r.undo-names i l z))
       (λ (z : s₁.top ≤ i). q.undo-names i z m)
-      (split i s₁.top);
+      (cases_lt i s₁.top);
   unwinds =
       let e : s₂.top - s.top ≡ (s₁.top - s.top) + (s₂.top - s₁.top) = omega (arith, r.entries, q.entries) in
       let t : s.top + (s₁.top - s.top) ≡ s₁.top = omega (arith, r.entries) in
@@ -207,10 +208,10 @@ walked-variable x k {s} {id} {s'} nk kl c = record {
   same_top = c.rest.same_top;
   same_locals = c.rest.same_locals;
   undo-below = λ i l. ap (λ (u : List Undo). undone u i) c.rest.same_undo;
-  elsewhere = λ j l. get_or-set_other s'.ids k j id 0 (λ (e : j ≡ k). let q : same j k ≡ 1 = rw e (same-yes k) in omega arith) ∙ same-id j;
+  elsewhere = λ j l. get_or-set_other s'.ids k j id 0 (λ (e : j ≡ k). omega (arith, same-yes j k e)) ∙ same-id j;
   unnamed = λ j l. get_or-set_other s'.ids k j id 0 (λ (e : j ≡ k). not-both (rw e at l) nk) ∙ same-id j;
   numbers = λ l g final h m e a.
-      let q : 0 < same k k = omega (arith, same-yes k) in
+      let q : 0 < same k k = omega (arith, same-yes k k refl) in
       let r : get_or final k 0 ≡ id = a k q ∙ get_or-set_same s'.ids k id 0 (rw c.rest.same_ids kl) in
       let t = c.numbers l g h m e in
       (t.0, (rw r t.1.0, t.1.1));
@@ -275,6 +276,7 @@ walked-scope {s = s} {s₁ = s₁} {s₂ = s₂} both value make p room is val r
   unnamed = λ j z. q.unnamed j z ∙ r.unnamed j z;
   numbers = λ l g final h k e a.
       let y = r.numbers l g final h e (earlier s₁.ids s₂.ids final p room.met-once q.elsewhere a) in
-      let z = q.numbers y.0 (names g.globals s₁.next) final y.1.1 (λ x m. ap (λ (t : List ℕ). get_or t x 0) r.same_globals ∙ k x m) refl (later s₂.ids final p a) in
+      let same = λ (x : ℕ). ap (λ (t : List ℕ). get_or t x 0) r.same_globals in
+      let z = q.numbers y.0 (names g.globals s₁.next) final y.1.1 (λ x m. same x ∙ k x m) refl (later s₂.ids final p a) in
       (z.0, (rw (val final) (is l g _ _ _ _ _ y.1.0 z.1.0), z.1.1));
 })

@@ -222,7 +222,8 @@ module _ (b : List ℕ) (at n k : ℕ) {s : Scopes} (R : Ready b at n is_express
       two-way Expr.application (e ∙ ap (λ (f : Form). Some (Node.Expression f)) i) refl (λ T E G. application-is T E G n k R.below) (λ _. refl) (λ p q l. refl)
 
   -- negation
-  negate-facts : {x : ℕ} → entry_of b at k ≡ Some (Node.Expression (Form.Negate x)) → Child-facts b at n R.walk k (Child.Expression x) Child.Nothing Child.Nothing
+  negate-facts : {x : ℕ} → entry_of b at k ≡ Some (Node.Expression (Form.Negate x))
+      → Child-facts b at n R.walk k (Child.Expression x) Child.Nothing Child.Nothing
   negate-facts e = child-facts b at n R.walk k R.below _ _ _ e refl
 
   negate-least : {x : ℕ} → entry_of b at k ≡ Some (Node.Expression (Form.Negate x)) → (own : ℕ → ℕ) → weight b at own x ≤ weight b at own k
@@ -382,7 +383,8 @@ module _ (b : List ℕ) (at n k : ℕ) {s : Scopes} (R : Ready b at n is_express
       → Child-facts b at n R.walk k (Child.Links Chain.Items x) Child.Nothing Child.Nothing
   sequence-facts e = child-facts b at n R.walk k R.below _ _ _ e refl
 
-  sequence-least : {x : ℕ} → entry_of b at k ≡ Some (Node.Expression (Form.Sequence x)) → (own : ℕ → ℕ) → chain_weight b at n own Chain.Items x ≤ weight b at own k
+  sequence-least : {x : ℕ} → entry_of b at k ≡ Some (Node.Expression (Form.Sequence x)) → (own : ℕ → ℕ)
+      → chain_weight b at n own Chain.Items x ≤ weight b at own k
   unfolding child_weight
   sequence-least e own = omega (arith, (sequence-facts e).weighs own)
 
@@ -407,7 +409,8 @@ module _ (b : List ℕ) (at n k : ℕ) {s : Scopes} (R : Ready b at n is_express
   unfolding return entry_with
   leaf p e is keep steps = walked_none (λ l g t. rw (
     leaf-is (tree b at) (entry_of b at) (trees-grow b at) n k R.below e,
-    leaf-is (numbered_tree t b at) _ (numbered-grow t b at) n k R.below (entry-with t b at k e ∙ ap (λ (f : Form). Some (Node.Expression f)) (keep (get_or t k 0))),
+    leaf-is (numbered_tree t b at) _ (numbered-grow t b at) n k R.below
+        (entry-with t b at k e ∙ ap (λ (f : Form). Some (Node.Expression f)) (keep (get_or t k 0))),
     is,
     is,
     steps,

@@ -8,7 +8,8 @@ use Rattle.source.specs.declared.Shape.{Shape}
 use Rattle.source.specs.Children.{Child}
 use Rattle.source.specs.Trees.{Pat, Expr}
 use Rattle.marks.specs.Indices.{rows}
-use Rattle.source.specs.Layout.{publics, definitions, expressions, nodes, definitions_offset, expressions_offset, nodes_offset, definition_entry, expression_root}
+use Rattle.source.specs.Layout.{publics, definitions, expressions, nodes}
+use Rattle.source.specs.Layout.{definitions_offset, expressions_offset, nodes_offset, definition_entry, expression_root}
 use Rattle.source.specs.Nodes.{entry_of, children_of}
 use Rattle.source.specs.Record.{Tree, as_expression, grown, module_of}
 use Rattle.numbering.specs.Numbering.{Numbered, numbered}

@@ -37,7 +37,11 @@ number_publics-publics-requires c =
 pub number_definitions-requires : goal.number_definitions-requires
 number_definitions-requires c =
     let d = (goal.at.number_definitions-requires c).After-number_publics-publics in
-    let w = definitions-asked _ c.requires.1 _ c.layout_of-l.ensures c.number_publics-publics.new.self (next_few d) (top_none d) in record { long = w.0.0; fit = w.0.1; ready = w.1 }
+    let w = definitions-asked _ c.requires.1 _ c.layout_of-l.ensures c.number_publics-publics.new.self (next_few d) (top_none d) in record {
+      long = w.0.0;
+      fit = w.0.1;
+      ready = w.1;
+    }
 
 pub number_expressions-requires : goal.number_expressions-requires
 number_expressions-requires c =
