@@ -1,33 +1,37 @@
 -- The ways through the code, over plain variables.
-use Prim.Native.Nat.{ℕ, suc, ◌+◌, ◌-◌, ◌*◌, ◌≤◌, ◌<◌}
+use Prim.Native.Nat.{ℕ, suc, ◌+◌, ◌-◌, ◌*◌, ◌≤◌, ◌<◌, min}
+use mathlib.Core.Bool.{Bool, true, false}
+use lib.Dec.{ltb}
 use mathlib.Core.Path.{◌≡◌, refl, sym, ap, ◌∙◌}
 use mathlib.Core.List.{List, [], ◌∷◌}
 use native.Mathlib.Omega.{arith}
 use lib.ListN.{length, get_or, drop, take}
-use Rattle.std.specs.Prelude.{Option}
+use Rattle.std.specs.Prelude.{Option, Some, None, cond, Result, Ok, Err}
+use Rattle.std.proofs.Common.{inl, inr}
+use Rattle.std.specs.Char.{IsNotAsciiDigit}
 use Rattle.std.proofs.KnownBytes.{Appends-nil}
 use lib.Seq.{drop-cons, drop-length, length-take-le}
-use borrow.Author.Tests.{lt-ltb, le-ltb, le-leb, lt-leb}
+use borrow.Author.Tests.{lt-ltb, le-ltb, le-leb, lt-leb, ltb-true, ltb-false}
 use Rattle.pass_entry.specs.declared.Answer.{Answer}
-use Rattle.streams.specs.declared.Output.{Output}
+use Rattle.streams.specs.declared.Failed.{Failed}
 use Rattle.streams.specs.Streams.{Added}
-use Rattle.answer_record.specs.declared.Lent.{Lent}
 use Rattle.answer_record.specs.Given.{at_most, number_from, number_of, Few, given_of, bytes_of}
 
-pub at-most-cut : (n most : ℕ) → most < n → (most ≡ at_most n most) × (most ≤ most)
-unfolding at_most
-at-most-cut n most l = (rw (lt-ltb most n l) refl, omega arith)
+by-min : (n most : ℕ) (t : Bool) → ltb most n ≡ t → min n most ≡ cond t most n
+by-min n most true e = omega (arith, ltb-true most n e)
+by-min n most false e = omega (arith, ltb-false most n e)
 
-pub at-most-whole : (n most : ℕ) → n ≤ most → (n ≡ at_most n most) × (n ≤ most)
+-- the lesser of both
+pub at-most-min : (n most : ℕ) → min n most ≡ at_most n most
 unfolding at_most
-at-most-whole n most l = (rw (le-ltb most n l) refl, l)
+at-most-min n most = by-min n most (ltb most n) refl
 
 -- ---- a number
 
-pub none_yet : (text : List ℕ) → number_from 0 (drop 0 text) ≡ number_from 0 text
-none_yet text = refl
+abbrev no_number : Option ℕ
+no_number = None
 
-no_digit : (text : List ℕ) → length text ≤ 0 → Lent.NoNumber ≡ number_of text
+no_digit : (text : List ℕ) → length text ≤ 0 → no_number ≡ number_of text
 unfolding number_of
 no_digit [] l = refl
 no_digit (d ∷ ds) l = absurd (omega (arith, l))
@@ -37,18 +41,16 @@ unfolding number_of
 some-digit [] l = absurd (omega (arith, l))
 some-digit (d ∷ ds) l = refl
 
--- no digit was read, and none is there
-pub digits-none : (text : List ℕ) (k : ℕ) → length text ≤ k → k ≡ 0 → (Lent.NoNumber ≡ number_of text) × Few Lent.NoNumber
-digits-none text k l z = (no_digit text (omega (arith, l, z)), tt)
+pub empty-none : (text : List ℕ) → length text ≡ 0 → (no_number ≡ number_of text) × Few no_number
+empty-none text z = (no_digit text (omega (arith, z)), tt)
 
 module _ (text : List ℕ) (value k : ℕ) (so : number_from value (drop k text) ≡ number_from 0 text) where
   -- all digits were read
-  pub digits-all : length text ≤ k → k ≤ length text → (k ≡ 0 → ⊥) → value ≤ 100000000 → (Lent.Bytes value ≡ number_of text) × Few (Lent.Bytes value)
+  pub digits-all : k ≡ length text → 0 < length text → value ≤ 100000000 → (Some value ≡ number_of text) × Few (Some value)
   unfolding number_from
-  digits-all g l some few =
-      let e : k ≡ length text = omega (arith, g, l) in
+  digits-all e some few =
       let rest : drop k text ≡ [] = ap (λ (n : ℕ). drop n text) e ∙ drop-length text in
-      (ap (number_from value) (sym rest) ∙ so ∙ some-digit text (omega (arith, some, e)), few)
+      (ap (number_from value) (sym rest) ∙ so ∙ some-digit text some, few)
 
   -- one is read
   module _ {d : ℕ} (l : k < length text) (ed : d ≡ get_or text k 0) where
@@ -58,13 +60,17 @@ module _ (text : List ℕ) (value k : ℕ) (so : number_from value (drop k text)
     at-digit : number_from value (d ∷ drop (suc k) text) ≡ number_of text
     at-digit = here-is ∙ so ∙ some-digit text (omega (arith, l))
 
-    pub digit_low : d < 48 → (Lent.NoNumber ≡ number_of text) × Few Lent.NoNumber
+    digit_low : d < 48 → no_number ≡ number_of text
     unfolding number_from
-    digit_low h = let none : Lent.NoNumber ≡ number_from value (d ∷ drop (suc k) text) = rw (lt-ltb d 48 h) refl in (none ∙ at-digit, tt)
+    digit_low h = let none : no_number ≡ number_from value (d ∷ drop (suc k) text) = rw (lt-ltb d 48 h) refl in none ∙ at-digit
 
-    pub digit-high : 48 ≤ d → 57 < d → (Lent.NoNumber ≡ number_of text) × Few Lent.NoNumber
+    digit-high : 48 ≤ d → 57 < d → no_number ≡ number_of text
     unfolding number_from
-    digit-high g h = let none : Lent.NoNumber ≡ number_from value (d ∷ drop (suc k) text) = rw (le-ltb d 48 g, lt-ltb 57 d h) refl in (none ∙ at-digit, tt)
+    digit-high g h = let none : no_number ≡ number_from value (d ∷ drop (suc k) text) = rw (le-ltb d 48 g, lt-ltb 57 d h) refl in none ∙ at-digit
+
+    pub digit-none : IsNotAsciiDigit d → (no_number ≡ number_of text) × Few no_number
+    digit-none (inl h) = (digit_low h, tt)
+    digit-none (inr h) = (digit-high (omega arith) h, tt)
 
     pub digit-more : 48 ≤ d → d ≤ 57 → {v : ℕ} → v ≡ at_most (value * 10 + (d - 48)) 100000000 → number_from v (drop (k + 1) text) ≡ number_from 0 text
     unfolding number_from
@@ -101,6 +107,6 @@ unfolding bytes_of
 bytes-refused a n out e = rw e refl
 
 -- an output that was left alone
-pub added_none : (r : Output) (held : Option (List ℕ)) → Added r held held []
-added_none (Output.All n) held = Appends-nil held
-added_none Output.Failed held = (0, Appends-nil held)
+pub added_none : (r : Result ℕ Failed) (held : Option (List ℕ)) → Added r held held []
+added_none (Ok n) held = Appends-nil held
+added_none (Err e) held = (0, Appends-nil held)

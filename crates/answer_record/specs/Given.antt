@@ -1,9 +1,7 @@
 -- What an argument says to lend, and how much of an answer is given out.
-use Rattle.std.specs.Prelude.{cond, List, [], ◌∷◌, ℕ, ◌+◌, ◌-◌, ◌*◌, ◌≤◌, leb, ltb, length, take}
+use Rattle.std.specs.Prelude.{cond, List, [], ◌∷◌, ℕ, ◌+◌, ◌-◌, ◌*◌, ◌≤◌, leb, ltb, length, take, Option, Some, None}
 use Rattle.pass_entry.specs.declared.Answer.{Answer}
 use Rattle.pass_entry.specs.declared.Answer.TheVariants.{Written, Refused}
-use Rattle.answer_record.specs.declared.Lent.{Lent}
-use Rattle.answer_record.specs.declared.Lent.TheVariants.{Bytes, NoNumber}
 
 -- more than can matter to lend
 abbrev pub MANY : ℕ
@@ -21,19 +19,19 @@ unfoldable pub at_most : ℕ → ℕ → ℕ
 at_most n most = cond (ltb most n) most n
 
 -- a number in decimal, behind digits that are worth so much, and MANY where it is larger
-unfoldable pub number_from : ℕ → List ℕ → Lent
-number_from value [] = Bytes value
-number_from value (d ∷ ds) = cond (ltb d DIGIT-0) NoNumber (cond (ltb DIGIT-9 d) NoNumber (number_from (at_most (value * 10 + (d - DIGIT-0)) MANY) ds))
+unfoldable pub number_from : ℕ → List ℕ → Option ℕ
+number_from value [] = Some value
+number_from value (d ∷ ds) = cond (ltb d DIGIT-0) None (cond (ltb DIGIT-9 d) None (number_from (at_most (value * 10 + (d - DIGIT-0)) MANY) ds))
 
 -- no digit is no number
-unfoldable pub number_of : List ℕ → Lent
-number_of [] = NoNumber
+unfoldable pub number_of : List ℕ → Option ℕ
+number_of [] = None
 number_of (d ∷ ds) = number_from 0 (d ∷ ds)
 
 -- what the arguments are no contract can say, but that no number is larger
-abbrev pub Few : Lent → Type 0
-Few (Bytes n) = n ≤ MANY
-Few NoNumber = Unit {0}
+abbrev pub Few : Option ℕ → Type 0
+Few (Some n) = n ≤ MANY
+Few None = Unit {0}
 
 -- the bytes of an answer that go to standard output, which has so many
 unfoldable pub given_of : Answer → ℕ → ℕ

@@ -10,7 +10,7 @@ use pass_entry::Answer;
 use std::env::FillError;
 use std::io::Write;
 use std::rt::Env;
-use streams::{Output, close_output, write_output};
+use streams::{Failed, close_output, write_output};
 
 // More than can matter to lend.
 pub const MANY: usize = 100000000;
@@ -18,75 +18,65 @@ pub const MANY: usize = 100000000;
 // The room for an argument.
 const ARGUMENT: usize = 4096;
 
-// The bytes that an argument says to lend.
-#[derive(Clone, Copy)]
-pub enum Lent {
-    Bytes(usize),
-    NoNumber,
-}
-
 // n, and `most` where it is more.
 pub fn at_most(n: usize, most: usize) -> usize
     ensures { (result ≡ at_most n most) × (result ≤ most) }
 {
-    if most < n { most } else { n }
+    n.min(most)
 }
 
-// A number in decimal, or MANY where it is larger.
-fn number(text: &[u8]) -> Lent
+// A number in decimal, or MANY where it is larger; none, where a byte is no digit or there is none.
+fn number(text: &[u8]) -> Option<usize>
     ensures { (result ≡ number_of text.now) × Few result }
 {
+    if text.is_empty() {
+        return None;
+    }
     let mut value = 0usize;
-    let mut k = 0usize;
-    while k < text.len() {
-        let digit = text[k];
-        if digit < b'0' {
-            return Lent::NoNumber;
+    for digit in text {
+        if !digit.is_ascii_digit() {
+            return None;
         }
-        if b'9' < digit {
-            return Lent::NoNumber;
-        }
-        value = at_most(value * 10 + (digit - b'0') as usize, MANY);
-        k += 1;
+        value = at_most(value * 10 + (*digit - b'0') as usize, MANY);
     }
-    if k == 0 {
-        return Lent::NoNumber;
-    }
-    Lent::Bytes(value)
+    Some(value)
 }
 
-// What an argument says; one that is missing says MANY, and one that is too long is no number.
-pub fn lent_bytes(rt: &impl Env, argument: usize) -> Lent
+// The bytes that an argument says to lend. One that is missing says MANY, and one that is too long is no number.
+pub fn lent_bytes(rt: &impl Env, argument: usize) -> Option<usize>
     ensures { Few result }
 {
     let mut text = [0u8; ARGUMENT];
     match rt.arg(argument, &mut text) {
         Ok(n) => number(&text[..n]),
-        Err(FillError::NotPresent) => Lent::Bytes(MANY),
-        Err(FillError::TooLong) => Lent::NoNumber,
+        Err(FillError::NotPresent) => Some(MANY),
+        Err(FillError::TooLong) => None,
     }
 }
 
-fn print_record<W: Write>(rt: &impl Eprint, to: &mut W, bytes: &[u8]) -> Output
+fn print_record<W: Write>(rt: &impl Eprint, to: &mut W, bytes: &[u8]) -> Result<usize, Failed>
     ensures whole { Whole result (length bytes.now) }
     ensures bytes { Added result (W.contents to.old) (W.contents to.new) bytes.now }
 {
-    let Output::All(n) = write_output(rt, to, bytes) else {
-        return Output::Failed;
-    };
-    close_output(rt, to, n)
+    let written = write_output(rt, to, bytes)?;
+    close_output(rt, to, written)
 }
 
 // "refused" with the number on standard error, and nothing on standard output.
-fn print_refused(rt: &impl Eprint, number: u32) -> Output
+fn print_refused(rt: &impl Eprint, number: u32) -> Result<usize, Failed>
     ensures { Whole result 0 }
 {
     let _ = eprintln!(rt; "refused {number}");
-    Output::All(0)
+    Ok(0)
 }
 
 // The record at the front of the output, or "refused" with the number: how many bytes went to standard output, or that a write failed.
-pub fn print_answer<W: Write>(rt: &impl Eprint, to: &mut W, answer: Answer, out: &[u8]) -> Output
+pub fn print_answer<W: Write>(
+    rt: &impl Eprint,
+    to: &mut W,
+    answer: Answer,
+    out: &[u8],
+) -> Result<usize, Failed>
     ensures whole { Whole result (given_of answer (length out.now)) }
     ensures bytes { Added result (W.contents to.old) (W.contents to.new) (bytes_of answer out.now) }
 {
@@ -95,7 +85,7 @@ pub fn print_answer<W: Write>(rt: &impl Eprint, to: &mut W, answer: Answer, out:
             if n <= out.len() {
                 return print_record(rt, to, &out[..n]);
             }
-            Output::All(0)
+            Ok(0)
         }
         Answer::Refused(number) => print_refused(rt, number),
     }

@@ -1,23 +1,23 @@
 -- From what a printer answered to what is asked of the next one.
-use Rattle.std.proofs.Common.{◌≡◌, ℕ, ◌≤◌, ◌<◌, cond, List, [], length, take, Option, sym, ap, subst}
+use Rattle.std.proofs.Common.{◌≡◌, ℕ, ◌≤◌, ◌<◌, cond, List, [], length, take, Option, Result, Ok, Err, sym, ap, subst}
 use Rattle.std.specs.Io.KnownBytes.{Keeps, Appends}
 use Rattle.std.proofs.KnownBytes.{Appends-nil, Appends-kept}
 use lib.Seq.{take-length}
 use borrow.Author.Tests.{lt-ltb, le-ltb}
-use Rattle.constraint_text.specs.declared.Printed.{Printed}
-use Rattle.constraint_text.specs.Printing.{AddedText}
+use Rattle.streams.specs.declared.Failed.{Failed}
+use Rattle.streams.specs.Streams.{Added}
 use Rattle.constraint_text.specs.Reading.{lines, lines_text}
 use Rattle.constraint_text.specs.Text.{refused_text}
 use Rattle.pass_entry.specs.declared.Answer.{Answer}
 use Rattle.answer_text.specs.Answered.{lines_of, printed_of}
 
 -- an output that got a text and was kept then
-pub added-kept : (r : Printed) (old mid new : Option (List ℕ)) (text : List ℕ) → Appends old mid text → Keeps mid new → AddedText r old new text
-added-kept (Printed.Lines k) old mid new text h kept = Appends-kept old mid new text h kept
-added-kept Printed.Failed old mid new text h kept = (length text, subst (Appends old new) (sym (take-length text)) (Appends-kept old mid new text h kept))
+pub added-kept : (r : Result ℕ Failed) (old mid new : Option (List ℕ)) (text : List ℕ) → Appends old mid text → Keeps mid new → Added r old new text
+added-kept (Ok k) old mid new text h kept = Appends-kept old mid new text h kept
+added-kept (Err e) old mid new text h kept = (length text, subst (Appends old new) (sym (take-length text)) (Appends-kept old mid new text h kept))
 
 -- one that was kept got none
-pub added_none : (r : Printed) (old new : Option (List ℕ)) → Keeps old new → AddedText r old new []
+pub added_none : (r : Result ℕ Failed) (old new : Option (List ℕ)) → Keeps old new → Added r old new []
 added_none r old new = added-kept r old old new [] (Appends-nil old)
 
 -- an answer of n bytes where there are not so many, and where there are

@@ -1,63 +1,57 @@
 // What the text programs print of an answer: the equalities of the record that was written, or the refusal.
 #![tactic(auto)]
 
-ghost use Rattle.std.specs.Io.KnownBytes.{Keeps};
-ghost use Rattle.constraint_text.specs.Printing.{AllLines, AddedText};
 ghost use Rattle.constraint_text.specs.Reading.{lines, lines_text};
 ghost use Rattle.constraint_text.specs.Text.{refused_text};
+ghost use Rattle.streams.specs.Streams.{Whole, Added};
 ghost use Rattle.answer_text.specs.Answered.{lines_of, printed_of};
 
-use constraint_text::{Printed, print_equalities, print_refused};
+use constraint_text::{print_equalities, print_refused};
 use pass_entry::Answer;
 use std::io::Write;
-use streams::{Output, close_output};
+use streams::{Failed, close_output};
 
-// The same, once standard output was ended without a fault.
-fn closed<W: Write>(rt: &impl Eprint, to: &mut W, lines: usize) -> Printed
-    ensures all { AllLines result lines }
-    ensures bytes { Keeps (W.contents to.old) (W.contents to.new) }
+fn print_record<W: Write>(rt: &impl Eprint, to: &mut W, s: &[u8]) -> Result<usize, Failed>
+    ensures all { Whole result (lines s.now) }
+    ensures bytes { Added result (W.contents to.old) (W.contents to.new) (lines_text s.now 0 (lines s.now)) }
 {
-    let Output::All(k) = close_output(rt, to, lines) else {
-        return Printed::Failed;
-    };
-    Printed::Lines(k)
+    let lines = print_equalities(rt, to, s)?;
+    close_output(rt, to, lines)
 }
 
-fn print_record<W: Write>(rt: &impl Eprint, to: &mut W, s: &[u8]) -> Printed
-    ensures all { AllLines result (lines s.now) }
-    ensures bytes { AddedText result (W.contents to.old) (W.contents to.new) (lines_text s.now 0 (lines s.now)) }
+fn print_number<W: Write>(rt: &impl Eprint, to: &mut W, number: u32) -> Result<usize, Failed>
+    ensures all { Whole result 1 }
+    ensures bytes { Added result (W.contents to.old) (W.contents to.new) (refused_text number) }
 {
-    let Printed::Lines(k) = print_equalities(rt, to, s) else {
-        return Printed::Failed;
-    };
-    closed(rt, to, k)
-}
-
-fn print_number<W: Write>(rt: &impl Eprint, to: &mut W, number: u32) -> Printed
-    ensures all { AllLines result 1 }
-    ensures bytes { AddedText result (W.contents to.old) (W.contents to.new) (refused_text number) }
-{
-    let Output::All(_) = print_refused(rt, to, number) else {
-        return Printed::Failed;
-    };
-    closed(rt, to, 1)
+    print_refused(rt, to, number)?;
+    close_output(rt, to, 1)
 }
 
 // The record of n bytes at the front of out; nothing, where it has not so many.
-fn print_front<W: Write>(rt: &impl Eprint, to: &mut W, out: &[u8], n: usize) -> Printed
-    ensures all { AllLines result (lines_of (Answer.Written n) out.now) }
-    ensures bytes { AddedText result (W.contents to.old) (W.contents to.new) (printed_of (Answer.Written n) out.now) }
+fn print_front<W: Write>(
+    rt: &impl Eprint,
+    to: &mut W,
+    out: &[u8],
+    n: usize,
+) -> Result<usize, Failed>
+    ensures all { Whole result (lines_of (Answer.Written n) out.now) }
+    ensures bytes { Added result (W.contents to.old) (W.contents to.new) (printed_of (Answer.Written n) out.now) }
 {
     if out.len() < n {
-        return closed(rt, to, 0);
+        return close_output(rt, to, 0);
     }
     print_record(rt, to, &out[..n])
 }
 
-// Prints an answer whose record stands at the front of out, and ends standard output.
-pub fn print_answer<W: Write>(rt: &impl Eprint, to: &mut W, answer: Answer, out: &[u8]) -> Printed
-    ensures all { AllLines result (lines_of answer out.now) }
-    ensures bytes { AddedText result (W.contents to.old) (W.contents to.new) (printed_of answer out.now) }
+// Prints an answer whose record stands at the front of out, and ends standard output; gives how many lines.
+pub fn print_answer<W: Write>(
+    rt: &impl Eprint,
+    to: &mut W,
+    answer: Answer,
+    out: &[u8],
+) -> Result<usize, Failed>
+    ensures all { Whole result (lines_of answer out.now) }
+    ensures bytes { Added result (W.contents to.old) (W.contents to.new) (printed_of answer out.now) }
 {
     match answer {
         Answer::Written(n) => print_front(rt, to, out, n),

@@ -1,6 +1,6 @@
 -- What a writer gets of a line, and of one line after the other.
-use Rattle.std.proofs.Common.{◌≡◌, ℕ, zero, suc, ◌+◌, ◌-◌, ◌≤◌, arith, List, [], ◌++◌, length, take, drop, take-append-drop, append_assoc, append-nil, Option, refl, sym, ap, ◌∙◌, subst}
-use Rattle.streams.specs.declared.Output.{Output}
+use Rattle.std.proofs.Common.{◌≡◌, ℕ, zero, suc, ◌+◌, ◌-◌, ◌≤◌, arith, List, [], ◌++◌, Result, length, take, drop, take-append-drop, append_assoc, append-nil, Option, refl, sym, ap, ◌∙◌, subst}
+use Rattle.streams.specs.declared.Failed.{Failed}
 use Rattle.streams.specs.Streams.{IsPrefixLen, Added}
 use Rattle.constraint_text.specs.Reading.{lines, line_at, lines_text}
 use lib.Seq.{take_at}
@@ -11,7 +11,7 @@ use Rattle.constraint_text.proofs.Lines.{Front, line-behind}
 text-front : (b t b' : List ℕ) (n : ℕ) → Front b t b' n → IsPrefixLen n b' → take n b' ≡ t
 text-front b t b' n f p = rw (f.0, f.1) (written-text t b (omega (arith, f.0, p.0, ap length f.1, length-set_bytes t b 0)))
 
-pub added-front : (r : Output) (old new : Option (List ℕ)) (b t b' : List ℕ) (n : ℕ) → Front b t b' n → IsPrefixLen n b' → Added r old new (take n b')
+pub added-front : (r : Result ℕ Failed) (old new : Option (List ℕ)) (b t b' : List ℕ) (n : ℕ) → Front b t b' n → IsPrefixLen n b' → Added r old new (take n b')
     → Added r old new t
 added-front r old new b t b' n f p = subst (Added r old new) (text-front b t b' n f p)
 

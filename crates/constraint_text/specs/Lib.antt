@@ -1,4 +1,3 @@
 pub mod Text
 pub mod Reading
 pub mod Cases
-pub mod Printing

@@ -7,14 +7,13 @@ mod line;
 ghost use Rattle.std.specs.Prelude.{◌≡◌, ◌≤◌, length};
 ghost use Rattle.constraint_text.specs.Text.{set_bytes, refused_text};
 ghost use Rattle.streams.specs.Streams.{IsPrefixLen, Whole, Added};
-ghost use Rattle.constraint_text.specs.Printing.{AllLines, AddedText};
 ghost use Rattle.constraint_text.specs.Reading.{lines, line_at, lines_text};
 
 use constraint::reading::{equality_at, layout_of};
 use constraint::{EQUALITY_WORDS, HEADER};
 pub use line::{LINE, equality_line, next_line, refused_line};
 use std::io::Write;
-use streams::{Output, write_output};
+use streams::{Failed, write_output};
 
 const HEADER_BYTES: usize = 4 * HEADER;
 
@@ -26,17 +25,8 @@ fn line_count(s: &[u8]) -> usize
         return 0;
     }
     let l = layout_of(s);
-    let first = l.equalities_at;
-    let words = s.len() / 4;
-    if words < first {
-        return 1;
-    }
-    let whole = (words - first) / EQUALITY_WORDS;
-    let counted = l.equalities;
-    if counted < whole {
-        return 1 + counted;
-    }
-    1 + whole
+    let whole = (s.len() / 4).saturating_sub(l.equalities_at) / EQUALITY_WORDS;
+    1 + l.equalities.min(whole)
 }
 
 // Line k of the text of a record, at the front of the bytes; of no bytes behind the last line.
@@ -54,14 +44,7 @@ pub fn line_at(s: &[u8], k: usize, out: &mut [u8; LINE]) -> usize
     equality_line(equality_at(s, l.equalities_at, k - 1), out)
 }
 
-// All lines were printed, so many; or a write failed, which was said, and no more was written.
-#[derive(Clone, Copy)]
-pub enum Printed {
-    Lines(usize),
-    Failed,
-}
-
-fn print_line<W: Write>(rt: &impl Eprint, out: &mut W, s: &[u8], k: usize) -> Output
+fn print_line<W: Write>(rt: &impl Eprint, out: &mut W, s: &[u8], k: usize) -> Result<usize, Failed>
     ensures whole { Whole result (length (line_at s.now k)) }
     ensures bytes { Added result (W.contents out.old) (W.contents out.new) (line_at s.now k) }
 {
@@ -70,27 +53,20 @@ fn print_line<W: Write>(rt: &impl Eprint, out: &mut W, s: &[u8], k: usize) -> Ou
     write_output(rt, out, &line[..n])
 }
 
-// The text of a record on standard output, line by line as `line_at` makes them. Every line has a byte, so one of none ends them.
-pub fn print_equalities<W: Write>(rt: &impl Eprint, out: &mut W, s: &[u8]) -> Printed
-    ensures all { AllLines result (lines s.now) }
-    ensures bytes { AddedText result (W.contents out.old) (W.contents out.new) (lines_text s.now 0 (lines s.now)) }
+// The text of a record on standard output, line by line as `line_at` makes them; the answer is how many there were.
+pub fn print_equalities<W: Write>(rt: &impl Eprint, out: &mut W, s: &[u8]) -> Result<usize, Failed>
+    ensures all { Whole result (lines s.now) }
+    ensures bytes { Added result (W.contents out.old) (W.contents out.new) (lines_text s.now 0 (lines s.now)) }
 {
-    let mut k = 0usize;
-    let printed = loop {
-        let line = print_line(rt, out, s, k);
-        let Output::All(n) = line else {
-            break Printed::Failed;
-        };
-        if n == 0 {
-            break Printed::Lines(k);
-        }
-        k += 1;
-    };
-    printed
+    let lines = line_count(s);
+    for k in 0..lines {
+        print_line(rt, out, s, k)?;
+    }
+    Ok(lines)
 }
 
 // "refused N", on standard output.
-pub fn print_refused<W: Write>(rt: &impl Eprint, out: &mut W, number: u32) -> Output
+pub fn print_refused<W: Write>(rt: &impl Eprint, out: &mut W, number: u32) -> Result<usize, Failed>
     ensures whole { Whole result (length (refused_text number)) }
     ensures bytes { Added result (W.contents out.old) (W.contents out.new) (refused_text number) }
 {

@@ -3,11 +3,12 @@
 // more than a flat record can need, it counts as the most that one can. A read or a write that fails is said on standard error.
 #![tactic(auto)]
 
-use answer_record::{Lent, at_most, lent_bytes, print_answer};
+use answer_record::{at_most, lent_bytes, print_answer};
 use flat::entries::BYTES;
 use pass_entry::OUTPUT_BYTES;
 use std::io;
-use streams::{Input, has_argument, read_standard};
+use std::rt::Env;
+use streams::{Failed, has_argument, read_standard};
 
 // One byte more than the longest record has: a longer input is refused 20 as its first bytes are.
 const RECORD_BYTES: usize = BYTES + 1;
@@ -24,34 +25,31 @@ fn output_buffer() -> [u8; OUTPUT_BYTES] {
 }
 
 // The record that is read, with so many bytes of output. No store is needed.
-fn cut_input(rt: &(impl io::Input + Print + Eprint), out: &mut [u8]) {
+fn cut_input(rt: &(impl Input + Print + Eprint), out: &mut [u8]) -> Result<usize, Failed> {
     let mut record = record_buffer();
-    let Input::Bytes(n) = read_standard(rt, &mut record) else {
-        return;
-    };
-    let mut store = [0u8; 0];
-    let answer = pass_entry::cut(&record[..n], &mut store, out);
-    print_answer(rt, &mut io::writer(rt), answer, out);
+    let n = read_standard(rt, &mut record)?;
+    let answer = pass_entry::cut(&record[..n], &mut [], out);
+    print_answer(rt, &mut io::writer(rt), answer, out)
 }
 
-fn run(rt: &(impl io::Input + Print + Eprint), room: usize) {
+fn run(rt: &(impl Input + Print + Eprint), room: usize) -> Result<usize, Failed> {
     let mut out = output_buffer();
     let most = at_most(room, OUTPUT_BYTES);
-    cut_input(rt, &mut out[..most]);
+    cut_input(rt, &mut out[..most])
 }
 
-fn print_usage(rt: &impl Eprint) {
-    let _ = rt.eprint("usage: cut_flat [OUTPUT] < RECORD\n");
+// How many bytes of output the argument says to lend; none, where it is no number or there are more.
+fn lent(rt: &impl Env) -> Option<usize> {
+    if has_argument(rt, MOST_ARGUMENTS) {
+        return None;
+    }
+    lent_bytes(rt, 1)
 }
 
 fn main(rt: HostRuntime) {
-    if has_argument(&rt, MOST_ARGUMENTS) {
-        print_usage(&rt);
-        return;
-    }
-    let Lent::Bytes(room) = lent_bytes(&rt, 1) else {
-        print_usage(&rt);
+    let Some(room) = lent(&rt) else {
+        let _ = rt.eprint("usage: cut_flat [OUTPUT] < RECORD\n");
         return;
     };
-    run(&rt, room);
+    let _ = run(&rt, room);
 }

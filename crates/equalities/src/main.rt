@@ -4,37 +4,38 @@
 
 use answer_text::print_answer;
 use pass_entry::Answer;
+use records::refusals::Refusal;
 use std::io;
-use streams::{Input, open_input, read_opened};
+use std::rt::{Env, Files};
+use streams::{Failed, open_input, read_opened};
 
 // "The program lends 65,536 bytes each for record, store and output."
 const LENT: usize = 65536;
 
-// "A longer record is refused 20."
-const TOO_LONG: u32 = 20;
-
-fn cut_record(rt: &(impl Print + Eprint), record: &[u8]) {
+fn cut_record(rt: &(impl Print + Eprint), record: &[u8]) -> Result<usize, Failed> {
     let mut store = [0u8; LENT];
     let mut out = [0u8; LENT];
     let answer = pass_entry::cut(record, &mut store, &mut out);
-    print_answer(rt, &mut io::writer(rt), answer, &out);
+    print_answer(rt, &mut io::writer(rt), answer, &out)
+}
+
+// "A longer record is refused 20."
+fn refuse_longer(rt: &(impl Print + Eprint)) -> Result<usize, Failed> {
+    let answer = Answer::Refused(Refusal::FlatLength.number());
+    print_answer(rt, &mut io::writer(rt), answer, &[])
+}
+
+fn run<R: Env + Files + Input + Print + Eprint>(rt: &R) -> Result<usize, Failed> {
+    let opened = open_input(rt, "usage: equalities [FILE]\n")?;
+    // One byte more than is lent tells a longer record.
+    let mut record = [0u8; LENT + 1];
+    let n = read_opened(rt, opened, &mut record)?;
+    if LENT < n {
+        return refuse_longer(rt);
+    }
+    cut_record(rt, &record[..n])
 }
 
 fn main(rt: HostRuntime) {
-    let opened = open_input(&rt, "usage: equalities [FILE]\n");
-    // One byte more than is lent tells a longer record.
-    let mut record = [0u8; LENT + 1];
-    let Input::Bytes(n) = read_opened(&rt, opened, &mut record) else {
-        return;
-    };
-    if LENT < n {
-        print_answer(
-            &rt,
-            &mut io::writer(&rt),
-            Answer::Refused(TOO_LONG),
-            &record[..0],
-        );
-        return;
-    }
-    cut_record(&rt, &record[..n]);
+    let _ = run(&rt);
 }

@@ -4,49 +4,48 @@
 // fails is said on standard error.
 #![tactic(auto)]
 
-use answer_record::{Lent, at_most, lent_bytes, print_answer};
+use answer_record::{at_most, lent_bytes, print_answer};
 use flatten_entry::buffers::{STORE_BYTES, output_buffer, record_buffer, store_buffer};
 use pass_entry::OUTPUT_BYTES;
 use std::io;
-use streams::{Input, has_argument, read_standard};
+use std::rt::Env;
+use streams::{Failed, has_argument, read_standard};
 
 // The program's own name counts as an argument.
 const MOST_ARGUMENTS: usize = 3;
 
 // The record that is read, with so many bytes of store and output.
-fn flatten_input(rt: &(impl io::Input + Print + Eprint), store: &mut [u8], out: &mut [u8]) {
+fn flatten_input(
+    rt: &(impl Input + Print + Eprint),
+    store: &mut [u8],
+    out: &mut [u8],
+) -> Result<usize, Failed> {
     let mut record = record_buffer();
-    let Input::Bytes(n) = read_standard(rt, &mut record) else {
-        return;
-    };
+    let n = read_standard(rt, &mut record)?;
     let answer = flatten_entry::flatten(&record[..n], store, out);
-    print_answer(rt, &mut io::writer(rt), answer, out);
+    print_answer(rt, &mut io::writer(rt), answer, out)
 }
 
-fn run(rt: &(impl io::Input + Print + Eprint), held: usize, room: usize) {
+fn run(rt: &(impl Input + Print + Eprint), held: usize, room: usize) -> Result<usize, Failed> {
     let mut store = store_buffer();
     let mut out = output_buffer();
     let bytes = at_most(held, STORE_BYTES);
     let most = at_most(room, OUTPUT_BYTES);
-    flatten_input(rt, &mut store[..bytes], &mut out[..most]);
+    flatten_input(rt, &mut store[..bytes], &mut out[..most])
 }
 
-fn print_usage(rt: &impl Eprint) {
-    let _ = rt.eprint("usage: flatten [STORE [OUTPUT]] < RECORD\n");
+// How many bytes of store and output the arguments say to lend; none, where one is no number or there are too many.
+fn lent(rt: &impl Env) -> Option<(usize, usize)> {
+    if has_argument(rt, MOST_ARGUMENTS) {
+        return None;
+    }
+    Some((lent_bytes(rt, 1)?, lent_bytes(rt, 2)?))
 }
 
 fn main(rt: HostRuntime) {
-    if has_argument(&rt, MOST_ARGUMENTS) {
-        print_usage(&rt);
-        return;
-    }
-    let Lent::Bytes(held) = lent_bytes(&rt, 1) else {
-        print_usage(&rt);
+    let Some((held, room)) = lent(&rt) else {
+        let _ = rt.eprint("usage: flatten [STORE [OUTPUT]] < RECORD\n");
         return;
     };
-    let Lent::Bytes(room) = lent_bytes(&rt, 2) else {
-        print_usage(&rt);
-        return;
-    };
-    run(&rt, held, room);
+    let _ = run(&rt, held, room);
 }

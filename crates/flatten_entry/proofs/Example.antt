@@ -14,13 +14,13 @@ use Rattle.field.specs.Prime.{P}
 use Rattle.field.specs.Element.{elem}
 use Rattle.source.specs.Trees.{variable_p, binary, constant, variable, Module}
 use Rattle.words.specs.Words.{word_at, bytes_of}
-use Rattle.source.specs.Indices.{every, total, rows, pick}
+use Rattle.marks.specs.Indices.{every, total, rows, pick, same}
 use Rattle.source.specs.Layout.{listed, names}
 use Rattle.source.specs.Layout
 use Rattle.source.specs.Names.{offset_of, length_of, end_of, printed, name_fits, names_fit, same_bytes, same_name, name_new, names_differ, name_of}
 use Rattle.source.specs.Nodes.{operator_of, infix_for, entry_for, entry_of, is_expression, is_pattern, expression_fits, pattern_fits, item_fits}
 use Rattle.source.specs.Nodes.{result_fits, link_fits, chain_fits, child_fits, children_fit, nodes_fit, definitions_fit, expressions_fit, publics_fit}
-use Rattle.source.specs.Uses.{same, result_uses, link_uses, chain_uses, child_uses, children_use, by_nodes, by_definitions, by_expressions}
+use Rattle.source.specs.Uses.{result_uses, link_uses, chain_uses, child_uses, children_use, by_nodes, by_definitions, by_expressions}
 use Rattle.source.specs.Record.{expression_of, pattern_of, link_of, grown, tree, definition_at, expression_at, module_of, shaped, used_once, source_of}
 use Rattle.source.specs.Record
 use Rattle.source.specs.Record.{Read}

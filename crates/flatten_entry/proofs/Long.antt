@@ -9,7 +9,7 @@ use lib.Seq.{length-take-le, take_all, get_or-take}
 use lib.Dec.{leb, ltb, eqb}
 use borrow.Author.Tests.{leb-true, ltb-true, ltb-false, le-leb, ne_eqb, eqb-true}
 use Rattle.words.specs.Words.{word_at}
-use Rattle.source.specs.Indices.{every}
+use Rattle.marks.specs.Indices.{every}
 use Rattle.source.specs.Layout.{BYTES, names, publics, definitions, expressions, nodes, text_offset, counted, listed}
 use Rattle.source.specs.Names.{offset_of, length_of, end_of, name_fits, names_fit}
 use Rattle.records.specs.declared.refusals.Refusal.{Refusal}

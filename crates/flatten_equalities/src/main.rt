@@ -5,20 +5,23 @@
 use answer_text::print_answer;
 use flatten_entry::buffers::{output_buffer, record_buffer, store_buffer};
 use std::io;
-use streams::{Input, open_input, read_opened};
+use std::rt::{Env, Files};
+use streams::{Failed, open_input, read_opened};
 
-fn flatten_record(rt: &(impl Print + Eprint), record: &[u8]) {
+fn flatten_record(rt: &(impl Print + Eprint), record: &[u8]) -> Result<usize, Failed> {
     let mut store = store_buffer();
     let mut out = output_buffer();
     let answer = flatten_entry::flatten(record, &mut store, &mut out);
-    print_answer(rt, &mut io::writer(rt), answer, &out);
+    print_answer(rt, &mut io::writer(rt), answer, &out)
+}
+
+fn run<R: Env + Files + Input + Print + Eprint>(rt: &R) -> Result<usize, Failed> {
+    let opened = open_input(rt, "usage: flatten_equalities [FILE]\n")?;
+    let mut record = record_buffer();
+    let n = read_opened(rt, opened, &mut record)?;
+    flatten_record(rt, &record[..n])
 }
 
 fn main(rt: HostRuntime) {
-    let opened = open_input(&rt, "usage: flatten_equalities [FILE]\n");
-    let mut record = record_buffer();
-    let Input::Bytes(n) = read_opened(&rt, opened, &mut record) else {
-        return;
-    };
-    flatten_record(&rt, &record[..n]);
+    let _ = run(&rt);
 }

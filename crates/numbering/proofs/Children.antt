@@ -6,58 +6,73 @@ use mathlib.Core.Bool.{Bool, true, ◌&&◌, ◌||◌}
 use native.Mathlib.Omega.{arith}
 use lib.Dec.{eqb, ltb}
 use borrow.Author.Tests.{ltb-true, eq-eqb, ne_eqb}
-use Rattle.source.specs.declared.Entry.{Entry}
+use Rattle.std.specs.Prelude.{Option, Some, None, IsSome}
+use Rattle.source.specs.declared.Node.{Node}
 use Rattle.source.specs.declared.Form.{Form}
 use Rattle.source.specs.declared.Shape.{Shape}
 use Rattle.source.specs.declared.Chain.{Chain}
-use Rattle.source.specs.declared.Child.{Child}
-use Rattle.source.specs.declared.Children.{Children}
-use Rattle.source.specs.Indices.{pick}
+use Rattle.source.specs.Children.{Child, Children}
+use Rattle.marks.specs.Indices.{pick}
 use Rattle.source.specs.Nodes.{entry_of, children_of, three, is_expression, is_pattern, expression_fits}
 use Rattle.source.specs.Nodes.{pattern_fits, item_fits, result_fits, link_fits, chain_fits, child_fits, children_fit}
 use Rattle.numbering.specs.Walks.{weight, chain_weight, Walkable}
-use Rattle.numbering.proofs.Laws.{and_left, and_right, or-second, not-both}
+use Rattle.marks.proofs.Indices.{and_left, and_right}
+use Rattle.numbering.proofs.Laws.{or-second, not-both}
 use Rattle.numbering.proofs.Weights.{Linked, child_weight, result_weight, children-fit, grows, chain_first, chain-grows, item-below}
 
+-- a node that is read
+pub some-is : {n m : Node} → Some n ≡ Some m → n ≡ m
+some-is e = cc
+
+pub expression-read : (e : Option Node) → is_expression e ≡ true → IsSome e
+unfolding is_expression
+expression-read (Some n) s = refl
+expression-read None s = absurd (not-both refl s)
+
+pub pattern-read : (e : Option Node) → is_pattern e ≡ true → IsSome e
+unfolding is_pattern
+pattern-read (Some n) s = refl
+pattern-read None s = absurd (not-both refl s)
+
 -- a sort that a node has not
-pub no-pattern-expression : (b : List ℕ) (at k : ℕ) {f : Form} → is_pattern (entry_of b at k) ≡ true → entry_of b at k ≡ Entry.Expression f → ⊥
+pub no-pattern-expression : (b : List ℕ) (at k : ℕ) {f : Form} → is_pattern (entry_of b at k) ≡ true → entry_of b at k ≡ Some (Node.Expression f) → ⊥
 unfolding is_pattern
 no-pattern-expression b at k s q = not-both (ap is_pattern q) s
 
-pub no-pattern-link : (b : List ℕ) (at k : ℕ) {x y z : ℕ} → is_pattern (entry_of b at k) ≡ true → entry_of b at k ≡ Entry.Link x y z → ⊥
+pub no-pattern-link : (b : List ℕ) (at k : ℕ) {x y z : ℕ} → is_pattern (entry_of b at k) ≡ true → entry_of b at k ≡ Some (Node.Link x y z) → ⊥
 unfolding is_pattern
 no-pattern-link b at k s q = not-both (ap is_pattern q) s
 
-pub no-pattern-bad : (b : List ℕ) (at k : ℕ) → is_pattern (entry_of b at k) ≡ true → entry_of b at k ≡ Entry.Bad → ⊥
+pub no-pattern-bad : (b : List ℕ) (at k : ℕ) → is_pattern (entry_of b at k) ≡ true → entry_of b at k ≡ None → ⊥
 unfolding is_pattern
 no-pattern-bad b at k s q = not-both (ap is_pattern q) s
 
-pub no-expression-pattern : (b : List ℕ) (at k : ℕ) {f : Shape} → is_expression (entry_of b at k) ≡ true → entry_of b at k ≡ Entry.Pattern f → ⊥
+pub no-expression-pattern : (b : List ℕ) (at k : ℕ) {f : Shape} → is_expression (entry_of b at k) ≡ true → entry_of b at k ≡ Some (Node.Pattern f) → ⊥
 unfolding is_expression
 no-expression-pattern b at k s q = not-both (ap is_expression q) s
 
-pub no-expression-link : (b : List ℕ) (at k : ℕ) {x y z : ℕ} → is_expression (entry_of b at k) ≡ true → entry_of b at k ≡ Entry.Link x y z → ⊥
+pub no-expression-link : (b : List ℕ) (at k : ℕ) {x y z : ℕ} → is_expression (entry_of b at k) ≡ true → entry_of b at k ≡ Some (Node.Link x y z) → ⊥
 unfolding is_expression
 no-expression-link b at k s q = not-both (ap is_expression q) s
 
-pub no-expression-bad : (b : List ℕ) (at k : ℕ) → is_expression (entry_of b at k) ≡ true → entry_of b at k ≡ Entry.Bad → ⊥
+pub no-expression-bad : (b : List ℕ) (at k : ℕ) → is_expression (entry_of b at k) ≡ true → entry_of b at k ≡ None → ⊥
 unfolding is_expression
 no-expression-bad b at k s q = not-both (ap is_expression q) s
 
 -- the sort that it has
-pub has-pattern : (e : Entry) → is_pattern e ≡ true → ((f : Shape) → e ≡ Entry.Pattern f → ⊥) → ⊥
+pub has-pattern : (e : Option Node) → is_pattern e ≡ true → ((f : Shape) → e ≡ Some (Node.Pattern f) → ⊥) → ⊥
 unfolding is_pattern
-has-pattern (Entry.Expression f) s h = not-both refl s
-has-pattern (Entry.Pattern f) s h = h f refl
-has-pattern (Entry.Link x y z) s h = not-both refl s
-has-pattern Entry.Bad s h = not-both refl s
+has-pattern (Some (Node.Expression f)) s h = not-both refl s
+has-pattern (Some (Node.Pattern f)) s h = h f refl
+has-pattern (Some (Node.Link x y z)) s h = not-both refl s
+has-pattern None s h = not-both refl s
 
-pub has-expression : (e : Entry) → is_expression e ≡ true → ((f : Form) → e ≡ Entry.Expression f → ⊥) → ⊥
+pub has-expression : (e : Option Node) → is_expression e ≡ true → ((f : Form) → e ≡ Some (Node.Expression f) → ⊥) → ⊥
 unfolding is_expression
-has-expression (Entry.Expression f) s h = h f refl
-has-expression (Entry.Pattern f) s h = not-both refl s
-has-expression (Entry.Link x y z) s h = not-both refl s
-has-expression Entry.Bad s h = not-both refl s
+has-expression (Some (Node.Expression f)) s h = h f refl
+has-expression (Some (Node.Pattern f)) s h = not-both refl s
+has-expression (Some (Node.Link x y z)) s h = not-both refl s
+has-expression None s h = not-both refl s
 
 module _ (b : List ℕ) (at n : ℕ) (W : Walkable b at n) where
   pub record Child-facts (k : ℕ) (x y z : Child) : Type 0 where
@@ -66,7 +81,7 @@ module _ (b : List ℕ) (at n : ℕ) (W : Walkable b at n) where
     pub third-fits : child_fits b at W.count k z ≡ true
     pub weighs : (own : ℕ → ℕ) → weight b at own k ≡ own k + (child_weight b at n own x + (child_weight b at n own y + child_weight b at n own z))
 
-  pub child-facts : (k : ℕ) → k < n → {e : Entry} (x y z : Child) → entry_of b at k ≡ e → children_of e ≡ three x y z → Child-facts k x y z
+  pub child-facts : (k : ℕ) → k < n → {e : Option Node} (x y z : Child) → entry_of b at k ≡ e → children_of e ≡ three x y z → Child-facts k x y z
   unfolding children_fit
   child-facts k l x y z q r =
       let c = W.count in
@@ -100,7 +115,7 @@ module _ (b : List ℕ) (at n : ℕ) (W : Walkable b at n) where
 
   -- ---- links
 
-  link_fits_lem : (h : Chain) (l x y z : ℕ) → chain_fits b at h (suc l) l ≡ true → entry_of b at l ≡ Entry.Link x y z
+  link_fits_lem : (h : Chain) (l x y z : ℕ) → chain_fits b at h (suc l) l ≡ true → entry_of b at l ≡ Some (Node.Link x y z)
       → (item_fits b at h l x && (result_fits b at h l z && (eqb y 4294967295 || chain_fits b at h l y))) ≡ true
   unfolding chain_fits link_fits
   link_fits_lem h l x y z c e = ap (link_fits b at h (chain_fits b at h l) l) (sym e) ∙ (rw (eq-eqb l l refl, chain_fits) at c)
@@ -114,7 +129,8 @@ module _ (b : List ℕ) (at n : ℕ) (W : Walkable b at n) where
     pub weighs-more : (y ≡ 4294967295 → ⊥) → (own : ℕ → ℕ)
         → chain_weight b at n own h l ≡ weight b at own l + (weight b at own x + (result_weight b at own h z + chain_weight b at n own h y))
 
-  pub link-facts : (h : Chain) (l : ℕ) {x y z : ℕ} → l < n → chain_fits b at h (suc l) l ≡ true → entry_of b at l ≡ Entry.Link x y z → Link-facts h l x y z
+  pub link-facts : (h : Chain) (l : ℕ) {x y z : ℕ} → l < n → chain_fits b at h (suc l) l ≡ true → entry_of b at l ≡ Some (Node.Link x y z)
+      → Link-facts h l x y z
   unfolding pick
   link-facts h l {x} {y} {z} q c e =
       let f = link_fits_lem h l x y z c e in
@@ -148,23 +164,31 @@ module _ (b : List ℕ) (at n : ℕ) (W : Walkable b at n) where
   expression-item l x e = (ltb-true x l (and_left (ltb x l) _ e), and_right (ltb x l) _ e)
 
 -- an entry of a chain is a link
-pub no-chain-expression : (b : List ℕ) (at : ℕ) (h : Chain) (l : ℕ) {f : Form} → chain_fits b at h (suc l) l ≡ true → entry_of b at l ≡ Entry.Expression f → ⊥
+pub no-chain-expression : (b : List ℕ) (at : ℕ) (h : Chain) (l : ℕ) {f : Form} → chain_fits b at h (suc l) l ≡ true
+    → entry_of b at l ≡ Some (Node.Expression f) → ⊥
 unfolding chain_fits link_fits
 no-chain-expression b at h l c e = not-both (ap (link_fits b at h (chain_fits b at h l) l) e) (rw (eq-eqb l l refl, chain_fits) at c)
 
-pub no-chain-pattern : (b : List ℕ) (at : ℕ) (h : Chain) (l : ℕ) {f : Shape} → chain_fits b at h (suc l) l ≡ true → entry_of b at l ≡ Entry.Pattern f → ⊥
+pub no-chain-pattern : (b : List ℕ) (at : ℕ) (h : Chain) (l : ℕ) {f : Shape} → chain_fits b at h (suc l) l ≡ true → entry_of b at l ≡ Some (Node.Pattern f) → ⊥
 unfolding chain_fits link_fits
 no-chain-pattern b at h l c e = not-both (ap (link_fits b at h (chain_fits b at h l) l) e) (rw (eq-eqb l l refl, chain_fits) at c)
 
-pub no-chain-bad : (b : List ℕ) (at : ℕ) (h : Chain) (l : ℕ) → chain_fits b at h (suc l) l ≡ true → entry_of b at l ≡ Entry.Bad → ⊥
+pub no-chain-bad : (b : List ℕ) (at : ℕ) (h : Chain) (l : ℕ) → chain_fits b at h (suc l) l ≡ true → entry_of b at l ≡ None → ⊥
 unfolding chain_fits link_fits
 no-chain-bad b at h l c e = not-both (ap (link_fits b at h (chain_fits b at h l) l) e) (rw (eq-eqb l l refl, chain_fits) at c)
 
-pub has-link : (b : List ℕ) (at : ℕ) (h : Chain) (l : ℕ) → chain_fits b at h (suc l) l ≡ true → ((x y z : ℕ) → entry_of b at l ≡ Entry.Link x y z → ⊥) → ⊥
+pub has-link : (b : List ℕ) (at : ℕ) (h : Chain) (l : ℕ) → chain_fits b at h (suc l) l ≡ true → ((x y z : ℕ) → entry_of b at l ≡ Some (Node.Link x y z) → ⊥) → ⊥
 has-link b at h l c f = go (entry_of b at l) refl
   where
-    go : (e : Entry) → entry_of b at l ≡ e → ⊥
-    go (Entry.Expression g) q = no-chain-expression b at h l c q
-    go (Entry.Pattern g) q = no-chain-pattern b at h l c q
-    go (Entry.Link x y z) q = f x y z q
-    go Entry.Bad q = no-chain-bad b at h l c q
+    go : (e : Option Node) → entry_of b at l ≡ e → ⊥
+    go (Some (Node.Expression g)) q = no-chain-expression b at h l c q
+    go (Some (Node.Pattern g)) q = no-chain-pattern b at h l c q
+    go (Some (Node.Link x y z)) q = f x y z q
+    go None q = no-chain-bad b at h l c q
+
+pub link-read : (b : List ℕ) (at : ℕ) (h : Chain) (l : ℕ) → chain_fits b at h (suc l) l ≡ true → IsSome (entry_of b at l)
+link-read b at h l c = go (entry_of b at l) refl
+  where
+    go : (e : Option Node) → entry_of b at l ≡ e → IsSome e
+    go (Some n) q = refl
+    go None q = absurd (no-chain-bad b at h l c q)

@@ -6,20 +6,22 @@ use mathlib.Core.Bool.{true, false}
 use mathlib.Core.Logic.{⊎_elim}
 use native.Mathlib.Omega.{arith}
 use lib.ListN.{get_or}
-use Rattle.source.specs.declared.Entry.{Entry}
+use Rattle.std.specs.Prelude.{Option, Some, None}
+use Rattle.source.specs.declared.Node.{Node}
 use Rattle.source.specs.declared.Form.{Form}
 use Rattle.source.specs.declared.Shape.{Shape}
 use Rattle.source.specs.declared.Chain.{Chain}
-use Rattle.source.specs.declared.Child.{Child}
+use Rattle.source.specs.Children.{Child}
 use Rattle.source.specs.Nodes.{entry_of, children_of, three, is_expression, is_pattern, item_fits, result_fits, chain_fits}
-use Rattle.source.specs.Uses.{same}
+use Rattle.marks.specs.Indices.{same}
 use Rattle.source.specs.Record.{Tree, expression_of, pattern_of}
 use Rattle.numbering.specs.Numbers.{form_with, shape_with, entry_with, is_name, bears, numbered_tree}
 use Rattle.numbering.specs.Statements.{pattern_ids, parameter_ids}
 use Rattle.numbering.specs.Places.{expr_names, item_names, arm_names, indices}
 use Rattle.numbering.specs.Walks.{weight, chain_weight, Walkable}
-use Rattle.numbering.proofs.Laws.{alike, not-both}
-use Rattle.numbering.proofs.Sums.{same-no}
+use Rattle.std.proofs.lemmas.Bool.{cases_eq}
+use Rattle.numbering.proofs.Laws.{not-both}
+use Rattle.marks.proofs.Indices.{same-no}
 use Rattle.numbering.proofs.Weights.{linked, child_weight, result_weight}
 use Rattle.numbering.proofs.Grown.{Growing, numbered-grow, leaf-is, stem-is, product_is, cons-is, infix-is, application-is}
 use Rattle.numbering.proofs.Grown.{negate-is, function-is, let-is, match_is, sequence-is, as_is, product_p-is, cons_p-is}
@@ -68,7 +70,7 @@ module _ (b : List ℕ) (at n : ℕ) (W : Walkable b at n) (j : ℕ) (o : bears 
   abbrev T : ℕ → ℕ → Tree
   T = numbered_tree indices b at
 
-  abbrev E : ℕ → Entry
+  abbrev E : ℕ → Option Node
   E k = entry_with (get_or indices k 0) (entry_of b at k)
 
   G : Growing T E
@@ -83,21 +85,21 @@ module _ (b : List ℕ) (at n : ℕ) (W : Walkable b at n) (j : ℕ) (o : bears 
     pub chain : (h : Chain) → chain_fits b at h (suc k) k ≡ true → count j (chain_names h (T n k)) ≡ chain_weight b at n (same j) h k
 
   -- a node without a name is another
-  another : (k : ℕ) {e : Entry} → entry_of b at k ≡ e → bears e ≡ false → same j k ≡ 0
+  another : (k : ℕ) {e : Option Node} → entry_of b at k ≡ e → bears e ≡ false → same j k ≡ 0
   another k q f = same-no j k (λ (z : j ≡ k). not-both (ap bears (ap (entry_of b at) z ∙ q) ∙ f) o)
 
-  with-id : (k : ℕ) {e : Entry} → entry_of b at k ≡ e → E k ≡ entry_with (get_or indices k 0) e
+  with-id : (k : ℕ) {e : Option Node} → entry_of b at k ≡ e → E k ≡ entry_with (get_or indices k 0) e
   with-id k q = ap (entry_with (get_or indices k 0)) q
 
   module _ (k : ℕ) (l : k < n) (C : (c : ℕ) → c < k → Counted c) where
     -- no child
-    leaf-counts : {zs : List ℕ} {e : Entry} → entry_of b at k ≡ e → children_of e ≡ three Child.Nothing Child.Nothing Child.Nothing → bears e ≡ false →
+    leaf-counts : {zs : List ℕ} {e : Option Node} → entry_of b at k ≡ e → children_of e ≡ three Child.Nothing Child.Nothing Child.Nothing → bears e ≡ false →
         zs ≡ [] → count j zs ≡ w k
     unfolding child_weight
     leaf-counts e q f z = none-counts j z ((child-facts b at n W k l Child.Nothing Child.Nothing Child.Nothing e q).weighs (same j)) (another k e f)
 
     -- two expressions, two patterns
-    expressions-count : (x y : ℕ) {e : Entry} → entry_of b at k ≡ e → children_of e ≡ three (Child.Expression x) (Child.Expression y) Child.Nothing →
+    expressions-count : (x y : ℕ) {e : Option Node} → entry_of b at k ≡ e → children_of e ≡ three (Child.Expression x) (Child.Expression y) Child.Nothing →
         bears e ≡ false → (x < k → y < k → expr_names (T n k).expression ≡ expr_names (T n x).expression ++ expr_names (T n y).expression) →
         count j (expr_names (T n k).expression) ≡ w k
     unfolding child_weight
@@ -107,7 +109,8 @@ module _ (b : List ℕ) (at n : ℕ) (W : Walkable b at n) (j : ℕ) (o : bears 
         let q = expression-child b at n W k y f.second_fits in
         two-counts j _ _ (is p.0 q.0) ((C x p.0).expression p.1) ((C y q.0).expression q.1) (f.weighs (same j)) (another k e g)
 
-    patterns-count : (x y : ℕ) {e : Entry} → entry_of b at k ≡ e → children_of e ≡ three (Child.Pattern x) (Child.Pattern y) Child.Nothing → bears e ≡ false →
+    patterns-count : (x y : ℕ) {e : Option Node} → entry_of b at k ≡ e → children_of e ≡ three (Child.Pattern x) (Child.Pattern y) Child.Nothing
+        → bears e ≡ false →
         (x < k → y < k → pattern_ids (T n k).pattern ≡ pattern_ids (T n x).pattern ++ pattern_ids (T n y).pattern) →
         count j (pattern_ids (T n k).pattern) ≡ w k
     unfolding child_weight
@@ -120,7 +123,7 @@ module _ (b : List ℕ) (at n : ℕ) (W : Walkable b at n) (j : ℕ) (o : bears 
     own-index : get_or indices k 0 ≡ k
     own-index = index_at k (omega (arith, W.few-nodes))
 
-    form-counts : (f : Form) → entry_of b at k ≡ Entry.Expression f → count j (expr_names (T n k).expression) ≡ w k
+    form-counts : (f : Form) → entry_of b at k ≡ Some (Node.Expression f) → count j (expr_names (T n k).expression) ≡ w k
     unfolding entry_with form_with expr_names expression_of child_weight chain_names bears is_name
     form-counts Form.Unit e = leaf-counts e refl refl (ap expr_names (leaf-is T E G n k l (with-id k e)))
     form-counts Form.Nil e = leaf-counts e refl refl (ap expr_names (leaf-is T E G n k l (with-id k e)))
@@ -161,7 +164,7 @@ module _ (b : List ℕ) (at n : ℕ) (W : Walkable b at n) (j : ℕ) (o : bears 
         one-counts j _ (ap expr_names (sequence-is T E G n k l (with-id k e) p.0)) ((C x p.0).chain Chain.Items p.1) (f.weighs (same j))
         (another k e refl)
 
-    shape-counts : (f : Shape) → entry_of b at k ≡ Entry.Pattern f → count j (pattern_ids (T n k).pattern) ≡ w k
+    shape-counts : (f : Shape) → entry_of b at k ≡ Some (Node.Pattern f) → count j (pattern_ids (T n k).pattern) ≡ w k
     unfolding entry_with shape_with pattern_ids pattern_of child_weight count bears is_name
     shape-counts Shape.Unit e = leaf-counts e refl refl (ap pattern_ids (stem-is T E G n k l (with-id k e)))
     shape-counts Shape.Nil e = leaf-counts e refl refl (ap pattern_ids (stem-is T E G n k l (with-id k e)))
@@ -180,12 +183,12 @@ module _ (b : List ℕ) (at n : ℕ) (W : Walkable b at n) (j : ℕ) (o : bears 
         omega (arith, ap (count j) z, count-append j xs (k ∷ []), (C x p.0).pattern p.1, f.weighs (same j))
 
     -- a link, which has no name itself
-    link-weighs : {x y z : ℕ} → entry_of b at k ≡ Entry.Link x y z → w k ≡ 0
+    link-weighs : {x y z : ℕ} → entry_of b at k ≡ Some (Node.Link x y z) → w k ≡ 0
     unfolding child_weight bears is_name
     link-weighs e = omega (arith, (child-facts b at n W k l Child.Nothing Child.Nothing Child.Nothing e refl).weighs (same j), another k e refl)
 
-    module _ {x y z : ℕ} (e : entry_of b at k ≡ Entry.Link x y z) where
-      as-link : E k ≡ Entry.Link x y z
+    module _ {x y z : ℕ} (e : entry_of b at k ≡ Some (Node.Link x y z)) where
+      as-link : E k ≡ Some (Node.Link x y z)
       unfolding entry_with
       as-link = with-id k e
 
@@ -219,7 +222,7 @@ module _ (b : List ℕ) (at n : ℕ) (W : Walkable b at n) (j : ℕ) (o : bears 
             f.weighs-more m (same j),
             link-weighs e,
           ))
-          (alike y 4294967295)
+          (cases_eq y 4294967295)
 
       arms-count : chain_fits b at Chain.Arms (suc k) k ≡ true → count j (arm_names (T n k).arms) ≡ chain_weight b at n (same j) Chain.Arms k
       unfolding arm_names item_fits result_fits result_weight chain_names count
@@ -256,7 +259,7 @@ module _ (b : List ℕ) (at n : ℕ) (W : Walkable b at n) (j : ℕ) (o : bears 
             f.weighs-more m (same j),
             link-weighs e,
           ))
-          (alike y 4294967295)
+          (cases_eq y 4294967295)
 
       items-count : chain_fits b at Chain.Items (suc k) k ≡ true → count j (item_names (T n k).items) ≡ chain_weight b at n (same j) Chain.Items k
       unfolding item_names item_fits result_weight chain_names
@@ -284,19 +287,19 @@ module _ (b : List ℕ) (at n : ℕ) (W : Walkable b at n) (j : ℕ) (o : bears 
             f.weighs-more m (same j),
             link-weighs e,
           ))
-          (alike y 4294967295)
+          (cases_eq y 4294967295)
 
-    by-expression : (e : Entry) → entry_of b at k ≡ e → is_expression (entry_of b at k) ≡ true → count j (expr_names (T n k).expression) ≡ w k
-    by-expression (Entry.Expression f) q s = form-counts f q
-    by-expression (Entry.Pattern p) q s = absurd (no-expression-pattern b at k s q)
-    by-expression (Entry.Link x y z) q s = absurd (no-expression-link b at k s q)
-    by-expression Entry.Bad q s = absurd (no-expression-bad b at k s q)
+    by-expression : (e : Option Node) → entry_of b at k ≡ e → is_expression (entry_of b at k) ≡ true → count j (expr_names (T n k).expression) ≡ w k
+    by-expression (Some (Node.Expression f)) q s = form-counts f q
+    by-expression (Some (Node.Pattern p)) q s = absurd (no-expression-pattern b at k s q)
+    by-expression (Some (Node.Link x y z)) q s = absurd (no-expression-link b at k s q)
+    by-expression None q s = absurd (no-expression-bad b at k s q)
 
-    by-pattern : (e : Entry) → entry_of b at k ≡ e → is_pattern (entry_of b at k) ≡ true → count j (pattern_ids (T n k).pattern) ≡ w k
-    by-pattern (Entry.Expression f) q s = absurd (no-pattern-expression b at k s q)
-    by-pattern (Entry.Pattern p) q s = shape-counts p q
-    by-pattern (Entry.Link x y z) q s = absurd (no-pattern-link b at k s q)
-    by-pattern Entry.Bad q s = absurd (no-pattern-bad b at k s q)
+    by-pattern : (e : Option Node) → entry_of b at k ≡ e → is_pattern (entry_of b at k) ≡ true → count j (pattern_ids (T n k).pattern) ≡ w k
+    by-pattern (Some (Node.Expression f)) q s = absurd (no-pattern-expression b at k s q)
+    by-pattern (Some (Node.Pattern p)) q s = shape-counts p q
+    by-pattern (Some (Node.Link x y z)) q s = absurd (no-pattern-link b at k s q)
+    by-pattern None q s = absurd (no-pattern-bad b at k s q)
 
     by_chain : (h : Chain) → chain_fits b at h (suc k) k ≡ true → count j (chain_names h (T n k)) ≡ chain_weight b at n (same j) h k
     unfolding chain_names

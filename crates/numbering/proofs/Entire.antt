@@ -6,14 +6,16 @@ use mathlib.Core.Bool.{true}
 use native.Mathlib.Omega.{arith}
 use lib.ListN.{length, get_or, replicate}
 use borrow.Author.Tests.{eqb-true}
+use Rattle.std.proofs.lemmas.List.{append-nil, get_or-replicate}
 use Rattle.source.specs.declared.Layout.{Layout}
 use Rattle.source.specs.Trees.{Pat, Expr}
-use Rattle.source.specs.Indices.{total, rows}
-use Rattle.source.specs.Layout.{names, publics, definitions, expressions, nodes, publics_offset, definitions_offset, expressions_offset, nodes_offset, text_offset, layout_of}
+use Rattle.marks.specs.Indices.{total, rows, same}
+use Rattle.source.specs.Layout.{names, publics, definitions, expressions, nodes}
+use Rattle.source.specs.Layout.{publics_offset, definitions_offset, expressions_offset, nodes_offset, text_offset, layout_of}
 use Rattle.source.specs.Layout.{definition_entry, expression_root, NAME-WORDS, DEFINITION-WORDS}
 use Rattle.source.specs.Names.{names_fit, name_of}
 use Rattle.source.specs.Nodes.{pattern_fits, publics_fit, definitions_fit, expressions_fit}
-use Rattle.source.specs.Uses.{same, by_nodes, by_definitions, by_expressions}
+use Rattle.source.specs.Uses.{by_nodes, by_definitions, by_expressions}
 use Rattle.source.specs.Record.{Read, module_of, used_once}
 use Rattle.source.specs.Readable.{Readable}
 use Rattle.std.specs.Prelude.{Err}
@@ -26,8 +28,9 @@ use Rattle.numbering.specs.Walks.{weight, each, coded, Holds, names as both, no_
 use Rattle.numbering.specs.Walks.{Walkable, ReadyDefinitions, ReadyExpressions, sum_from, definitions_weight}
 use Rattle.numbering.specs.Walks.{expressions_weight, Published, Registered, DefinitionsWalk, ExpressionsWalk}
 use Rattle.numbering.specs.declared.rows.Scopes.{Scopes}
-use Rattle.numbering.proofs.Laws.{every-at, and_left, and_right}
-use Rattle.numbering.proofs.Sums.{total-same, total-sum, total-zero, total-add, one_at_most, same-no, used-by}
+use Rattle.marks.proofs.Indices.{every-at, and_left, and_right}
+use Rattle.marks.proofs.Indices.{same-no}
+use Rattle.numbering.proofs.Sums.{total-same, total-sum, total-zero, total-add, one_at_most, used-by}
 use Rattle.numbering.proofs.Weights.{roots-weigh}
 use Rattle.numbering.proofs.Children.{pattern-item, expression-item}
 use Rattle.numbering.proofs.Scopes.{Parts, room-first, room-second, earlier, later}
@@ -35,18 +38,9 @@ use Rattle.records.specs.SourceRecord.{HEADER}
 
 -- ---- rows at the start
 
-nothing : (n x : ℕ) → ◌≡◌ {A = ℕ} (get_or (replicate n 0) x 0) 0
-nothing zero x = refl
-nothing (suc n) zero = refl
-nothing (suc n) (suc x) = nothing n x
-
 pub no-row-holds : Holds no_row []
 unfolding no_row found coded
-no-row-holds x l = nothing 512 x
-
-append-none : (l : Ids) → l ++ [] ≡ l
-append-none [] = refl
-append-none (e ∷ l) = ap (λ (r : Ids). e ∷ r) (append-none l)
+no-row-holds x l = get_or-replicate 512 x 0 0 l
 
 -- the three texts
 pub three-registered : (b : List ℕ) (text count : ℕ) {s₀ s₁ s₂ s₃ : Scopes} → Registered b fresh_text text count 0 s₀ s₁
@@ -55,7 +49,7 @@ pub three-registered : (b : List ℕ) (text count : ℕ) {s₀ s₁ s₂ s₃ : 
 unfolding registered
 three-registered b text count r s t h =
     let q = t.holds _ (s.holds _ (r.holds [] h)) in
-    let e = append-none (named fresh_text 0 0 (rows count 0 (name_of b text))) in
+    let e = append-nil (named fresh_text 0 0 (rows count 0 (name_of b text))) in
     rw e at q
 
 abbrev numbers_of : ℕ → List ℕ → List (Pat × Expr) → List Expr → Numbered
@@ -113,7 +107,8 @@ module _ (b : List ℕ) (Q : Readable b) where
       (expression-item b (nodes_offset b) (nodes b) walk (nodes b) (expression_root b (expressions_offset b) j) fits).0
 
   used : (c : ℕ) → c < nodes b
-      → by_nodes b (nodes_offset b) (nodes b) c + (by_definitions b (definitions_offset b) (definitions b) c + by_expressions b (expressions_offset b) (expressions b) c) ≡ 1
+      → by_nodes b (nodes_offset b) (nodes b) c + (by_definitions b (definitions_offset b) (definitions b) c
+      + by_expressions b (expressions_offset b) (expressions b) c) ≡ 1
   unfolding used_once
   used c l = eqb-true _ 1 (every-at (nodes b) c _ Q.used-once l)
 
@@ -144,7 +139,8 @@ module _ (b : List ℕ) (Q : Readable b) where
 
   -- THE LISTS WEIGH as much as all nodes
   pub lists-weigh : (own : ℕ → ℕ)
-      → definitions_weight b (nodes_offset b) (definitions_offset b) (definitions b) 0 own + expressions_weight b (nodes_offset b) (expressions_offset b) (expressions b) 0 own
+      → definitions_weight b (nodes_offset b) (definitions_offset b) (definitions b) 0 own
+      + expressions_weight b (nodes_offset b) (expressions_offset b) (expressions b) 0 own
       ≡ total (nodes b) own
   lists-weigh own =
       sym (ap₂ (λ (x y : ℕ). x + y) (definitions-weigh own) (expressions-weigh own))
@@ -178,9 +174,9 @@ module _ (b : List ℕ) (Q : Readable b) where
       → DefinitionsWalk b (nodes_offset b) (nodes b) (definitions_offset b) (definitions b) 0 s₁ s₂
       → ExpressionsWalk b (nodes_offset b) (nodes b) (expressions_offset b) (expressions b) 0 s₂ s₃ → s.next ≡ 9
       → Holds s.locals [] → Holds s.globals (registered (rows (names b) 0 (name_of b (text_offset b)))).globals
-      → NumberedIn b s.ids public s₃.next s₃.ids public₁
+      → length s₃.ids ≡ length s.ids → length public₁ ≡ length public → NumberedIn b s.ids public s₃.next s₃.ids public₁
   unfolding numbered names_of number_module_variables numbered_module module_of ◌>>=◌ return registered
-  entire {s} {s₁} {s₂} {s₃} {public} {public₁} p d x e hl hg =
+  entire {s} {s₁} {s₂} {s₃} {public} {public₁} p d x e hl hg li lp =
       let g = registered (rows (names b) 0 (name_of b (text_offset b))) in
       let pn = p.numbers g hl hg (sym e) in
       let once = (room 0 (omega arith)).met-once in
@@ -203,8 +199,8 @@ module _ (b : List ℕ) (Q : Readable b) where
             x.elsewhere j (omega (arith, none-behind j l, lists-weigh (same j)))
             ∙ d.elsewhere j (omega (arith, none-behind j l, lists-weigh (same j))) ∙ same-id j;
         public-behind = λ j l. p.behind j (omega arith);
-        ids-long = x.long ∙ d.long ∙ ap length p.rest.same_ids;
-        public-long = p.long;
+        ids-long = li;
+        public-long = lp;
       }
 
 -- the same by a layout in a local
@@ -239,9 +235,9 @@ module _ (b : List ℕ) (Q : Readable b) (l : Layout) (e : l ≡ layout_of b) wh
       → DefinitionsWalk b l.nodes_at l.nodes l.definitions_at l.definitions 0 s₁ s₂
       → ExpressionsWalk b l.nodes_at l.nodes l.expressions_at l.expressions 0 s₂ s₃ → s.next ≡ 9
       → Holds s.locals [] → Holds s.globals (registered (rows l.names 0 (name_of b l.text_at))).globals
-      → NumberedIn b s.ids public s₃.next s₃.ids public₁
+      → length s₃.ids ≡ length s.ids → length public₁ ≡ length public → NumberedIn b s.ids public s₃.next s₃.ids public₁
   unfolding layout_of
-  entire-at = rw e (λ p d x q hl hg. entire b Q p d x q hl hg)
+  entire-at = rw e (λ p d x q hl hg li lp. entire b Q p d x q hl hg li lp)
 
 -- a refused record
 pub refused-is : (t : Read) {r : Refusal} → Err r ≡ checked t → t ≡ Read.refused r

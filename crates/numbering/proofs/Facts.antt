@@ -255,7 +255,8 @@ definitions-step (d ∷ ds) Γ Δ locals g w s =
     record { step = and_then r (and_then q.step t.step); scope = t.scope }
 
 pub expressions-step : (es : List Expr) (Γ Δ : List ℕ) (locals : Ids) (g : Names) → Well g → Scope Γ Δ locals g
-    → Step g (number_expressions es locals g).1 (expression_binders (number_expressions es locals g).0) (expression_variables (number_expressions es locals g).0)
+    → Step g (number_expressions es locals g).1 (expression_binders (number_expressions es locals g).0)
+    (expression_variables (number_expressions es locals g).0)
     (free_in_expressions Γ es) (free_in_expressions Δ (number_expressions es locals g).0)
 unfolding number_expressions ◌>>=◌ return expression_binders expression_variables free_in_expressions
 expressions-step [] Γ Δ locals g w s = nothing g w

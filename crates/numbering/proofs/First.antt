@@ -6,20 +6,21 @@ use mathlib.Core.Bool.{Bool, true, false, ◌&&◌, cond}
 use mathlib.Core.Logic.{⊎_elim}
 use native.Mathlib.Numerals.{add-one}
 use native.Mathlib.Omega.{arith}
-use lib.ListN.{length, get_or, set, take, drop, length-set}
+use lib.ListN.{length, get_or, set, take, drop}
 use lib.Seq.{get_or-set_same, get_or-set_other}
 use lib.Dec.{eqb}
 use lib.Pointwise.{pointwise}
 use borrow.Author.Tests.{eqb-true, ltb-true}
 use Rattle.source.specs.Trees.{Text}
-use Rattle.source.specs.Indices.{every, rows}
+use Rattle.marks.specs.Indices.{every, rows}
 use Rattle.source.specs.Names.{offset_of, length_of, end_of, name_fits, names_fit, name_of}
 use Rattle.source.specs.Nodes.{publics_fit}
 use Rattle.source.specs.Layout.{name_entry, public_at}
 use Rattle.numbering.specs.Numbering.{Ids, ◌>>=◌, return, same_text, named, number_publics}
 use Rattle.numbering.specs.Walks.{names, Chosen, Published, Registered}
 use Rattle.numbering.specs.declared.rows.Scopes.{Scopes}
-use Rattle.numbering.proofs.Laws.{and_left, and_right, every-at, split}
+use Rattle.std.proofs.lemmas.Bool.{cases_lt}
+use Rattle.marks.proofs.Indices.{and_left, and_right, every-at}
 use Rattle.numbering.proofs.Held.{held_more, only-globals}
 use Rattle.numbering.proofs.Listed.{rows_step, rows_none}
 
@@ -43,7 +44,7 @@ name-ends b text (suc n) k f l =
     (λ (q : k < n).
     omega (arith, name-ends b text n k (and_left _ _ f) q, eqb-true (offset_of b n) (end_of b n) (and_left _ _ (and_right (every n (name_fits b text)) _ f))))
     (λ (q : n ≤ k). let e : k ≡ n = omega arith in rw e (omega arith))
-    (split k n)
+    (cases_lt k n)
 
 pub name-within : (b : List ℕ) (text n k : ℕ) → names_fit b text n ≡ true → k < n → text + offset_of b k + length_of b k ≤ length b
 unfolding names_fit
@@ -53,9 +54,6 @@ name-within b text n k f l =
 module _ (b t : List ℕ) (text count id : ℕ) where
   all : Ids
   all = named t id 0 (rows count 0 (name_of b text))
-
-  pub found-start : named t id 0 (rows (count - 0) 0 (name_of b text)) ≡ named t id 0 (rows count 0 (name_of b text))
-  found-start = let q : count - 0 ≡ count = omega arith in ap (λ (m : ℕ). named t id 0 (rows m 0 (name_of b text))) q
 
   pub found-no : (k : ℕ) {r : Bool} → k < count → r ≡ same_text t (name_of b text k) → r ≡ false
       → named t id k (rows (count - k) k (name_of b text)) ≡ named t id 0 (rows count 0 (name_of b text))
@@ -124,7 +122,6 @@ module _ (b : List ℕ) (list count : ℕ) where
           same_top = w.rest.same_top ∙ u.rest.same_top;
           same_ids = w.rest.same_ids ∙ u.rest.same_ids;
         };
-        long = w.long ∙ simp length-set;
         before = λ j q. w.before j (omega arith) ∙ get_or-set_other public i j id 0 (λ (z : j ≡ i). omega arith);
         behind = λ j q. w.behind j (omega arith) ∙ get_or-set_other public i j id 0 (λ (z : j ≡ i). omega arith);
         numbers = λ g h k e.
@@ -139,11 +136,11 @@ module _ (b : List ℕ) (list count : ℕ) where
     more = omega arith;
     few = omega arith;
     rest = only-globals s;
-    long = refl;
     before = λ j q. refl;
     behind = λ j q. refl;
     numbers = λ g h k e. (g.globals, (rw (rows_none count i (public_at b list) l, rows_none count i (λ k. get_or public k 0) l, ← e), k));
   }
 
-  pub publics-start : {s s₂ : Scopes} {public public₂ : List ℕ} → Published b list (count - 0) 0 s public s₂ public₂ → Published b list count 0 s public s₂ public₂
+  pub publics-start : {s s₂ : Scopes} {public public₂ : List ℕ} → Published b list (count - 0) 0 s public s₂ public₂
+      → Published b list count 0 s public s₂ public₂
   publics-start w = let e : count - 0 ≡ count = omega arith in rw e at w

@@ -14,7 +14,7 @@ use Rattle.numbering.specs.Numbering.{Ids, Names, found, chosen, number_variable
 use Rattle.numbering.specs.Walks.{coded, Holds, names, undone, unwound, OnlyGlobals, Chosen, SameBelow}
 use Rattle.numbering.specs.declared.rows.Scopes.{Scopes}
 use Rattle.numbering.specs.declared.rows.Undo.{Undo}
-use Rattle.numbering.proofs.Laws.{alike}
+use Rattle.std.proofs.lemmas.Bool.{cases_eq}
 
 -- a name that is bound anew: its row has the id plus one
 pub held_more : (row : List ℕ) (l : Ids) (x i : ℕ) → Holds row l → x < length row → Holds (set row x (i + 1)) ((x, i) ∷ l)
@@ -24,7 +24,7 @@ held_more row l x i h q y m =
     (λ (e : y ≡ x). ap (λ (z : ℕ). get_or (set row x (i + 1)) z 0) e
     ∙ get_or-set_same row x (i + 1) 0 q ∙ add-one i ∙ ap (λ (t : Bool). coded (cond t (some i) (found y l))) (sym (eq-eqb y x e)))
     (λ (f : y ≡ x → ⊥). get_or-set_other row x y (i + 1) 0 f ∙ h y m ∙ ap (λ (t : Bool). coded (cond t (some i) (found y l))) (sym (ne_eqb y x f)))
-    (alike y x)
+    (cases_eq y x)
 
 chosen-local : (x : ℕ) (o p : Option ℕ) (g : Names) (v next : ℕ) → v ≡ coded o → (v ≡ 0 → ⊥) → g.next ≡ next
     → chosen x o p g ≡ (v - 1, names g.globals next)

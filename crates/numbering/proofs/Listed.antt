@@ -6,9 +6,8 @@ use mathlib.Core.Bool.{Bool, true}
 use native.Mathlib.Numerals.{add-one}
 use native.Mathlib.Omega.{arith}
 use lib.ListN.{get_or}
-use Rattle.source.specs.Indices.{rows}
+use Rattle.marks.specs.Indices.{rows, same}
 use Rattle.source.specs.Nodes.{is_expression, is_pattern, pattern_fits, definitions_fit, expressions_fit}
-use Rattle.source.specs.Uses.{same}
 use Rattle.source.specs.Record.{definition_at, expression_at}
 use Rattle.source.specs.Layout.{definition_entry, expression_root}
 use Rattle.numbering.specs.Numbering.{Ids, Names, Naming, ◌>>=◌, return, number_def_variables, number_definitions, number_expressions}
@@ -17,7 +16,7 @@ use Rattle.numbering.specs.Walks.{names, weight, each, Ready, ReadyTwo, ReadyDef
 use Rattle.numbering.specs.declared.rows.Scopes.{Scopes}
 use Rattle.numbering.specs.Walks.{ReadyExpressions, Defined, sum_from, definitions_weight, expressions_weight}
 use Rattle.numbering.specs.Walks.{PatternWalk, ExpressionWalk, DefinitionWalk, DefinitionsWalk, ExpressionsWalk}
-use Rattle.numbering.proofs.Laws.{every-at, and_left, and_right}
+use Rattle.marks.proofs.Indices.{every-at, and_left, and_right}
 use Rattle.numbering.proofs.Children.{pattern-item, expression-item}
 use Rattle.numbering.proofs.Scopes.{Weight, Parts, room-first, room-second, both-else, earlier, later, walked_none, walked-two}
 
@@ -44,19 +43,12 @@ module _ (b : List ℕ) (at n p v : ℕ) {s : Scopes} (R : ReadyTwo b at n is_pa
   def-parts : Parts (λ own. weight b at own p + weight b at own v) (λ own. weight b at own v) (λ own. weight b at own p)
   def-parts = record { hold = λ own. omega arith }
 
-  pub def-first : Ready b at n is_expression v s
-  def-first = record { walk = R.walk; below = R.second_below; sorted = R.second-sorted; room = room-first def-parts R.room }
-
-  pub def-second : {s₁ : Scopes} → ExpressionWalk b at n v s s₁ → Ready b at n is_pattern p s₁
-  def-second u = record { walk = R.walk; below = R.first_below; sorted = R.first-sorted; room = room-second def-parts R.room u.few u.same_top }
-
   pub def-way : {s₁ s₂ : Scopes} → ExpressionWalk b at n v s s₁ → PatternWalk b at n p s₁ s₂ → DefinitionWalk b at n p v s (record s₂ { top = s.top })
   unfolding number_def_variables ◌>>=◌ return
   def-way {s₁} {s₂} u w = record {
     more = omega (arith, u.more, w.more);
     few = omega (arith, u.few, w.few);
     same_top = refl;
-    long = w.long ∙ u.long;
     elsewhere = both-else s.ids s₁.ids s₂.ids def-parts u.elsewhere w.elsewhere;
     unnamed = λ j z. w.unnamed j z ∙ u.unnamed j z;
     numbers = λ l g final h k e a.
@@ -77,7 +69,6 @@ defined-two {s = s} {s₁ = s₁} {s₂ = s₂} both value make p once is val r 
   more = omega (arith, r.more, q.more);
   few = omega (arith, p.hold each, r.few, q.few);
   same_top = q.same_top ∙ r.same_top;
-  long = q.long ∙ r.long;
   elsewhere = both-else s.ids s₁.ids s₂.ids p r.elsewhere q.elsewhere;
   unnamed = λ j z. q.unnamed j z ∙ r.unnamed j z;
   numbers = λ l g final h k e a.
@@ -92,7 +83,6 @@ defined-none is = record {
   more = omega arith;
   few = omega arith;
   same_top = refl;
-  long = refl;
   elsewhere = λ j l. refl;
   unnamed = λ j l. refl;
   numbers = λ l g final h k e a. (l, (g.globals, (rw (← e) (is l g final), (h, k))));

@@ -40,10 +40,6 @@ pub found-head : (x i : ℕ) (es : Ids) → found x ((x, i) ∷ es) ≡ some i
 unfolding found
 found-head x i es = cond-true (eqb x x) _ _ (eq-eqb x x refl)
 
-pub found-tail : (x y i : ℕ) (es : Ids) → (y ≡ x → ⊥) → found y ((x, i) ∷ es) ≡ found y es
-unfolding found
-found-tail x y i es n = cond-false (eqb y x) _ _ (ne_eqb y x n)
-
 -- the ids fall, from below n: the newest entry stands first
 abbrev pub Falling : ℕ → Ids → Type 0
 Falling n [] = Unit {0}

@@ -6,11 +6,12 @@ use mathlib.Core.Bool.{Bool, true, false}
 use native.Mathlib.Omega.{arith}
 use lib.Dec.{eqb}
 use lib.ListN.{length, get_or, length-append, length-map}
-use Rattle.source.specs.declared.Entry.{Entry}
+use Rattle.std.specs.Prelude.{Option, Some, None}
+use Rattle.source.specs.declared.Node.{Node}
 use Rattle.source.specs.declared.Form.{Form}
 use Rattle.source.specs.declared.Shape.{Shape}
 use Rattle.source.specs.Trees.{Pat, Expr, Items, Arms, Env}
-use Rattle.source.specs.Indices.{rows}
+use Rattle.marks.specs.Indices.{rows}
 use Rattle.source.specs.Nodes.{entry_of}
 use Rattle.source.specs.Record.{Tree, tree, as_expression, as_pattern, expression_of, pattern_of, link_of, grown}
 use Rattle.numbering.specs.Numbering.{Ids, Names, ◌>>=◌, return, generate_id, number_pattern_variables}
@@ -177,7 +178,8 @@ module _ (own : ℕ → Type 0) where
 
   -- where the facts hold of all nodes before node n
   module _ (n : ℕ) (small : n < 2048) (bs : ℕ → Tree) (bn : List ℕ → ℕ → Tree) (F : (k : ℕ) → Facts own (bs k) (λ ids. bn ids k)) where
-    form-part : (f : Form) → (bears (Entry.Expression f) ≡ true → own n) → Part own expr_names (λ ids. expression_of (bn ids) (form_with (get_or ids n 0) f))
+    form-part : (f : Form) → (bears (Some (Node.Expression f)) ≡ true → own n)
+        → Part own expr_names (λ ids. expression_of (bn ids) (form_with (get_or ids n 0) f))
     unfolding expression_of form_with expr_names bears is_name
     form-part Form.Unit o = part_none own expr_names Expr.unit refl
     form-part Form.Nil o = part_none own expr_names Expr.nil refl
@@ -230,7 +232,8 @@ module _ (own : ℕ → Type 0) where
         ((F y).arms-shape l (number_expr_variables (bs x).expression l g).1)
     form-shape (Form.Sequence x) l g = shaped-one item_names expr_names Expr.sequence (λ a. refl) ((F x).items-shape l g)
 
-    shape-part : (f : Shape) → (bears (Entry.Pattern f) ≡ true → own n) → Part own pattern_ids (λ ids. pattern_of (bn ids) (shape_with (get_or ids n 0) f))
+    shape-part : (f : Shape) → (bears (Some (Node.Pattern f)) ≡ true → own n)
+        → Part own pattern_ids (λ ids. pattern_of (bn ids) (shape_with (get_or ids n 0) f))
     unfolding pattern_of shape_with pattern_ids bears is_name
     shape-part Shape.Unit o = part_none own pattern_ids Pat.unit_p refl
     shape-part Shape.Nil o = part_none own pattern_ids Pat.nil_p refl
@@ -334,12 +337,12 @@ module _ (own : ℕ → Type 0) where
         items-shape = items-shaped (eqb y 4294967295);
       }
 
-    entry-facts : (e : Entry) → (bears e ≡ true → own n) → Facts own (grown bs e) (λ ids. grown (bn ids) (entry_with (get_or ids n 0) e))
+    entry-facts : (e : Option Node) → (bears e ≡ true → own n) → Facts own (grown bs e) (λ ids. grown (bn ids) (entry_with (get_or ids n 0) e))
     unfolding grown entry_with expr_names number_expr_variables return
-    entry-facts (Entry.Expression f) o = as-expression (form-part f o) (form-shape f)
-    entry-facts (Entry.Pattern p) o = as-pattern (shape-part p o) (shape-shape p)
-    entry-facts (Entry.Link x y z) o = link-facts x y z
-    entry-facts Entry.Bad o = as-expression (part_none own expr_names Expr.unit refl) (λ l g. shaped-none expr_names Expr.unit)
+    entry-facts (Some (Node.Expression f)) o = as-expression (form-part f o) (form-shape f)
+    entry-facts (Some (Node.Pattern p)) o = as-pattern (shape-part p o) (shape-shape p)
+    entry-facts (Some (Node.Link x y z)) o = link-facts x y z
+    entry-facts None o = as-expression (part_none own expr_names Expr.unit refl) (λ l g. shaped-none expr_names Expr.unit)
 
   either-facts : (t : Bool) {s s' : Tree} {num num' : List ℕ → Tree} → Facts own s num → Facts own s' num' →
       Facts own (elim t [ true ↦ s | false ↦ s' ]) (λ ids. elim t [ true ↦ num ids | false ↦ num' ids ])

@@ -6,15 +6,16 @@ use mathlib.Core.Bool.{Bool, true}
 use mathlib.Core.Logic.{⊎_elim}
 use native.Mathlib.Numerals.{add-one}
 use native.Mathlib.Omega.{arith}
-use lib.ListN.{length, get_or, set, length-set}
+use lib.ListN.{length, get_or, set}
 use lib.Seq.{get_or-set_same, get_or-set_other}
-use Rattle.source.specs.Uses.{same}
+use Rattle.marks.specs.Indices.{same}
 use Rattle.numbering.specs.Numbering.{Ids, Names, Naming, number_variable}
 use Rattle.numbering.specs.Walks.{names, undone, unwound, bound_to, unwound_to, each, Sized, Room, Else, Agree, Bound, Walked, Chosen}
 use Rattle.numbering.specs.declared.rows.Scopes.{Scopes}
 use Rattle.numbering.specs.declared.rows.Undo.{Undo}
-use Rattle.numbering.proofs.Laws.{split, not-both}
-use Rattle.numbering.proofs.Sums.{same-yes}
+use Rattle.std.proofs.lemmas.Bool.{cases_eq, cases_lt}
+use Rattle.numbering.proofs.Laws.{not-both}
+use Rattle.marks.proofs.Indices.{same-yes}
 use Rattle.numbering.proofs.Held.{held_more, unwound-none, unwound-parts, unwound-same, unwound-bound}
 
 abbrev pub Weight : Type 0
@@ -23,6 +24,19 @@ Weight = (ℕ → ℕ) → ℕ
 -- two parts of a walk
 pub record Parts (w u v : Weight) : Type 0 where
   pub hold : (own : ℕ → ℕ) → u own + v own ≤ w own
+
+-- the first alone
+pub least_parts : {w u : Weight} → ((own : ℕ → ℕ) → u own ≤ w own) → Parts w u (λ own. 0)
+least_parts h = record { hold = λ own. omega (arith, h own) }
+
+-- what the item of a link is of its chain: all of the last link, and else the first part
+pub item-parts : {w u v : Weight} (next : ℕ) → (next ≡ 4294967295 → (own : ℕ → ℕ) → u own ≤ w own) → ((next ≡ 4294967295 → ⊥) → Parts w u v)
+    → Parts w u (λ own. 0)
+item-parts next last more =
+    least_parts (λ own. ⊎_elim
+    (λ (m : next ≡ 4294967295). last m own)
+    (λ (m : next ≡ 4294967295 → ⊥). omega (arith, (more m).hold own))
+    (cases_eq next 4294967295))
 
 -- ---- room
 
@@ -75,7 +89,6 @@ bound-none {s = s} is = record {
   undo-below = λ i l. refl;
   undo-names = λ i l m. absurd (omega arith);
   unwinds = unwound-none s.undo s.top s.locals (omega arith);
-  long = refl;
   elsewhere = λ j l. refl;
   unnamed = λ j l. refl;
   numbers = λ l g final h e a. (l, (rw (← e) (is l g final), h));
@@ -103,11 +116,10 @@ bound-one {named} x k {s} nk xl kl tl z is = rw is (record {
   unwinds =
       let e : s.top + 1 - s.top ≡ 1 = omega arith in
       rw e (unwound-bound s.undo s.top x (s.next + 1) s.locals (omega (arith, z.entries)) (omega (arith, z.rows)));
-  long = simp length-set;
-  elsewhere = λ j l. get_or-set_other s.ids k j s.next 0 (λ (e : j ≡ k). let q : same j k ≡ 1 = rw e (same-yes k) in omega arith);
+  elsewhere = λ j l. get_or-set_other s.ids k j s.next 0 (λ (e : j ≡ k). omega (arith, same-yes j k e));
   unnamed = λ j l. get_or-set_other s.ids k j s.next 0 (λ (e : j ≡ k). not-both (rw e at l) nk);
   numbers = λ l g final h e a.
-      let q : 0 < same k k = omega (arith, same-yes k) in
+      let q : 0 < same k k = omega (arith, same-yes k k refl) in
       let r : get_or final k 0 ≡ s.next = a k q ∙ get_or-set_same s.ids k s.next 0 (omega (arith, z.nodes)) in
       ((x, s.next) ∷ l, (rw (r, add-one, e), held_more s.locals l x s.next h (omega (arith, z.rows))));
 })
@@ -131,7 +143,6 @@ bound-as-is f' value' make p is val r = record {
   undo-below = r.undo-below;
   undo-names = r.undo-names;
   unwinds = r.unwinds;
-  long = r.long;
   elsewhere = λ j z. r.elsewhere j (omega (arith, p (same j)));
   unnamed = r.unnamed;
   numbers = λ l g final h e a.
@@ -154,7 +165,7 @@ bound-two {s = s} {s₁ = s₁} {s₂ = s₂} both value make p room is val r q 
   undo-names = λ i l m. ⊎_elim
       (λ (z : i < s₁.top). rw (q.undo-below i z) (r.undo-names i l z))
       (λ (z : s₁.top ≤ i). q.undo-names i z m)
-      (split i s₁.top);
+      (cases_lt i s₁.top);
   unwinds =
       let e : s₂.top - s.top ≡ (s₁.top - s.top) + (s₂.top - s₁.top) = omega (arith, r.entries, q.entries) in
       let t : s.top + (s₁.top - s.top) ≡ s₁.top = omega (arith, r.entries) in
@@ -164,7 +175,6 @@ bound-two {s = s} {s₁ = s₁} {s₂ = s₂} both value make p room is val r q 
       ∙ ap (unwound s₂.undo s.top (s₁.top - s.top)) q.unwinds
       ∙ unwound-same s₁.undo s₂.undo s.top (s₁.top - s.top) s₁.locals (λ i l. q.undo-below i (omega arith))
       ∙ r.unwinds;
-  long = q.long ∙ r.long;
   elsewhere = both-else s.ids s₁.ids s₂.ids p r.elsewhere q.elsewhere;
   unnamed = λ j z. q.unnamed j z ∙ r.unnamed j z;
   numbers = λ l g final h e a.
@@ -183,7 +193,6 @@ walked_none is = record {
   same_top = refl;
   same_locals = refl;
   undo-below = λ i l. refl;
-  long = refl;
   elsewhere = λ j l. refl;
   unnamed = λ j l. refl;
   numbers = λ l g final h k e a. (g.globals, (rw (← e) (is l g final), k));
@@ -199,11 +208,10 @@ walked-variable x k {s} {id} {s'} nk kl c = record {
   same_top = c.rest.same_top;
   same_locals = c.rest.same_locals;
   undo-below = λ i l. ap (λ (u : List Undo). undone u i) c.rest.same_undo;
-  long = simp length-set (ap length c.rest.same_ids);
-  elsewhere = λ j l. get_or-set_other s'.ids k j id 0 (λ (e : j ≡ k). let q : same j k ≡ 1 = rw e (same-yes k) in omega arith) ∙ same-id j;
+  elsewhere = λ j l. get_or-set_other s'.ids k j id 0 (λ (e : j ≡ k). omega (arith, same-yes j k e)) ∙ same-id j;
   unnamed = λ j l. get_or-set_other s'.ids k j id 0 (λ (e : j ≡ k). not-both (rw e at l) nk) ∙ same-id j;
   numbers = λ l g final h m e a.
-      let q : 0 < same k k = omega (arith, same-yes k) in
+      let q : 0 < same k k = omega (arith, same-yes k k refl) in
       let r : get_or final k 0 ≡ id = a k q ∙ get_or-set_same s'.ids k id 0 (rw c.rest.same_ids kl) in
       let t = c.numbers l g h m e in
       (t.0, (rw r t.1.0, t.1.1));
@@ -222,7 +230,6 @@ walked-as-is f' value' make p is val r = record {
   same_top = r.same_top;
   same_locals = r.same_locals;
   undo-below = r.undo-below;
-  long = r.long;
   elsewhere = λ j z. r.elsewhere j (omega (arith, p (same j)));
   unnamed = r.unnamed;
   numbers = λ l g final h k e a.
@@ -241,7 +248,6 @@ walked-two {s = s} {s₁ = s₁} {s₂ = s₂} both value make p room is val r q
   same_top = q.same_top ∙ r.same_top;
   same_locals = q.same_locals ∙ r.same_locals;
   undo-below = λ i l. q.undo-below i (omega (arith, r.same_top)) ∙ r.undo-below i l;
-  long = q.long ∙ r.long;
   elsewhere = both-else s.ids s₁.ids s₂.ids p r.elsewhere q.elsewhere;
   unnamed = λ j z. q.unnamed j z ∙ r.unnamed j z;
   numbers = λ l g final h k e a.
@@ -266,11 +272,11 @@ walked-scope {s = s} {s₁ = s₁} {s₂ = s₂} both value make p room is val r
       ∙ unwound-same s₁.undo s₂.undo s.top (s₁.top - s.top) s₁.locals (λ i l. q.undo-below i (omega (arith, r.entries)))
       ∙ r.unwinds;
   undo-below = λ i l. q.undo-below i (omega (arith, r.entries)) ∙ r.undo-below i l;
-  long = q.long ∙ r.long;
   elsewhere = both-else s.ids s₁.ids s₂.ids p r.elsewhere q.elsewhere;
   unnamed = λ j z. q.unnamed j z ∙ r.unnamed j z;
   numbers = λ l g final h k e a.
       let y = r.numbers l g final h e (earlier s₁.ids s₂.ids final p room.met-once q.elsewhere a) in
-      let z = q.numbers y.0 (names g.globals s₁.next) final y.1.1 (λ x m. ap (λ (t : List ℕ). get_or t x 0) r.same_globals ∙ k x m) refl (later s₂.ids final p a) in
+      let same = λ (x : ℕ). ap (λ (t : List ℕ). get_or t x 0) r.same_globals in
+      let z = q.numbers y.0 (names g.globals s₁.next) final y.1.1 (λ x m. same x ∙ k x m) refl (later s₂.ids final p a) in
       (z.0, (rw (val final) (is l g _ _ _ _ _ y.1.0 z.1.0), z.1.1));
 })

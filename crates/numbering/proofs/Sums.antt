@@ -6,9 +6,9 @@ use mathlib.Core.Logic.{⊎_elim}
 use native.Mathlib.Nat.{add-mul, one-mul, zero-mul}
 use native.Mathlib.Omega.{arith}
 use borrow.Author.Tests.{eq-eqb, ne_eqb}
-use Rattle.source.specs.Indices.{total, pick}
-use Rattle.source.specs.Uses.{same}
-use Rattle.numbering.proofs.Laws.{alike}
+use Rattle.marks.specs.Indices.{total, pick, same}
+use Rattle.marks.proofs.Indices.{same-no, same-yes}
+use Rattle.std.proofs.lemmas.Bool.{cases_eq}
 
 pub total-same : (n : ℕ) (f g : ℕ → ℕ) → ((k : ℕ) → k < n → f k ≡ g k) → total n f ≡ total n g
 unfolding total
@@ -46,23 +46,13 @@ total-extend (suc n) k f l h =
     ⊎_elim
     (λ (e : k ≡ suc n). ap (λ (m : ℕ). total m f) e)
     (λ (e : k ≡ suc n → ⊥). omega (arith, total-extend n k f (omega arith) h, h n (omega arith)))
-    (alike k (suc n))
+    (cases_eq k (suc n))
 
 same_here : (x k w : ℕ) → x ≡ k → same x k * w ≡ w
-unfolding same pick
-same_here x k w e = rw (eq-eqb x k e) (one-mul w)
+same_here x k w e = ap (λ (n : ℕ). n * w) (same-yes x k e) ∙ one-mul w
 
 same-else : (x k w : ℕ) → (x ≡ k → ⊥) → same x k * w ≡ 0
-unfolding same pick
-same-else x k w e = rw (ne_eqb x k e) (zero-mul w)
-
-pub same-no : (x k : ℕ) → (x ≡ k → ⊥) → same x k ≡ 0
-unfolding same pick
-same-no x k e = rw (ne_eqb x k e)
-
-pub same-yes : (x : ℕ) → same x x ≡ 1
-unfolding same pick
-same-yes x = rw (eq-eqb x x refl)
+same-else x k w e = ap (λ (n : ℕ). n * w) (same-no x k e) ∙ zero-mul w
 
 nowhere : (n x : ℕ) (w : ℕ → ℕ) → n ≤ x → total n (λ k. same x k * w k) ≡ 0
 nowhere n x w h = total-same n _ _ (λ k l. same-else x k (w k) (λ e. omega arith)) ∙ total-zero n
@@ -75,7 +65,7 @@ once (suc n) x w h =
     ⊎_elim
     (λ (e : x ≡ n). omega (arith, nowhere n x w (omega arith), same_here x n (w n) e, ap w e))
     (λ (f : x ≡ n → ⊥). omega (arith, once n x w (omega arith), same-else x n (w n) f))
-    (alike x n)
+    (cases_eq x n)
 
 -- at most one index below n is j
 pub one_at_most : (n j : ℕ) → total n (same j) ≤ 1
@@ -84,9 +74,9 @@ one_at_most zero j = omega arith
 one_at_most (suc n) j =
     ⊎_elim
     (λ (e : j ≡ n). let z : total n (same j) ≡ 0 = total-same n _ _ (λ k l. same-no j k (λ q. omega arith)) ∙ total-zero n in
-    let y : same j n ≡ 1 = rw e (same-yes n) in omega arith)
+    omega (arith, same-yes j n e))
     (λ (f : j ≡ n → ⊥). omega (arith, one_at_most n j, same-no j n f))
-    (alike j n)
+    (cases_eq j n)
 
 -- a choice weighed
 pub total-pick : (n : ℕ) (t : Bool) (f w : ℕ → ℕ) → total n (λ k. pick t 0 (f k) * w k) ≡ pick t 0 (total n (λ k. f k * w k))

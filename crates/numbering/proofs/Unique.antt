@@ -10,11 +10,10 @@ use lib.ListN.{length, get_or, replicate, length-replicate, get_or-eq_default}
 use lib.Seq.{ext_get_or}
 use borrow.Author.Tests.{eq-eqb, ne_eqb}
 use Rattle.source.specs.Trees.{Pat, Expr, Module}
-use Rattle.source.specs.Indices.{total, rows, pick}
+use Rattle.marks.specs.Indices.{total, rows, pick, same}
 use Rattle.source.specs.Layout.{publics, definitions, expressions, nodes, publics_offset, definitions_offset, expressions_offset, nodes_offset}
 use Rattle.source.specs.Layout.{public_at, definition_entry, expression_root}
 use Rattle.source.specs.Nodes.{entry_of, pattern_fits, definitions_fit, expressions_fit}
-use Rattle.source.specs.Uses.{same}
 use Rattle.source.specs.Record.{Read, source_of, module_of, tree, definition_at, expression_at}
 use Rattle.source.specs.Readable.{Readable}
 use Rattle.source.proofs.Accepted.{accepted-readable, accepted-module}
@@ -30,9 +29,11 @@ use Rattle.numbering.specs.Statements.{All, Distinct, pattern_ids}
 use Rattle.numbering.specs.Places.{expr_names, definition_names, expression_names, all_names, indices}
 use Rattle.numbering.specs.Places.{places, beside, ids_of, public_ids_of, numbering_for, numbering_of}
 use Rattle.numbering.specs.Walks.{no_entries, no_publics, sum_from, definitions_weight, expressions_weight}
-use Rattle.numbering.proofs.Laws.{alike, split, every-at, and_left, and_right}
+use Rattle.std.proofs.lemmas.Bool.{cases_eq, cases_lt}
+use Rattle.marks.proofs.Indices.{every-at, and_left, and_right}
 use Rattle.numbering.proofs.Lists.{false-true, not-true, all-member}
-use Rattle.numbering.proofs.Sums.{total-same, once, same-no, same-yes}
+use Rattle.marks.proofs.Indices.{same-no, same-yes}
+use Rattle.numbering.proofs.Sums.{total-same, once}
 use Rattle.numbering.proofs.Children.{pattern-item, expression-item}
 use Rattle.numbering.proofs.Entire.{walk, lists-weigh}
 use Rattle.numbering.proofs.Parts.{table_at, ids_at, Part, Shaped, part_none, part-two, shaped-none, shaped-two, pair_names, Facts, facts}
@@ -64,7 +65,7 @@ beside_none j (p ∷ ps) (i ∷ is) m =
     ⊎_elim
     (λ (e : j ≡ p). absurd (false-true (sym m ∙ member-here j p ps e)))
     (λ (n : j ≡ p → ⊥). beside-there j p ps i is n ∙ beside_none j ps is (sym (member-there j p ps n) ∙ m))
-    (alike j p)
+    (cases_eq j p)
 
 beside-map : (f : ℕ → ℕ) (j : ℕ) (ps : List ℕ) → member j ps ≡ true → beside j ps (map f ps) ≡ f j
 unfolding member
@@ -73,13 +74,13 @@ beside-map f j (p ∷ ps) m =
     ⊎_elim
     (λ (e : j ≡ p). beside-here j p ps (f p) (map f ps) e ∙ ap f (sym e))
     (λ (n : j ≡ p → ⊥). beside-there j p ps (f p) (map f ps) n ∙ beside-map f j ps (sym (member-there j p ps n) ∙ m))
-    (alike j p)
+    (cases_eq j p)
 
 map_same : (f g : ℕ → ℕ) (xs : List ℕ) → ((j : ℕ) → member j xs ≡ true → f j ≡ g j) → map f xs ≡ map g xs
 map_same f g [] h = refl
 map_same f g (x ∷ xs) h =
     ap₂ (λ (y : ℕ) (l : List ℕ). y ∷ l) (h x (member-here x x xs refl))
-    (map_same f g xs (λ j m. h j (⊎_elim (λ (e : j ≡ x). member-here j x xs e) (λ (n : j ≡ x → ⊥). member-there j x xs n ∙ m) (alike j x))))
+    (map_same f g xs (λ j m. h j (⊎_elim (λ (e : j ≡ x). member-here j x xs e) (λ (n : j ≡ x → ⊥). member-there j x xs n ∙ m) (cases_eq j x))))
 
 -- a list of different items, and another as long
 beside-all : (ps is : List ℕ) → length is ≡ length ps → Distinct ps → map (λ j. beside j ps is) ps ≡ is
@@ -100,21 +101,21 @@ count_none j (x ∷ xs) m =
     ⊎_elim
     (λ (e : j ≡ x). absurd (false-true (sym m ∙ member-here j x xs e)))
     (λ (n : j ≡ x → ⊥). omega (arith, same-no j x n, count_none j xs (sym (member-there j x xs n) ∙ m)))
-    (alike j x)
+    (cases_eq j x)
 
 count-zero : (j : ℕ) (xs : List ℕ) → count j xs ≡ 0 → member j xs ≡ false
 unfolding count member
 count-zero j [] e = refl
 count-zero j (x ∷ xs) e =
     ⊎_elim
-    (λ (q : j ≡ x). let z : same j x ≡ 1 = rw q (same-yes x) in absurd (omega arith))
+    (λ (q : j ≡ x). absurd (omega (arith, same-yes j x q)))
     (λ (n : j ≡ x → ⊥). member-there j x xs n ∙ count-zero j xs (omega (arith, same-no j x n)))
-    (alike j x)
+    (cases_eq j x)
 
 all-different : (xs : List ℕ) → ((j : ℕ) → count j xs ≤ 1) → Distinct xs
 unfolding count
 all-different [] h = tt
-all-different (x ∷ xs) h = (count-zero x xs (omega (arith, h x, same-yes x)), all-different xs (λ j. omega (arith, h j)))
+all-different (x ∷ xs) h = (count-zero x xs (omega (arith, h x, same-yes x x refl)), all-different xs (λ j. omega (arith, h j)))
 
 all_of : (n j : ℕ) → j < n → total n (same j) ≡ 1
 all_of n j l = total-same n _ _ (λ k h. sym (mul-one (same j k))) ∙ once n j (λ _. 1) l
@@ -321,7 +322,7 @@ module _ (b : List ℕ) (Q : Readable b) where
   no-id j n = ⊎_elim
       (λ (l : j < 2048). id-at j l ∙ beside_none j (places b) (all_names M) (not_there j n))
       (λ (l : 2048 ≤ j). get_or-eq_default (ids_of b) 0 (omega (arith, ids-long)))
-      (split j 2048)
+      (cases_lt j 2048)
 
   -- ---- the publics
 
@@ -346,7 +347,7 @@ module _ (b : List ℕ) (Q : Readable b) where
   no-public k l = ⊎_elim
       (λ (h : k < 64). public-at k h ∙ get_or-eq_default M.publics 0 (omega (arith, publics-long)))
       (λ (h : 64 ≤ k). get_or-eq_default (public_ids_of b) 0 (omega (arith, public-ids-long)))
-      (split k 64)
+      (cases_lt k 64)
 
   -- ---- what NumberedIn says of them
 
@@ -382,7 +383,7 @@ module _ (b : List ℕ) (Q : Readable b) where
     unchanged j n = go (bears (entry_of b (nodes_offset b) j)) refl
       where
         go : (t : Bool) → bears (entry_of b (nodes_offset b) j) ≡ t → get_or ids j 0 ≡ 0
-        go true e = ⊎_elim (λ (l : j < nodes b). absurd (n (l, e))) (λ (l : nodes b ≤ j). N.ids-behind j l ∙ no-entry j) (split j (nodes b))
+        go true e = ⊎_elim (λ (l : j < nodes b). absurd (n (l, e))) (λ (l : nodes b ≤ j). N.ids-behind j l ∙ no-entry j) (cases_lt j (nodes b))
         go false e = N.ids-unnamed j e ∙ no-entry j
 
     pub ids-are : ids ≡ ids_of b
@@ -412,7 +413,7 @@ module _ (b : List ℕ) (Q : Readable b) where
         at k l = ⊎_elim
             (λ (h : k < publics b). public-named k h ∙ sym (public-at k l))
             (λ (h : publics b ≤ k). N.public-behind k h ∙ no-public-entry k ∙ sym (no-public k h))
-            (split k (publics b))
+            (cases_lt k (publics b))
 
 -- ---- for every byte string
 

@@ -3,86 +3,50 @@ use Prim.Native.Nat.{ℕ, ◌+◌, ◌≤◌, ◌<◌}
 use mathlib.Core.Path.{◌≡◌, refl, ap, ◌∙◌}
 use mathlib.Core.List.{List}
 use mathlib.Core.Bool.{true}
-use mathlib.Core.Logic.{◌⊎◌, inl, inr, ⊎_elim}
+use mathlib.Core.Logic.{◌⊎◌, inl, inr}
 use native.Mathlib.Omega.{arith}
-use lib.ListN.{length, set}
+use lib.ListN.{length, get_or, set}
 use lib.IntN.{ℤ}
 use Rattle.field.specs.declared.InfixOp.{InfixOp}
-use Rattle.source.specs.declared.Entry.{Entry}
+use Rattle.std.specs.Prelude.{Option as Maybe, Some}
+use Rattle.source.specs.declared.Node.{Node}
 use Rattle.source.specs.declared.Form.{Form}
 use Rattle.source.specs.declared.Chain.{Chain}
-use Rattle.source.specs.declared.Child.{Child}
+use Rattle.source.specs.Children.{Child}
 use Rattle.source.specs.Trees.{Pat, Expr, Items, Arms, Env}
 use Rattle.source.specs.Nodes.{entry_of, children_of, three, is_expression, is_pattern, item_fits, result_fits}
-use Rattle.source.specs.Record.{tree, expression_of}
-use Rattle.numbering.specs.Numbering.{Names, ◌>>=◌, return, number_expr_variables, number_items, number_arms}
+use Rattle.source.specs.Record.{Tree, tree, expression_of}
+use Rattle.numbering.specs.Numbering.{Ids, Names, Naming, ◌>>=◌, return, number_expr_variables, number_items, number_arms}
 use Rattle.numbering.specs.Numbers.{is_name, bears, entry_with, form_with, numbered_tree}
-use Rattle.numbering.specs.Walks.{weight, chain_weight, each, undone, unwound_to, Ready, ReadyTwo}
+use Rattle.numbering.specs.Walks.{weight, chain_weight, each, unwound_to, Room, Ready, ReadyTwo}
 use Rattle.numbering.specs.Walks.{ReadyFunction, ReadyChain, Chosen, number_scope, number_function}
 use Rattle.numbering.specs.Walks.{PatternWalk, ParameterWalk, ExpressionWalk, ScopeWalk, FunctionWalk, ItemWalk, ArmWalk}
 use Rattle.numbering.specs.declared.rows.Scopes.{Scopes}
-use Rattle.numbering.proofs.Laws.{alike}
 use Rattle.numbering.proofs.Weights.{child_weight, result_weight}
-use Rattle.numbering.proofs.Grown.{trees-grow, numbered-grow, entry-with, leaf-is, product_is, cons-is, infix-is, application-is}
+use Rattle.numbering.proofs.Grown.{Growing, trees-grow, numbered-grow, entry-with, leaf-is, product_is, cons-is, infix-is, application-is}
 use Rattle.numbering.proofs.Grown.{negate-is, function-is, let-is, match_is, sequence-is, items-last, items_more, arms_last, arms_more}
 use Rattle.numbering.proofs.Children.{Child-facts, child-facts, pattern-child, expression-child, links-child}
 use Rattle.numbering.proofs.Children.{name-child, Link-facts, link-facts, pattern-item, expression-item}
-use Rattle.numbering.proofs.Scopes.{Weight, Parts, room-first, room-second, room-inner, walked_none}
+use Rattle.numbering.proofs.Scopes.{Weight, Parts, least_parts, item-parts, room-first, room-second, walked_none}
 use Rattle.numbering.proofs.Scopes.{walked-variable, walked-as-is, walked-two, walked-scope}
 
 whole_parts : (u v : Weight) → Parts (λ own. u own + v own) u v
 whole_parts u v = record { hold = λ own. omega arith }
 
--- ---- a pattern, and an expression in its scope
-module _ (b : List ℕ) (at n p y : ℕ) {s : Scopes} (R : ReadyTwo b at n is_pattern p y s) where
-  scope-parts : Parts (λ own. weight b at own p + weight b at own y) (λ own. weight b at own p) (λ own. weight b at own y)
-  scope-parts = whole_parts _ _
+-- ---- a pattern, or parameters, and an expression in their scope
 
-  pub scope-first : Ready b at n is_pattern p s
-  scope-first = record { walk = R.walk; below = R.first_below; sorted = R.first-sorted; room = room-first scope-parts R.room }
+pub scope-way : (b : List ℕ) (at n p y : ℕ) {s s₁ s₂ s₃ : Scopes} → ReadyTwo b at n is_pattern p y s → PatternWalk b at n p s s₁
+    → ExpressionWalk b at n y s₁ s₂ → s₃ ≡ unwound_to s.top s₂ → ScopeWalk b at n p y s s₃
+unfolding number_scope ◌>>=◌ return
+scope-way b at n p y R u v w = walked-scope _ _ (λ p q. (p, q)) (whole_parts _ _) R.room (λ l t p l₁ t₁ q t₂ g h. rw (g, h)) (λ t. refl) u v w
 
-  module _ {s₁ : Scopes} (u : PatternWalk b at n p s s₁) where
-    pub scope-second : Ready b at n is_expression y s₁
-    scope-second = record { walk = R.walk; below = R.second_below; sorted = R.second-sorted; room = room-inner scope-parts R.room u.more u.few u.entries }
-
-    module _ {s₂ : Scopes} (v : ExpressionWalk b at n y s₁ s₂) where
-      -- what the end of the scope asks
-      pub scope-end : (s.top ≤ s₂.top) × (s₂.top ≤ 2048)
-      scope-end = (omega (arith, v.same_top, u.entries), omega (arith, v.same_top, scope-second.room.entries))
-
-      pub scope-names : (i : ℕ) → s.top ≤ i → i < s₂.top → (undone s₂.undo i).name < 512
-      scope-names i l q = let m : i < s₁.top = omega (arith, v.same_top) in rw (v.undo-below i m) (u.undo-names i l m)
-
-      pub scope-way : {s₃ : Scopes} → s₃ ≡ unwound_to s.top s₂ → ScopeWalk b at n p y s s₃
-      unfolding number_scope ◌>>=◌ return
-      scope-way w = walked-scope _ _ (λ p q. (p, q)) scope-parts R.room (λ l t p l₁ t₁ q t₂ g h. rw (g, h)) (λ t. refl) u v w
-
--- ---- parameters, and a body
-module _ (b : List ℕ) (at n p y : ℕ) {s : Scopes} (R : ReadyFunction b at n p y s) where
-  function-parts : Parts (λ own. chain_weight b at n own Chain.Parameters p + weight b at own y) (λ own. chain_weight b at n own Chain.Parameters p)
-      (λ own. weight b at own y)
-  function-parts = whole_parts _ _
-
-  pub body-first : ReadyChain b at n Chain.Parameters p s
-  body-first = record { walk = R.walk; below = R.first_below; chained = R.chained; room = room-first function-parts R.room }
-
-  module _ {s₁ : Scopes} (u : ParameterWalk b at n p s s₁) where
-    pub body-second : Ready b at n is_expression y s₁
-    body-second = record { walk = R.walk; below = R.second_below; sorted = R.second-sorted; room = room-inner function-parts R.room u.more u.few u.entries }
-
-    module _ {s₂ : Scopes} (v : ExpressionWalk b at n y s₁ s₂) where
-      pub body_end : (s.top ≤ s₂.top) × (s₂.top ≤ 2048)
-      body_end = (omega (arith, v.same_top, u.entries), omega (arith, v.same_top, body-second.room.entries))
-
-      pub body-names : (i : ℕ) → s.top ≤ i → i < s₂.top → (undone s₂.undo i).name < 512
-      body-names i l q = let m : i < s₁.top = omega (arith, v.same_top) in rw (v.undo-below i m) (u.undo-names i l m)
-
-      pub body-way : {s₃ : Scopes} → s₃ ≡ unwound_to s.top s₂ → FunctionWalk b at n p y s s₃
-      unfolding number_function ◌>>=◌ return
-      body-way w = walked-scope _ _ (λ p q. (p, q)) function-parts R.room (λ l t p l₁ t₁ q t₂ g h. rw (g, h)) (λ t. refl) u v w
+pub body-way : (b : List ℕ) (at n l y : ℕ) {s s₁ s₂ s₃ : Scopes} → ReadyFunction b at n l y s → ParameterWalk b at n l s s₁
+    → ExpressionWalk b at n y s₁ s₂ → s₃ ≡ unwound_to s.top s₂ → FunctionWalk b at n l y s s₃
+unfolding number_function ◌>>=◌ return
+body-way b at n l y R u v w = walked-scope _ _ (λ p q. (p, q)) (whole_parts _ _) R.room (λ l t p l₁ t₁ q t₂ g h. rw (g, h)) (λ t. refl) u v w
 
 -- ---- items
-module _ (b : List ℕ) (at n l : ℕ) {s : Scopes} (R : ReadyChain b at n Chain.Items l s) {x y z : ℕ} (e : entry_of b at l ≡ Entry.Link x y z) where
+module _ (b : List ℕ) (at n l : ℕ) {s : Scopes} (R : ReadyChain b at n Chain.Items l s) {x y z : ℕ} (e : entry_of b at l ≡ Some (Node.Link x y z)) where
   items-facts : Link-facts b at n R.walk Chain.Items l x y z
   items-facts = link-facts b at n R.walk Chain.Items l R.below R.chained e
 
@@ -93,18 +57,11 @@ module _ (b : List ℕ) (at n l : ℕ) {s : Scopes} (R : ReadyChain b at n Chain
       → Parts (λ own. chain_weight b at n own Chain.Items l) (λ own. weight b at own x) (λ own. chain_weight b at n own Chain.Items y)
   items-parts m = record { hold = λ own. omega (arith, items-facts.weighs-more m own) }
 
-  item-parts : Parts (λ own. chain_weight b at n own Chain.Items l) (λ own. weight b at own x) (λ own. 0)
-  item-parts = record {
-    hold = λ own.
-        ⊎_elim (λ (m : y ≡ 4294967295). omega (arith, items-least m own))
-        (λ (m : y ≡ 4294967295 → ⊥). omega (arith, (items-parts m).hold own)) (alike y 4294967295);
-  }
-
   pub item-first : (x < l) × Ready b at n is_expression x s
   unfolding item_fits
   item-first =
       let c = expression-item b at n R.walk l x items-facts.item-fits in
-      (c.0, record { walk = R.walk; below = omega (arith, c.0, R.below); sorted = c.1; room = room-first item-parts R.room })
+      (c.0, record { walk = R.walk; below = omega (arith, c.0, R.below); sorted = c.1; room = room-first (item-parts y items-least items-parts) R.room })
 
   pub item-rest : {s₁ : Scopes} → (y ≡ 4294967295 → ⊥) → ExpressionWalk b at n x s s₁ → (y < l) × ReadyChain b at n Chain.Items y s₁
   item-rest m u =
@@ -132,7 +89,7 @@ module _ (b : List ℕ) (at n l : ℕ) {s : Scopes} (R : ReadyChain b at n Chain
       u v
 
 -- ---- arms
-module _ (b : List ℕ) (at n l : ℕ) {s : Scopes} (R : ReadyChain b at n Chain.Arms l s) {x y z : ℕ} (e : entry_of b at l ≡ Entry.Link x y z) where
+module _ (b : List ℕ) (at n l : ℕ) {s : Scopes} (R : ReadyChain b at n Chain.Arms l s) {x y z : ℕ} (e : entry_of b at l ≡ Some (Node.Link x y z)) where
   arms-facts : Link-facts b at n R.walk Chain.Arms l x y z
   arms-facts = link-facts b at n R.walk Chain.Arms l R.below R.chained e
 
@@ -149,13 +106,6 @@ module _ (b : List ℕ) (at n l : ℕ) {s : Scopes} (R : ReadyChain b at n Chain
   unfolding result_weight
   arms-parts m = record { hold = λ own. omega (arith, arms-facts.weighs-more m own) }
 
-  arm-parts : Parts (λ own. chain_weight b at n own Chain.Arms l) (λ own. weight b at own x + weight b at own z) (λ own. 0)
-  arm-parts = record {
-    hold = λ own.
-        ⊎_elim (λ (m : y ≡ 4294967295). omega (arith, arms-least m own))
-        (λ (m : y ≡ 4294967295 → ⊥). omega (arith, (arms-parts m).hold own)) (alike y 4294967295);
-  }
-
   pub arm-first : (z < l) × ReadyTwo b at n is_pattern x z s
   unfolding item_fits
   arm-first =
@@ -167,7 +117,7 @@ module _ (b : List ℕ) (at n l : ℕ) {s : Scopes} (R : ReadyChain b at n Chain
           second_below = omega (arith, result.0, R.below);
           first-sorted = c.1;
           second-sorted = result.1;
-          room = room-first arm-parts R.room;
+          room = room-first (item-parts y arms-least arms-parts) R.room;
         },
       )
 
@@ -202,7 +152,13 @@ module _ (b : List ℕ) (at n l : ℕ) {s : Scopes} (R : ReadyChain b at n Chain
 -- ---- an expression
 
 abbrev pub Two : Form → ℕ → ℕ → Type 0
-Two f x y = children_of (Entry.Expression f) ≡ three (Child.Expression x) (Child.Expression y) Child.Nothing
+Two f x y = children_of (Some (Node.Expression f)) ≡ three (Child.Expression x) (Child.Expression y) Child.Nothing
+
+unfoldable number_two : (Expr → Expr → Expr) → Expr → Expr → Ids → Naming Expr
+number_two make p q l = do
+  p' ← number_expr_variables p l
+  q' ← number_expr_variables q l
+  return (make p' q')
 
 -- the forms with two operands
 abbrev pub Operands : Form → ℕ → ℕ → Type 0
@@ -215,96 +171,70 @@ operands (inr (inr (inl (o, e)))) = rw e refl
 operands (inr (inr (inr e))) = rw e refl
 
 module _ (b : List ℕ) (at n k : ℕ) {s : Scopes} (R : Ready b at n is_expression k s) where
-  two_facts : {f : Form} {x y : ℕ} → entry_of b at k ≡ Entry.Expression f → Two f x y
+  -- a child that is an expression
+  child : {x : ℕ} {s₁ : Scopes} → (x < k) × (is_expression (entry_of b at x) ≡ true) → Room (λ own. weight b at own x) s₁.next s₁.top
+      → (x < k) × Ready b at n is_expression x s₁
+  child i r = (i.0, record { walk = R.walk; below = omega (arith, i.0, R.below); sorted = i.1; room = r })
+
+  two_facts : {f : Form} {x y : ℕ} → entry_of b at k ≡ Some (Node.Expression f) → Two f x y
       → Child-facts b at n R.walk k (Child.Expression x) (Child.Expression y) Child.Nothing
   two_facts e r = child-facts b at n R.walk k R.below _ _ _ e r
 
-  two-parts : {f : Form} {x y : ℕ} → entry_of b at k ≡ Entry.Expression f → Two f x y
+  two-parts : {f : Form} {x y : ℕ} → entry_of b at k ≡ Some (Node.Expression f) → Two f x y
       → Parts (λ own. weight b at own k) (λ own. weight b at own x) (λ own. weight b at own y)
   unfolding child_weight
   two-parts e r = record { hold = λ own. omega (arith, (two_facts e r).weighs own) }
 
-  pub two-first : {f : Form} {x y : ℕ} → entry_of b at k ≡ Entry.Expression f → Two f x y → (x < k) × Ready b at n is_expression x s
-  two-first {f} {x} {y} e r =
-      let i = expression-child b at n R.walk k x (two_facts e r).first_fits in
-      (i.0, record { walk = R.walk; below = omega (arith, i.0, R.below); sorted = i.1; room = room-first (two-parts e r) R.room })
+  pub two-first : {f : Form} {x y : ℕ} → entry_of b at k ≡ Some (Node.Expression f) → Two f x y → (x < k) × Ready b at n is_expression x s
+  two-first {f} {x} {y} e r = child (expression-child b at n R.walk k x (two_facts e r).first_fits) (room-first (two-parts e r) R.room)
 
-  pub two-second : {f : Form} {x y : ℕ} {s₁ : Scopes} → entry_of b at k ≡ Entry.Expression f → Two f x y → ExpressionWalk b at n x s s₁
+  pub two-second : {f : Form} {x y : ℕ} {s₁ : Scopes} → entry_of b at k ≡ Some (Node.Expression f) → Two f x y → ExpressionWalk b at n x s s₁
       → (y < k) × Ready b at n is_expression y s₁
   two-second {f} {x} {y} e r u =
-      let i = expression-child b at n R.walk k y (two_facts e r).second_fits in
-      (i.0, record { walk = R.walk; below = omega (arith, i.0, R.below); sorted = i.1; room = room-second (two-parts e r) R.room u.few u.same_top })
+      child (expression-child b at n R.walk k y (two_facts e r).second_fits) (room-second (two-parts e r) R.room u.few u.same_top)
 
-  least : {w : Weight} → ((own : ℕ → ℕ) → w own ≤ weight b at own k) → Parts (λ own. weight b at own k) w (λ own. 0)
-  least h = record { hold = λ own. omega (arith, h own) }
+  -- one operand, then the other: `make` is what the form stands for
+  two-way : {f : Form} {x y : ℕ} {s₁ s₂ : Scopes} (make : Expr → Expr → Expr) → entry_of b at k ≡ Some (Node.Expression f) → Two f x y
+      → ((T : ℕ → ℕ → Tree) (E : ℕ → Maybe Node) → Growing T E → E k ≡ Some (Node.Expression f) → x < k → y < k
+      → (T n k).expression ≡ make (T n x).expression (T n y).expression)
+      → ((i : ℕ) → form_with i f ≡ f)
+      → ((p q : Expr) (l : Ids) → number_expr_variables (make p q) l ≡ number_two make p q l)
+      → ExpressionWalk b at n x s s₁ → ExpressionWalk b at n y s₁ s₂ → ExpressionWalk b at n k s s₂
+  unfolding number_two ◌>>=◌ return entry_with
+  two-way make e r is keep steps u v =
+      let i = (two-first e r).0 in
+      let j = (two-second e r u).0 in
+      walked-two _ _ make (two-parts e r) R.room
+      (λ l t a t₁ c t₂ g h. rw (is (tree b at) (entry_of b at) (trees-grow b at) e i j, steps, g, h))
+      (λ t. is (numbered_tree t b at) _ (numbered-grow t b at) (entry-with t b at k e ∙ ap (λ (f : Form). Some (Node.Expression f)) (keep (get_or t k 0))) i j)
+      u v
 
-  module _ {x y : ℕ} {s₁ s₂ : Scopes} where
-    pub product-way : entry_of b at k ≡ Entry.Expression (Form.Product x y) → ExpressionWalk b at n x s s₁ → ExpressionWalk b at n y s₁ s₂
-        → ExpressionWalk b at n k s s₂
-    unfolding number_expr_variables ◌>>=◌ return entry_with form_with
-    product-way e u v =
-        let i = (two-first e refl).0 in
-        let j = (two-second e refl u).0 in
-        walked-two _ _ Expr.product (two-parts e refl) R.room
-        (λ l t a t₁ c t₂ g h. rw (product_is (tree b at) (entry_of b at) (trees-grow b at) n k R.below e i j, g, h))
-        (λ t. product_is (numbered_tree t b at) _ (numbered-grow t b at) n k R.below (entry-with t b at k e) i j)
-        u v
-
-    pub cons-way : entry_of b at k ≡ Entry.Expression (Form.Cons x y) → ExpressionWalk b at n x s s₁ → ExpressionWalk b at n y s₁ s₂
-        → ExpressionWalk b at n k s s₂
-    unfolding number_expr_variables ◌>>=◌ return entry_with form_with
-    cons-way e u v =
-        let i = (two-first e refl).0 in
-        let j = (two-second e refl u).0 in
-        walked-two _ _ Expr.cons (two-parts e refl) R.room
-        (λ l t a t₁ c t₂ g h. rw (cons-is (tree b at) (entry_of b at) (trees-grow b at) n k R.below e i j, g, h))
-        (λ t. cons-is (numbered_tree t b at) _ (numbered-grow t b at) n k R.below (entry-with t b at k e) i j)
-        u v
-
-    pub infix-way : {o : InfixOp} → entry_of b at k ≡ Entry.Expression (Form.Infix o x y) → ExpressionWalk b at n x s s₁ → ExpressionWalk b at n y s₁ s₂
-        → ExpressionWalk b at n k s s₂
-    unfolding number_expr_variables ◌>>=◌ return entry_with form_with
-    infix-way {o} e u v =
-        let i = (two-first e refl).0 in
-        let j = (two-second e refl u).0 in
-        walked-two _ _ (Expr.binary o) (two-parts e refl) R.room
-        (λ l t a t₁ c t₂ g h. rw (infix-is (tree b at) (entry_of b at) (trees-grow b at) n k R.below e i j, g, h))
-        (λ t. infix-is (numbered_tree t b at) _ (numbered-grow t b at) n k R.below (entry-with t b at k e) i j)
-        u v
-
-    pub application-way : entry_of b at k ≡ Entry.Expression (Form.Application x y) → ExpressionWalk b at n x s s₁ → ExpressionWalk b at n y s₁ s₂
-        → ExpressionWalk b at n k s s₂
-    unfolding number_expr_variables ◌>>=◌ return entry_with form_with
-    application-way e u v =
-        let i = (two-first e refl).0 in
-        let j = (two-second e refl u).0 in
-        walked-two _ _ Expr.application (two-parts e refl) R.room
-        (λ l t a t₁ c t₂ g h. rw (application-is (tree b at) (entry_of b at) (trees-grow b at) n k R.below e i j, g, h))
-        (λ t. application-is (numbered_tree t b at) _ (numbered-grow t b at) n k R.below (entry-with t b at k e) i j)
-        u v
-
-    pub operands-way : {f : Form} → entry_of b at k ≡ Entry.Expression f → Operands f x y → ExpressionWalk b at n x s s₁ → ExpressionWalk b at n y s₁ s₂
-        → ExpressionWalk b at n k s s₂
-    operands-way e (inl i) u v = product-way (e ∙ ap Entry.Expression i) u v
-    operands-way e (inr (inl i)) u v = cons-way (e ∙ ap Entry.Expression i) u v
-    operands-way e (inr (inr (inl (o, i)))) u v = infix-way (e ∙ ap Entry.Expression i) u v
-    operands-way e (inr (inr (inr i))) u v = application-way (e ∙ ap Entry.Expression i) u v
+  pub operands-way : {f : Form} {x y : ℕ} {s₁ s₂ : Scopes} → entry_of b at k ≡ Some (Node.Expression f) → Operands f x y
+      → ExpressionWalk b at n x s s₁ → ExpressionWalk b at n y s₁ s₂ → ExpressionWalk b at n k s s₂
+  unfolding number_expr_variables number_two form_with
+  operands-way e (inl i) =
+      two-way Expr.product (e ∙ ap (λ (f : Form). Some (Node.Expression f)) i) refl (λ T E G. product_is T E G n k R.below) (λ _. refl) (λ p q l. refl)
+  operands-way e (inr (inl i)) =
+      two-way Expr.cons (e ∙ ap (λ (f : Form). Some (Node.Expression f)) i) refl (λ T E G. cons-is T E G n k R.below) (λ _. refl) (λ p q l. refl)
+  operands-way e (inr (inr (inl (o, i)))) =
+      two-way (Expr.binary o) (e ∙ ap (λ (f : Form). Some (Node.Expression f)) i) refl (λ T E G. infix-is T E G n k R.below) (λ _. refl) (λ p q l. refl)
+  operands-way e (inr (inr (inr i))) =
+      two-way Expr.application (e ∙ ap (λ (f : Form). Some (Node.Expression f)) i) refl (λ T E G. application-is T E G n k R.below) (λ _. refl) (λ p q l. refl)
 
   -- negation
-  negate-facts : {x : ℕ} → entry_of b at k ≡ Entry.Expression (Form.Negate x) → Child-facts b at n R.walk k (Child.Expression x) Child.Nothing Child.Nothing
+  negate-facts : {x : ℕ} → entry_of b at k ≡ Some (Node.Expression (Form.Negate x))
+      → Child-facts b at n R.walk k (Child.Expression x) Child.Nothing Child.Nothing
   negate-facts e = child-facts b at n R.walk k R.below _ _ _ e refl
 
-  negate-least : {x : ℕ} → entry_of b at k ≡ Entry.Expression (Form.Negate x) → (own : ℕ → ℕ) → weight b at own x ≤ weight b at own k
+  negate-least : {x : ℕ} → entry_of b at k ≡ Some (Node.Expression (Form.Negate x)) → (own : ℕ → ℕ) → weight b at own x ≤ weight b at own k
   unfolding child_weight
   negate-least e own = omega (arith, (negate-facts e).weighs own)
 
-  pub negate-ready : {x : ℕ} → entry_of b at k ≡ Entry.Expression (Form.Negate x) → (x < k) × Ready b at n is_expression x s
-  negate-ready {x} e =
-      let i = expression-child b at n R.walk k x (negate-facts e).first_fits in
-      (i.0, record { walk = R.walk; below = omega (arith, i.0, R.below); sorted = i.1; room = room-first (least (negate-least e)) R.room })
+  pub negate-ready : {x : ℕ} → entry_of b at k ≡ Some (Node.Expression (Form.Negate x)) → (x < k) × Ready b at n is_expression x s
+  negate-ready {x} e = child (expression-child b at n R.walk k x (negate-facts e).first_fits) (room-first (least_parts (negate-least e)) R.room)
 
   pub negate-way : {x : ℕ} {s₁ : Scopes}
-      → entry_of b at k ≡ Entry.Expression (Form.Negate x) → ExpressionWalk b at n x s s₁
+      → entry_of b at k ≡ Some (Node.Expression (Form.Negate x)) → ExpressionWalk b at n x s s₁
       → ExpressionWalk b at n k s s₁
   unfolding number_expr_variables ◌>>=◌ return entry_with form_with
   negate-way e u =
@@ -314,17 +244,17 @@ module _ (b : List ℕ) (at n k : ℕ) {s : Scopes} (R : Ready b at n is_express
       u
 
   -- a variable
-  variable-facts : {x : ℕ} → entry_of b at k ≡ Entry.Expression (Form.Variable x) → Child-facts b at n R.walk k (Child.Name x) Child.Nothing Child.Nothing
+  variable-facts : {x : ℕ} → entry_of b at k ≡ Some (Node.Expression (Form.Variable x)) → Child-facts b at n R.walk k (Child.Name x) Child.Nothing Child.Nothing
   variable-facts e = child-facts b at n R.walk k R.below _ _ _ e refl
 
-  pub variable-ready : {x : ℕ} → entry_of b at k ≡ Entry.Expression (Form.Variable x) → (x < 512) × ((s.next < 65536) × (k < 2048))
+  pub variable-ready : {x : ℕ} → entry_of b at k ≡ Some (Node.Expression (Form.Variable x)) → (x < 512) × ((s.next < 65536) × (k < 2048))
   unfolding each child_weight
   variable-ready {x} e = (
     name-child b at n R.walk k x (variable-facts e).first_fits,
     (omega (arith, (variable-facts e).weighs each, R.room.ids), omega (arith, R.below, R.walk.few-nodes)),
   )
 
-  pub variable-way : {x : ℕ} {id : ℕ} {s₁ : Scopes} → entry_of b at k ≡ Entry.Expression (Form.Variable x) → length s.ids ≡ 2048 → Chosen x s id s₁
+  pub variable-way : {x : ℕ} {id : ℕ} {s₁ : Scopes} → entry_of b at k ≡ Some (Node.Expression (Form.Variable x)) → length s.ids ≡ 2048 → Chosen x s id s₁
       → ExpressionWalk b at n k s (record s₁ { ids = set s₁.ids k id })
   unfolding number_expr_variables ◌>>=◌ return entry_with form_with expression_of bears is_name
   variable-way {x} e z c =
@@ -334,16 +264,16 @@ module _ (b : List ℕ) (at n k : ℕ) {s : Scopes} (R : Ready b at n is_express
       (walked-variable x k (ap bears e) (omega (arith, z, (variable-ready e).1.1)) c)
 
   -- a function
-  function-facts : {x y : ℕ} → entry_of b at k ≡ Entry.Expression (Form.Function x y)
+  function-facts : {x y : ℕ} → entry_of b at k ≡ Some (Node.Expression (Form.Function x y))
       → Child-facts b at n R.walk k (Child.Links Chain.Parameters x) (Child.Expression y) Child.Nothing
   function-facts e = child-facts b at n R.walk k R.below _ _ _ e refl
 
-  function-least : {x y : ℕ} → entry_of b at k ≡ Entry.Expression (Form.Function x y) → (own : ℕ → ℕ)
+  function-least : {x y : ℕ} → entry_of b at k ≡ Some (Node.Expression (Form.Function x y)) → (own : ℕ → ℕ)
       → chain_weight b at n own Chain.Parameters x + weight b at own y ≤ weight b at own k
   unfolding child_weight
   function-least e own = omega (arith, (function-facts e).weighs own)
 
-  pub function-ready : {x y : ℕ} → entry_of b at k ≡ Entry.Expression (Form.Function x y) → ((x < k) × (y < k)) × ReadyFunction b at n x y s
+  pub function-ready : {x y : ℕ} → entry_of b at k ≡ Some (Node.Expression (Form.Function x y)) → ((x < k) × (y < k)) × ReadyFunction b at n x y s
   function-ready {x} {y} e =
       let i = links-child b at n R.walk k Chain.Parameters x (function-facts e).first_fits in
       let j = expression-child b at n R.walk k y (function-facts e).second_fits in (
@@ -354,12 +284,12 @@ module _ (b : List ℕ) (at n k : ℕ) {s : Scopes} (R : Ready b at n is_express
           second_below = omega (arith, j.0, R.below);
           chained = i.1;
           second-sorted = j.1;
-          room = room-first (least (function-least e)) R.room;
+          room = room-first (least_parts (function-least e)) R.room;
         },
       )
 
   pub function-way : {x y : ℕ} {s₁ : Scopes}
-      → entry_of b at k ≡ Entry.Expression (Form.Function x y)
+      → entry_of b at k ≡ Some (Node.Expression (Form.Function x y))
       → FunctionWalk b at n x y s s₁
       → ExpressionWalk b at n k s s₁
   unfolding number_expr_variables number_function ◌>>=◌ return entry_with form_with
@@ -372,21 +302,19 @@ module _ (b : List ℕ) (at n k : ℕ) {s : Scopes} (R : Ready b at n is_express
       u
 
   -- a let
-  let-facts : {p x y : ℕ} → entry_of b at k ≡ Entry.Expression (Form.Let p x y)
+  let-facts : {p x y : ℕ} → entry_of b at k ≡ Some (Node.Expression (Form.Let p x y))
       → Child-facts b at n R.walk k (Child.Pattern p) (Child.Expression x) (Child.Expression y)
   let-facts e = child-facts b at n R.walk k R.below _ _ _ e refl
 
-  let-parts : {p x y : ℕ} → entry_of b at k ≡ Entry.Expression (Form.Let p x y)
+  let-parts : {p x y : ℕ} → entry_of b at k ≡ Some (Node.Expression (Form.Let p x y))
       → Parts (λ own. weight b at own k) (λ own. weight b at own x) (λ own. weight b at own p + weight b at own y)
   unfolding child_weight
   let-parts e = record { hold = λ own. omega (arith, (let-facts e).weighs own) }
 
-  pub let-first : {p x y : ℕ} → entry_of b at k ≡ Entry.Expression (Form.Let p x y) → (x < k) × Ready b at n is_expression x s
-  let-first {p} {x} {y} e =
-      let i = expression-child b at n R.walk k x (let-facts e).second_fits in
-      (i.0, record { walk = R.walk; below = omega (arith, i.0, R.below); sorted = i.1; room = room-first (let-parts e) R.room })
+  pub let-first : {p x y : ℕ} → entry_of b at k ≡ Some (Node.Expression (Form.Let p x y)) → (x < k) × Ready b at n is_expression x s
+  let-first {p} {x} {y} e = child (expression-child b at n R.walk k x (let-facts e).second_fits) (room-first (let-parts e) R.room)
 
-  pub let-second : {p x y : ℕ} {s₁ : Scopes} → entry_of b at k ≡ Entry.Expression (Form.Let p x y) → ExpressionWalk b at n x s s₁
+  pub let-second : {p x y : ℕ} {s₁ : Scopes} → entry_of b at k ≡ Some (Node.Expression (Form.Let p x y)) → ExpressionWalk b at n x s s₁
       → ((p < k) × (y < k)) × ReadyTwo b at n is_pattern p y s₁
   let-second {p} {x} {y} e u =
       let i = pattern-child b at n R.walk k p (let-facts e).first_fits in
@@ -402,7 +330,7 @@ module _ (b : List ℕ) (at n k : ℕ) {s : Scopes} (R : Ready b at n is_express
         },
       )
 
-  pub let-way : {p x y : ℕ} {s₁ s₂ : Scopes} → entry_of b at k ≡ Entry.Expression (Form.Let p x y)
+  pub let-way : {p x y : ℕ} {s₁ s₂ : Scopes} → entry_of b at k ≡ Some (Node.Expression (Form.Let p x y))
       → ExpressionWalk b at n x s s₁
       → ScopeWalk b at n p y s₁ s₂
       → ExpressionWalk b at n k s s₂
@@ -417,21 +345,19 @@ module _ (b : List ℕ) (at n k : ℕ) {s : Scopes} (R : Ready b at n is_express
       u v
 
   -- a match
-  match-facts : {x y : ℕ} → entry_of b at k ≡ Entry.Expression (Form.Match x y)
+  match-facts : {x y : ℕ} → entry_of b at k ≡ Some (Node.Expression (Form.Match x y))
       → Child-facts b at n R.walk k (Child.Expression x) (Child.Links Chain.Arms y) Child.Nothing
   match-facts e = child-facts b at n R.walk k R.below _ _ _ e refl
 
-  match-parts : {x y : ℕ} → entry_of b at k ≡ Entry.Expression (Form.Match x y)
+  match-parts : {x y : ℕ} → entry_of b at k ≡ Some (Node.Expression (Form.Match x y))
       → Parts (λ own. weight b at own k) (λ own. weight b at own x) (λ own. chain_weight b at n own Chain.Arms y)
   unfolding child_weight
   match-parts e = record { hold = λ own. omega (arith, (match-facts e).weighs own) }
 
-  pub match-first : {x y : ℕ} → entry_of b at k ≡ Entry.Expression (Form.Match x y) → (x < k) × Ready b at n is_expression x s
-  match-first {x} {y} e =
-      let i = expression-child b at n R.walk k x (match-facts e).first_fits in
-      (i.0, record { walk = R.walk; below = omega (arith, i.0, R.below); sorted = i.1; room = room-first (match-parts e) R.room })
+  pub match-first : {x y : ℕ} → entry_of b at k ≡ Some (Node.Expression (Form.Match x y)) → (x < k) × Ready b at n is_expression x s
+  match-first {x} {y} e = child (expression-child b at n R.walk k x (match-facts e).first_fits) (room-first (match-parts e) R.room)
 
-  pub match-second : {x y : ℕ} {s₁ : Scopes} → entry_of b at k ≡ Entry.Expression (Form.Match x y) → ExpressionWalk b at n x s s₁
+  pub match-second : {x y : ℕ} {s₁ : Scopes} → entry_of b at k ≡ Some (Node.Expression (Form.Match x y)) → ExpressionWalk b at n x s s₁
       → (y < k) × ReadyChain b at n Chain.Arms y s₁
   match-second {x} {y} e u =
       let i = links-child b at n R.walk k Chain.Arms y (match-facts e).second_fits in (
@@ -439,7 +365,7 @@ module _ (b : List ℕ) (at n k : ℕ) {s : Scopes} (R : Ready b at n is_express
         record { walk = R.walk; below = omega (arith, i.0, R.below); chained = i.1; room = room-second (match-parts e) R.room u.few u.same_top },
       )
 
-  pub match-way : {x y : ℕ} {s₁ s₂ : Scopes} → entry_of b at k ≡ Entry.Expression (Form.Match x y)
+  pub match-way : {x y : ℕ} {s₁ s₂ : Scopes} → entry_of b at k ≡ Some (Node.Expression (Form.Match x y))
       → ExpressionWalk b at n x s s₁
       → ArmWalk b at n y s₁ s₂
       → ExpressionWalk b at n k s s₂
@@ -453,21 +379,22 @@ module _ (b : List ℕ) (at n k : ℕ) {s : Scopes} (R : Ready b at n is_express
       u v
 
   -- a sequence
-  sequence-facts : {x : ℕ} → entry_of b at k ≡ Entry.Expression (Form.Sequence x)
+  sequence-facts : {x : ℕ} → entry_of b at k ≡ Some (Node.Expression (Form.Sequence x))
       → Child-facts b at n R.walk k (Child.Links Chain.Items x) Child.Nothing Child.Nothing
   sequence-facts e = child-facts b at n R.walk k R.below _ _ _ e refl
 
-  sequence-least : {x : ℕ} → entry_of b at k ≡ Entry.Expression (Form.Sequence x) → (own : ℕ → ℕ) → chain_weight b at n own Chain.Items x ≤ weight b at own k
+  sequence-least : {x : ℕ} → entry_of b at k ≡ Some (Node.Expression (Form.Sequence x)) → (own : ℕ → ℕ)
+      → chain_weight b at n own Chain.Items x ≤ weight b at own k
   unfolding child_weight
   sequence-least e own = omega (arith, (sequence-facts e).weighs own)
 
-  pub sequence-ready : {x : ℕ} → entry_of b at k ≡ Entry.Expression (Form.Sequence x) → (x < k) × ReadyChain b at n Chain.Items x s
+  pub sequence-ready : {x : ℕ} → entry_of b at k ≡ Some (Node.Expression (Form.Sequence x)) → (x < k) × ReadyChain b at n Chain.Items x s
   sequence-ready {x} e =
       let i = links-child b at n R.walk k Chain.Items x (sequence-facts e).first_fits in
-      (i.0, record { walk = R.walk; below = omega (arith, i.0, R.below); chained = i.1; room = room-first (least (sequence-least e)) R.room })
+      (i.0, record { walk = R.walk; below = omega (arith, i.0, R.below); chained = i.1; room = room-first (least_parts (sequence-least e)) R.room })
 
   pub sequence-way : {x : ℕ} {s₁ : Scopes}
-      → entry_of b at k ≡ Entry.Expression (Form.Sequence x) → ItemWalk b at n x s s₁
+      → entry_of b at k ≡ Some (Node.Expression (Form.Sequence x)) → ItemWalk b at n x s s₁
       → ExpressionWalk b at n k s s₁
   unfolding number_expr_variables ◌>>=◌ return entry_with form_with
   sequence-way e u =
@@ -477,18 +404,21 @@ module _ (b : List ℕ) (at n k : ℕ) {s : Scopes} (R : Ready b at n is_express
       u
 
   -- leaves
-  pub leaf-way : {f : Form} → entry_of b at k ≡ Entry.Expression f → ((c : ℤ) × (f ≡ Form.Constant c)) ⊎ ((f ≡ Form.Unit) ⊎ (f ≡ Form.Nil))
+  leaf : {f : Form} (p : Expr) → entry_of b at k ≡ Some (Node.Expression f) → ((T : ℕ → Tree) → expression_of T f ≡ p) → ((i : ℕ) → form_with i f ≡ f)
+      → ((l : Ids) → number_expr_variables p l ≡ return p) → ExpressionWalk b at n k s s
+  unfolding return entry_with
+  leaf p e is keep steps = walked_none (λ l g t. rw (
+    leaf-is (tree b at) (entry_of b at) (trees-grow b at) n k R.below e,
+    leaf-is (numbered_tree t b at) _ (numbered-grow t b at) n k R.below
+        (entry-with t b at k e ∙ ap (λ (f : Form). Some (Node.Expression f)) (keep (get_or t k 0))),
+    is,
+    is,
+    steps,
+  ))
+
+  pub leaf-way : {f : Form} → entry_of b at k ≡ Some (Node.Expression f) → ((c : ℤ) × (f ≡ Form.Constant c)) ⊎ ((f ≡ Form.Unit) ⊎ (f ≡ Form.Nil))
       → ExpressionWalk b at n k s s
-  unfolding number_expr_variables return entry_with form_with expression_of
-  leaf-way e (inl (c, i)) = walked_none (λ l g t. rw (
-    leaf-is (tree b at) (entry_of b at) (trees-grow b at) n k R.below (e ∙ ap Entry.Expression i),
-    leaf-is (numbered_tree t b at) _ (numbered-grow t b at) n k R.below (entry-with t b at k (e ∙ ap Entry.Expression i)),
-  ))
-  leaf-way e (inr (inl i)) = walked_none (λ l g t. rw (
-    leaf-is (tree b at) (entry_of b at) (trees-grow b at) n k R.below (e ∙ ap Entry.Expression i),
-    leaf-is (numbered_tree t b at) _ (numbered-grow t b at) n k R.below (entry-with t b at k (e ∙ ap Entry.Expression i)),
-  ))
-  leaf-way e (inr (inr i)) = walked_none (λ l g t. rw (
-    leaf-is (tree b at) (entry_of b at) (trees-grow b at) n k R.below (e ∙ ap Entry.Expression i),
-    leaf-is (numbered_tree t b at) _ (numbered-grow t b at) n k R.below (entry-with t b at k (e ∙ ap Entry.Expression i)),
-  ))
+  unfolding number_expr_variables form_with expression_of
+  leaf-way e (inl (c, i)) = leaf (Expr.constant c) (e ∙ ap (λ (f : Form). Some (Node.Expression f)) i) (λ _. refl) (λ _. refl) (λ _. refl)
+  leaf-way e (inr (inl i)) = leaf Expr.unit (e ∙ ap (λ (f : Form). Some (Node.Expression f)) i) (λ _. refl) (λ _. refl) (λ _. refl)
+  leaf-way e (inr (inr i)) = leaf Expr.nil (e ∙ ap (λ (f : Form). Some (Node.Expression f)) i) (λ _. refl) (λ _. refl) (λ _. refl)

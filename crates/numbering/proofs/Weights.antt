@@ -9,24 +9,27 @@ use native.Mathlib.Nat.{one-mul, zero-mul}
 use native.Mathlib.Omega.{arith}
 use lib.Dec.{eqb, ltb}
 use borrow.Author.Tests.{eq-eqb, ne_eqb, eqb-false, ltb-true}
-use Rattle.source.specs.declared.Entry.{Entry}
+use Rattle.std.specs.Prelude.{Option, Some, None}
+use Rattle.source.specs.declared.Node.{Node}
 use Rattle.source.specs.declared.Chain.{Chain}
-use Rattle.source.specs.declared.Child.{Child}
-use Rattle.source.specs.Indices.{total, pick}
+use Rattle.source.specs.Children.{Child}
+use Rattle.marks.specs.Indices.{total, pick, same}
 use Rattle.source.specs.Nodes.{entry_of, children_of, expression_fits, pattern_fits}
 use Rattle.source.specs.Nodes.{item_fits, result_fits, link_fits, chain_fits, child_fits, children_fit, nodes_fit}
-use Rattle.source.specs.Uses.{same, result_uses, link_uses, chain_uses, child_uses, children_use, by_nodes}
-use Rattle.numbering.proofs.Laws.{alike, and_left, and_right, or-second, every-at, not-both}
+use Rattle.source.specs.Uses.{result_uses, link_uses, chain_uses, child_uses, children_use, by_nodes}
+use Rattle.std.proofs.lemmas.Bool.{cases_eq}
+use Rattle.marks.proofs.Indices.{same-no, and_left, and_right, every-at}
+use Rattle.numbering.proofs.Laws.{or-second, not-both}
 use Rattle.numbering.specs.Walks.{summed, weight, chain_weight}
 use Rattle.numbering.proofs.Sums.{total-same, total-sum, total-times, total-exchange}
-use Rattle.numbering.proofs.Sums.{total-extend, total-add, total-none, total-pick, same-no, once}
+use Rattle.numbering.proofs.Sums.{total-extend, total-add, total-none, total-pick, once}
 
 -- what a link of a chain that fits says
 pub record Linked (b : List ℕ) (at : ℕ) (h : Chain) (l : ℕ) : Type 0 where
   pub item : ℕ
   pub next : ℕ
   pub result : ℕ
-  pub says : entry_of b at l ≡ Entry.Link item next result
+  pub says : entry_of b at l ≡ Some (Node.Link item next result)
   pub item-fits : item_fits b at h l item ≡ true
   pub result-fits : result_fits b at h l result ≡ true
   pub rest-fits : (eqb next 4294967295 || chain_fits b at h l next) ≡ true
@@ -34,11 +37,11 @@ pub record Linked (b : List ℕ) (at : ℕ) (h : Chain) (l : ℕ) : Type 0 where
 module _ (b : List ℕ) (at : ℕ) where
   -- ---- chains
 
-  linked-at : (h : Chain) (l : ℕ) (e : Entry) → entry_of b at l ≡ e → link_fits b at h (chain_fits b at h l) l e ≡ true → Linked b at h l
+  linked-at : (h : Chain) (l : ℕ) (e : Option Node) → entry_of b at l ≡ e → link_fits b at h (chain_fits b at h l) l e ≡ true → Linked b at h l
   unfolding link_fits
-  linked-at h l (Entry.Expression f) q e = absurd (not-both refl e)
-  linked-at h l (Entry.Pattern p) q e = absurd (not-both refl e)
-  linked-at h l (Entry.Link item next result) q e =
+  linked-at h l (Some (Node.Expression f)) q e = absurd (not-both refl e)
+  linked-at h l (Some (Node.Pattern p)) q e = absurd (not-both refl e)
+  linked-at h l (Some (Node.Link item next result)) q e =
       let r = and_right (item_fits b at h l item) _ e in
       record {
         item = item;
@@ -49,7 +52,7 @@ module _ (b : List ℕ) (at : ℕ) where
         result-fits = and_left (result_fits b at h l result) _ r;
         rest-fits = and_right (result_fits b at h l result) _ r;
       }
-  linked-at h l Entry.Bad q e = absurd (not-both refl e)
+  linked-at h l None q e = absurd (not-both refl e)
 
   pub linked : (h : Chain) (l : ℕ) → chain_fits b at h (suc l) l ≡ true → Linked b at h l
   unfolding chain_fits
@@ -63,7 +66,7 @@ module _ (b : List ℕ) (at : ℕ) where
       ⊎_elim
       (λ (q : x ≡ n). (omega arith, rw q (rw q at e)))
       (λ (q : x ≡ n → ⊥). let r = chain_first h n x (rw (ne_eqb x n q, chain_fits) at e) in (omega (arith, r.0), r.1))
-      (alike x n)
+      (cases_eq x n)
 
   -- the rest of a chain
   pub rest_of : (h : Chain) (l : ℕ) (k : Linked b at h l) → (k.next ≡ 4294967295 → ⊥) → (k.next < l) × (chain_fits b at h (suc k.next) k.next ≡ true)
@@ -90,7 +93,7 @@ module _ (b : List ℕ) (at : ℕ) where
       ⊎_elim
       (λ (e : x ≡ n). rw e)
       (λ (f : x ≡ n → ⊥). rw (ne_eqb x n f, chain_uses) (chain-settled h n x c (omega arith)))
-      (alike x n)
+      (cases_eq x n)
 
   result-below : (h : Chain) (l x c : ℕ) → result_fits b at h l x ≡ true → l ≤ c → result_uses h x c ≡ 0
   unfolding result_uses result_fits
@@ -135,7 +138,7 @@ module _ (b : List ℕ) (at : ℕ) where
       ))
       (λ (g : x ≡ n → ⊥).
       chain-settled h (suc n) x c f.0 ∙ sym (chain-settled h n x c (omega (arith, f.0))) ∙ chain-below h n x c (fits-less h n x g e) (omega arith))
-      (alike x n)
+      (cases_eq x n)
 
   pub child-below : (names j : ℕ) (ch : Child) (c : ℕ) → child_fits b at names j ch ≡ true → j ≤ c → child_uses b at j ch c ≡ 0
   unfolding child_fits child_uses
@@ -155,7 +158,7 @@ module _ (b : List ℕ) (at : ℕ) where
       ⊎_elim
       (λ (e : k ≡ n). rw e)
       (λ (f : k ≡ n → ⊥). rw (ne_eqb k n f, summed) (summed-settled own n k (omega arith)))
-      (alike k n)
+      (cases_eq k n)
 
   weight_is : (own : ℕ → ℕ) (k : ℕ) → weight b at own k ≡ own k + total k (λ c. children_use b at k (children_of (entry_of b at k)) c * summed b at own k c)
   unfolding weight summed

@@ -1,13 +1,15 @@
 -- The numbered module of a source record with the bytes b, by an array that has an id for each node that names a variable, and an array with an id for each
 -- public.
 use Rattle.std.specs.Prelude.{ℕ, zero, suc, ◌≤◌, ◌≡◌, List, Bool, true, false, ◌||◌, length, get_or, eqb}
-use Rattle.source.specs.declared.Entry.{Entry}
+use Rattle.std.specs.Prelude.{Option, Some, None}
+use Rattle.source.specs.declared.Node.{Node}
 use Rattle.source.specs.declared.Form.{Form}
 use Rattle.source.specs.declared.Shape.{Shape}
-use Rattle.source.specs.declared.Child.{Child}
+use Rattle.source.specs.Children.{Child}
 use Rattle.source.specs.Trees.{Pat, Expr}
-use Rattle.source.specs.Indices.{rows}
-use Rattle.source.specs.Layout.{publics, definitions, expressions, nodes, definitions_offset, expressions_offset, nodes_offset, definition_entry, expression_root}
+use Rattle.marks.specs.Indices.{rows}
+use Rattle.source.specs.Layout.{publics, definitions, expressions, nodes}
+use Rattle.source.specs.Layout.{definitions_offset, expressions_offset, nodes_offset, definition_entry, expression_root}
 use Rattle.source.specs.Nodes.{entry_of, children_of}
 use Rattle.source.specs.Record.{Tree, as_expression, grown, module_of}
 use Rattle.numbering.specs.Numbering.{Numbered, numbered}
@@ -37,11 +39,11 @@ shape_with i (Shape.Cons p q) = Shape.Cons p q
 shape_with i (Shape.Variable v) = Shape.Variable i
 shape_with i (Shape.Constant n) = Shape.Constant n
 
-unfoldable pub entry_with : ℕ → Entry → Entry
-entry_with i (Entry.Expression f) = Entry.Expression (form_with i f)
-entry_with i (Entry.Pattern p) = Entry.Pattern (shape_with i p)
-entry_with i (Entry.Link item next result) = Entry.Link item next result
-entry_with i Entry.Bad = Entry.Bad
+unfoldable pub entry_with : ℕ → Option Node → Option Node
+entry_with i (Some (Node.Expression f)) = Some (Node.Expression (form_with i f))
+entry_with i (Some (Node.Pattern p)) = Some (Node.Pattern (shape_with i p))
+entry_with i (Some (Node.Link item next result)) = Some (Node.Link item next result)
+entry_with i None = None
 
 -- whether a node has a name: a variable, a pattern variable, or an `as`
 unfoldable pub is_name : Child → Bool
@@ -52,7 +54,7 @@ is_name (Child.Pattern x) = false
 is_name (Child.Links h x) = false
 is_name Child.Wrong = false
 
-unfoldable pub bears : Entry → Bool
+unfoldable pub bears : Option Node → Bool
 bears e = is_name (children_of e).first || is_name (children_of e).second
 
 -- what node k of the first n stands for, as `tree`, with the ids of the array

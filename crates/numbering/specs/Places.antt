@@ -3,7 +3,7 @@
 use Rattle.std.specs.Prelude.{List, [], ◌∷◌, ◌++◌, ℕ, eqb, get_or, Ok, Err}
 use Rattle.source.specs.Trees.{Pat, Expr, unit, nil, sequence, product, cons, binary, negate, application, constant}
 use Rattle.source.specs.Trees.{variable, function, intrinsic, letting, matching, Items, last, ◌then◌, Arms, no_arm, arm}
-use Rattle.source.specs.Indices.{rows, pick}
+use Rattle.marks.specs.Indices.{rows, pick}
 use Rattle.source.specs.Record.{Read, source_of, module_of}
 use Rattle.numbering.specs.declared.Numbering.{Numbering}
 use Rattle.numbering.specs.Numbering.{Numbered, numbered}

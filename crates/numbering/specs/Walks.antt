@@ -2,12 +2,13 @@
 use Rattle.std.specs.Prelude.{ℕ, zero, suc, ◌+◌, ◌*◌, ◌-◌, ◌≤◌, ◌<◌, ◌≡◌, List, [], ◌++◌, Bool, true, false, length, get_or, set, replicate, eqb}
 use Rattle.std.proofs.Math.Option.{Option, none, some}
 use Rattle.source.specs.declared.Chain.{Chain}
-use Rattle.source.specs.declared.Entry.{Entry}
+use Rattle.std.specs.Prelude.{Option as Maybe}
+use Rattle.source.specs.declared.Node.{Node}
 use Rattle.source.specs.Names.{name_of}
 use Rattle.source.specs.Trees.{Pat, Expr}
-use Rattle.source.specs.Indices.{total, rows}
+use Rattle.marks.specs.Indices.{total, rows, same}
 use Rattle.source.specs.Nodes.{entry_of, children_of, is_expression, chain_fits, nodes_fit}
-use Rattle.source.specs.Uses.{same, chain_uses, children_use}
+use Rattle.source.specs.Uses.{chain_uses, children_use}
 use Rattle.source.specs.Record.{tree, definition_at, expression_at}
 use Rattle.source.specs.Layout.{public_at, definition_entry, expression_root}
 use Rattle.numbering.specs.Numbering.{Ids, Names, Naming, ◌>>=◌, return, found, number_variable, number_pattern_variables}
@@ -134,14 +135,14 @@ pub record Room (w : (ℕ → ℕ) → ℕ) (next top : ℕ) : Type 0 where
   pub ids : next + w each ≤ IDS
 
 -- at node k, of a sort; at the chain from link l on
-pub record Ready (b : List ℕ) (at n : ℕ) (sort : Entry → Bool) (k : ℕ) (s : Scopes) : Type 0 where
+pub record Ready (b : List ℕ) (at n : ℕ) (sort : Maybe Node → Bool) (k : ℕ) (s : Scopes) : Type 0 where
   pub walk : Walkable b at n
   pub below : k < n
   pub sorted : sort (entry_of b at k) ≡ true
   pub room : Room (λ own. weight b at own k) s.next s.top
 
 -- at two nodes, the second an expression
-pub record ReadyTwo (b : List ℕ) (at n : ℕ) (sort : Entry → Bool) (x y : ℕ) (s : Scopes) : Type 0 where
+pub record ReadyTwo (b : List ℕ) (at n : ℕ) (sort : Maybe Node → Bool) (x y : ℕ) (s : Scopes) : Type 0 where
   pub walk : Walkable b at n
   pub first_below : x < n
   pub second_below : y < n
@@ -183,7 +184,6 @@ pub record Bound {A : Type 0} (named : ℕ → Bool) (w : (ℕ → ℕ) → ℕ)
   pub undo-below : SameBelow s.top s.undo s'.undo
   pub undo-names : (i : ℕ) → s.top ≤ i → i < s'.top → (undone s'.undo i).name < NAMES
   pub unwinds : unwound s'.undo s.top (s'.top - s.top) s'.locals ≡ s.locals
-  pub long : length s'.ids ≡ length s.ids
   pub elsewhere : Else w s.ids s'.ids
   pub unnamed : (j : ℕ) → named j ≡ false → get_or s'.ids j 0 ≡ get_or s.ids j 0
   pub numbers : (l : Ids) (g : Names) (final : List ℕ) → Holds s.locals l → g.next ≡ s.next → Agree w s'.ids final
@@ -196,7 +196,6 @@ pub record Walked {A : Type 0} (named : ℕ → Bool) (w : (ℕ → ℕ) → ℕ
   pub same_top : s'.top ≡ s.top
   pub same_locals : s'.locals ≡ s.locals
   pub undo-below : SameBelow s.top s.undo s'.undo
-  pub long : length s'.ids ≡ length s.ids
   pub elsewhere : Else w s.ids s'.ids
   pub unnamed : (j : ℕ) → named j ≡ false → get_or s'.ids j 0 ≡ get_or s.ids j 0
   pub numbers : (l : Ids) (g : Names) (final : List ℕ) → Holds s.locals l → Holds s.globals g.globals → g.next ≡ s.next → Agree w s'.ids final
@@ -279,7 +278,6 @@ pub record Defined {A : Type 0} (named : ℕ → Bool) (w : (ℕ → ℕ) → �
   pub more : s.next ≤ s'.next
   pub few : s'.next ≤ s.next + w each
   pub same_top : s'.top ≡ s.top
-  pub long : length s'.ids ≡ length s.ids
   pub elsewhere : Else w s.ids s'.ids
   pub unnamed : (j : ℕ) → named j ≡ false → get_or s'.ids j 0 ≡ get_or s.ids j 0
   pub numbers : (l : Ids) (g : Names) (final : List ℕ) → Holds s.locals l → Holds s.globals g.globals → g.next ≡ s.next → Agree w s'.ids final
@@ -316,7 +314,6 @@ pub record Published (b : List ℕ) (list m i : ℕ) (s : Scopes) (public : List
   pub more : s.next ≤ s'.next
   pub few : s'.next ≤ s.next + m
   pub rest : OnlyGlobals s s'
-  pub long : length public' ≡ length public
   pub before : (j : ℕ) → j < i → get_or public' j 0 ≡ get_or public j 0
   pub behind : (j : ℕ) → i + m ≤ j → get_or public' j 0 ≡ get_or public j 0
   pub numbers : (g : Names) → Holds s.locals [] → Holds s.globals g.globals → g.next ≡ s.next →

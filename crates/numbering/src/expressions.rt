@@ -6,7 +6,7 @@ ghost use Rattle.numbering.specs.Walks.{Ready, ReadyTwo, ReadyFunction, ReadyCha
 
 use super::rows::{Nodes, Scopes};
 use records::source_record::NO_LINK;
-use source::{Entry, Form, node_at};
+use source::{Form, Node};
 
 impl Scopes {
     // The expression of node y in the scope of the pattern of node p; at its end the rows are as they were.
@@ -39,7 +39,7 @@ impl Scopes {
         requires { ReadyChain nodes.now.bytes.now nodes.now.at nodes.now.count Items l self.old }
         ensures { ItemWalk nodes.now.bytes.now nodes.now.at nodes.now.count l self.old self.new }
     {
-        let Entry::Link(item, rest, _) = node_at(nodes.bytes, nodes.at, l) else {
+        let Node::Link(item, rest, _) = nodes.node(l) else {
             return;
         };
         self.number_expr_variables(nodes, item);
@@ -54,7 +54,7 @@ impl Scopes {
         requires { ReadyChain nodes.now.bytes.now nodes.now.at nodes.now.count Arms l self.old }
         ensures { ArmWalk nodes.now.bytes.now nodes.now.at nodes.now.count l self.old self.new }
     {
-        let Entry::Link(item, rest, outcome) = node_at(nodes.bytes, nodes.at, l) else {
+        let Node::Link(item, rest, outcome) = nodes.node(l) else {
             return;
         };
         self.number_scope(nodes, item, outcome);
@@ -69,7 +69,7 @@ impl Scopes {
         requires { Ready nodes.now.bytes.now nodes.now.at nodes.now.count is_expression k self.old }
         ensures { ExpressionWalk nodes.now.bytes.now nodes.now.at nodes.now.count k self.old self.new }
     {
-        let Entry::Expression(form) = node_at(nodes.bytes, nodes.at, k) else {
+        let Node::Expression(form) = nodes.node(k) else {
             return;
         };
         match form {

@@ -7,11 +7,12 @@ mod patterns;
 mod registering;
 mod rows;
 
-ghost use Rattle.std.specs.Prelude.{◌≡◌};
+ghost use Rattle.std.specs.Prelude.{◌≡◌, length, Ok};
 ghost use Rattle.source.specs.Readable.{Readable};
 ghost use Rattle.source.specs.Record.{Read, source_of, module_of};
 ghost use Rattle.numbering.specs.Outcome.{Outcome};
 ghost use Rattle.numbering.specs.Walks.{no_entries, no_publics};
+ghost use Rattle.records.specs.SourceRecord.{NODES, PUBLICS};
 
 use records::refusals::Refusal;
 use records::source_record::{NODES, PUBLICS};
@@ -25,6 +26,18 @@ pub struct Numbering {
     pub answer: Result<u32, Refusal>,
     pub ids: [u32; NODES],
     pub publics: [u32; PUBLICS],
+}
+
+// What the rows and the publics come to.
+fn answered(scopes: &Scopes, publics: [u32; PUBLICS]) -> Numbering
+    ensures parts { result ≡ record { answer = Ok scopes.now.next; ids = scopes.now.ids; publics = publics } }
+    ensures long { (length result.ids ≡ NODES) × (length result.publics ≡ PUBLICS) }
+{
+    Numbering {
+        answer: Ok(scopes.next),
+        ids: scopes.ids,
+        publics,
+    }
 }
 
 // A record that is accepted.
@@ -43,11 +56,7 @@ fn number_checked(s: &[u8]) -> Numbering
     let publics = scopes.number_publics(s, l);
     scopes.number_definitions(&nodes, l.definitions_at, l.definitions);
     scopes.number_expressions(&nodes, l.expressions_at, l.expressions);
-    Numbering {
-        answer: Ok(scopes.next),
-        ids: scopes.ids,
-        publics,
-    }
+    answered(&scopes, publics)
 }
 
 // Any bytes: refused as the record is, with arrays of zeros, or numbered.

@@ -6,7 +6,7 @@ ghost use Rattle.numbering.specs.Walks.{Ready, ReadyChain, PatternWalk, Paramete
 
 use super::rows::{Nodes, Scopes};
 use records::source_record::NO_LINK;
-use source::{Entry, Shape, node_at};
+use source::{Node, Shape};
 
 impl Scopes {
     // The pattern of node k. An `as` draws its id after its pattern.
@@ -14,7 +14,7 @@ impl Scopes {
         requires { Ready nodes.now.bytes.now nodes.now.at nodes.now.count is_pattern k self.old }
         ensures { PatternWalk nodes.now.bytes.now nodes.now.at nodes.now.count k self.old self.new }
     {
-        let Entry::Pattern(shape) = node_at(nodes.bytes, nodes.at, k) else {
+        let Node::Pattern(shape) = nodes.node(k) else {
             return;
         };
         match shape {
@@ -36,7 +36,7 @@ impl Scopes {
         requires { ReadyChain nodes.now.bytes.now nodes.now.at nodes.now.count Parameters l self.old }
         ensures { ParameterWalk nodes.now.bytes.now nodes.now.at nodes.now.count l self.old self.new }
     {
-        let Entry::Link(item, rest, _) = node_at(nodes.bytes, nodes.at, l) else {
+        let Node::Link(item, rest, _) = nodes.node(l) else {
             return;
         };
         self.number_pattern_variables(nodes, item);

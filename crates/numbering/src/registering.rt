@@ -1,6 +1,6 @@
 // What stands among the globals before definitions: fresh, iter and fold, found by their texts, and the publics.
 ghost use Rattle.std.specs.Prelude.{◌≡◌, true, [], ◌+◌, ◌*◌, ◌≤◌, ◌<◌, length};
-ghost use Rattle.source.specs.Indices.{rows};
+ghost use Rattle.marks.specs.Indices.{rows};
 ghost use Rattle.source.specs.Layout.{NAME-WORDS};
 ghost use Rattle.source.specs.Names.{names_fit, name_of};
 ghost use Rattle.source.specs.Nodes.{publics_fit};

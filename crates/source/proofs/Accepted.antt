@@ -15,7 +15,7 @@ use Rattle.source.specs.Names.{names_fit, names_differ}
 use Rattle.source.specs.Nodes.{nodes_fit, publics_fit, definitions_fit, expressions_fit}
 use Rattle.source.specs.Record.{Read, shaped, used_once, module_of, unless, source_of}
 use Rattle.source.specs.Readable.{Readable}
-use Rattle.source.proofs.Laws.{and_left, and_right}
+use Rattle.marks.proofs.Indices.{and_left, and_right}
 
 -- the tests that an accepted record passes
 pub record Passed (b : List ℕ) : Type 0 where

@@ -1,8 +1,6 @@
-pub mod Laws
 pub mod Parts
 pub mod Names
 mod Header
-pub mod Uses
 pub mod Links
 pub mod Publics
 pub mod Sorts

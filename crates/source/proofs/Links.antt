@@ -8,8 +8,9 @@ use native.Mathlib.Omega.{arith}
 use borrow.Author.Tests.{eq-eqb, ne_eqb}
 use Rattle.source.specs.declared.Chain.{Chain as Owner}
 use Rattle.source.specs.Nodes.{entry_of, link_fits, chain_fits}
-use Rattle.source.specs.Uses.{same, link_uses, chain_uses}
-use Rattle.source.proofs.Laws.{alike}
+use Rattle.source.specs.Uses.{link_uses, chain_uses}
+use Rattle.marks.specs.Indices.{same}
+use Rattle.std.proofs.lemmas.Bool.{cases_eq}
 
 -- the chain from a link on, whichever count of nodes it is asked of
 module _ (b : List ℕ) (at : ℕ) (h : Owner) where
@@ -31,7 +32,7 @@ module _ (b : List ℕ) (at : ℕ) (h : Owner) where
   chain-is (suc n) x l = ⊎_elim
       (λ (e : x ≡ n). chain-last n x e ∙ ap (λ (m : ℕ). link_fits b at h (chain_fits b at h m) m (entry_of b at m)) (sym e))
       (λ (f : x ≡ n → ⊥). chain-else n x f ∙ chain-is n x (omega arith))
-      (alike x n)
+      (cases_eq x n)
 
   uses-last : (n x k : ℕ) → x ≡ n → chain_uses b at h (suc n) x k ≡ same n k + link_uses h (λ y. chain_uses b at h n y k) (entry_of b at n) k
   unfolding chain_uses
@@ -46,4 +47,4 @@ module _ (b : List ℕ) (at : ℕ) (h : Owner) where
   uses-is (suc n) x k l = ⊎_elim
       (λ (e : x ≡ n). uses-last n x k e ∙ ap (λ (m : ℕ). same m k + link_uses h (λ y. chain_uses b at h m y k) (entry_of b at m) k) (sym e))
       (λ (f : x ≡ n → ⊥). uses-else n x k f ∙ uses-is n x k (omega arith))
-      (alike x n)
+      (cases_eq x n)

@@ -10,10 +10,12 @@ use lib.ListN.{length, get_or, drop, length-drop, get_or-eq_default}
 use lib.Seq.{length-take-le, get_or-take, get_or-drop, ext_get_or}
 use lib.Dec.{leb, eqb}
 use borrow.Author.Tests.{eq-eqb, ne_eqb, le-leb, lt-leb, leb-true, eqb-true, eqb-false, not-true}
-use Rattle.source.specs.Indices.{every}
+use Rattle.marks.specs.Indices.{every}
 use Rattle.source.specs.Names.{offset_of, length_of, end_of, printed, name_fits, names_fit, same_bytes, same_name, name_new, names_differ, name_of}
 use Rattle.source.specs.Layout.{name_entry}
-use Rattle.source.proofs.Laws.{and_no, and_left, and_right, not-both, split, every-fails, every_more, every-all, every-at, every-none}
+use Rattle.std.proofs.lemmas.Bool.{both_ways}
+use Rattle.std.proofs.lemmas.Bool.{cases_lt}
+use Rattle.marks.proofs.Indices.{and_no, and_left, and_right, every-fails, every_more, every-all, every-at, every-none}
 
 eqb-sym-at : (t : Bool) (a b : ℕ) → eqb a b ≡ t → t ≡ eqb b a
 eqb-sym-at true a b e = sym (eq-eqb b a (sym (eqb-true a b e)))
@@ -48,7 +50,7 @@ module _ (b : List ℕ) (from : ℕ) where
 
   pub printed-within : (n : ℕ) → 1 ≤ n → printed b from n ≡ true → from + n ≤ length b
   printed-within n p h =
-      ⊎_elim (λ (l : length b < from + n). absurd (not-both (sym (printed-past n p l)) h)) (λ (l : from + n ≤ length b). l) (split (length b) (from + n))
+      ⊎_elim (λ (l : length b < from + n). absurd (both_ways _ (sym (printed-past n p l)) h)) (λ (l : from + n ≤ length b). l) (cases_lt (length b) (from + n))
 
 -- ---- a name
 
@@ -213,4 +215,4 @@ module _ (b : List ℕ) (text : ℕ) where
   unfolding names_differ name_new
   differ-texts n j k h d l g e =
       let w = every-at k j (λ i. not (same_name b text i k)) (every-at n k (name_new b text) d g) l in
-      not-both (not-true (same_name b text j k) w) (text_same j k (named-at b text n j h (omega arith)) (named-at b text n k h g) e)
+      both_ways _ (not-true (same_name b text j k) w) (text_same j k (named-at b text n j h (omega arith)) (named-at b text n k h g) e)

@@ -7,7 +7,7 @@ use lib.Dec.{ltb}
 use borrow.Author.Tests.{lt-ltb, le-ltb}
 use Rattle.source.specs.Nodes.{publics_fit}
 use Rattle.source.specs.Layout.{public_at}
-use Rattle.source.proofs.Laws.{every-none, every_more, every-fails}
+use Rattle.marks.proofs.Indices.{every-none, every_more, every-fails}
 
 pub publics-fail : (b : List ℕ) (names list n k : ℕ) {v : ℕ} → k < n → v ≡ public_at b list k → names ≤ v → publics_fit b names list n ≡ false
 unfolding publics_fit

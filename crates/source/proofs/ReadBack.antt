@@ -12,18 +12,18 @@ use borrow.Author.Tests.{eq-eqb, le-leb, lt-ltb}
 use Rattle.words.specs.Words.{word_at, bytes_of}
 use Rattle.words.proofs.Laws.{word_at-bytes_of, length-bytes_of}
 use Rattle.source.specs.Trees.{Pat, Expr, Text, Module}
-use Rattle.source.specs.Indices.{every, total, rows}
+use Rattle.marks.specs.Indices.{every, total, rows, same}
 use Rattle.source.specs.Layout.{names, publics, definitions, expressions, nodes, publics_offset}
 use Rattle.source.specs.Layout.{definitions_offset, expressions_offset, nodes_offset, text_offset, counted, listed}
 use Rattle.source.specs.Layout.{name_entry, public_at, definition_entry, expression_root, NAME-WORDS, DEFINITION-WORDS}
 use Rattle.source.specs.Names.{offset_of, length_of, end_of, printed, name_fits, names_fit, same_name, name_new, names_differ, name_of}
 use Rattle.source.specs.Nodes.{nodes_fit, publics_fit, definitions_fit, expressions_fit, pattern_fits, expression_fits}
-use Rattle.source.specs.Uses.{same, by_nodes, by_definitions, by_expressions}
+use Rattle.source.specs.Uses.{by_nodes, by_definitions, by_expressions}
 use Rattle.source.specs.Record.{Read, tree, definition_at, expression_at, module_of, shaped, used_once, source_of}
 use Rattle.source.specs.Encoding.{root_of, pat_count, expr_count, pat_nodes, expr_nodes, definitions_count, definitions_nodes}
 use Rattle.source.specs.Encoding.{definitions_words, expressions_count, expressions_nodes, expressions_words, pair_words}
 use Rattle.source.specs.Encoding.{joined, record_words, record_of, All, PatFits, ExprFits, TextFits, Different, Writable}
-use Rattle.source.proofs.Laws.{every-none, every_more, total-more}
+use Rattle.marks.proofs.Indices.{every-none, every_more, total-more}
 use Rattle.source.proofs.Publics.{publics-more, publics-none}
 use Rattle.source.proofs.Names.{named-at, same_text}
 use Rattle.source.proofs.Accepted.{Passed, accepts-passed}

@@ -11,13 +11,15 @@ use lib.Seq.{get_or-append-add}
 use lib.Dec.{leb, ltb}
 use borrow.Author.Tests.{le-leb, lt-leb, lt-ltb, le-ltb}
 use Rattle.words.specs.Words.{word_at}
-use Rattle.source.specs.declared.Entry.{Entry}
-use Rattle.source.specs.Indices.{pick}
+use Rattle.std.specs.Prelude.{Option}
+use Rattle.source.specs.declared.Node.{Node}
+use Rattle.marks.specs.Indices.{pick, same}
 use Rattle.source.specs.Nodes.{entry_for, entry_of, children_of, children_fit, nodes_fit}
-use Rattle.source.specs.Uses.{same, children_use, by_nodes}
+use Rattle.source.specs.Uses.{children_use, by_nodes}
 use Rattle.source.specs.Encoding.{node, root_of, link_to}
-use Rattle.source.proofs.Laws.{split, every_more, total-more}
-use Rattle.source.proofs.Uses.{same-yes, same-no}
+use Rattle.std.proofs.lemmas.Bool.{cases_lt}
+use Rattle.marks.proofs.Indices.{every_more, total-more}
+use Rattle.marks.proofs.Indices.{same-yes, same-no}
 use Rattle.source.specs.Layout.{node_entry}
 use Rattle.source.proofs.Nodes.{entry-is}
 
@@ -74,7 +76,7 @@ unfolding within
 within-high s e j h = rw (le-ltb j e h) (within-high-at (leb s j))
 
 pub within_none : (s j : ℕ) → within s s j ≡ 0
-within_none s j = ⊎_elim (λ (g : j < s). within_low s s j g) (λ (g : s ≤ j). within-high s s j g) (split j s)
+within_none s j = ⊎_elim (λ (g : j < s). within_low s s j g) (λ (g : s ≤ j). within-high s s j g) (cases_lt j s)
 
 pub within-join : (s m e j : ℕ) → s ≤ m → m ≤ e → within s m j + within m e j ≡ within s e j
 within-join s m e j p q =
@@ -85,9 +87,9 @@ within-join s m e j p q =
     (λ (f : m ≤ j). ⊎_elim
     (λ (d : j < e). omega (arith, within-high s m j f, within-yes m e j f d, within-yes s e j g d))
     (λ (d : e ≤ j). omega (arith, within-high s m j f, within-high m e j d, within-high s e j d))
-    (split j e))
-    (split j m))
-    (split j s)
+    (cases_lt j e))
+    (cases_lt j m))
+    (cases_lt j s)
 
 pub within-one : (t j : ℕ) → same t j ≡ within t (t + 1) j
 within-one t j =
@@ -96,8 +98,8 @@ within-one t j =
     (λ (g : t ≤ j). ⊎_elim
     (λ (f : j < t + 1). omega (arith, same-yes t j (omega arith), within-yes t (t + 1) j g f))
     (λ (f : t + 1 ≤ j). omega (arith, same-no t j (λ e. omega arith), within-high t (t + 1) j f))
-    (split j (t + 1)))
-    (split j t)
+    (cases_lt j (t + 1)))
+    (cases_lt j t)
 
 -- ---- a run of nodes from s up to e: it fits where what stands before it does, and with what is owed each of its nodes is used once
 
@@ -124,14 +126,14 @@ module _ (b : List ℕ) (at names : ℕ) where
   node-uses t j = total-more t (λ i. children_use b at i (children_of (entry_of b at i)) j)
 
   -- a node that uses what was owed is owed itself
-  pub span-node : {s t : ℕ} {f : ℕ → ℕ} {n : Entry} → s ≤ t → Span b at names s t f → entry_of b at t ≡ n → children_fit b at names t (children_of n) ≡ true
+  pub span-node : {s t : ℕ} {f : ℕ → ℕ} {n : Option Node} → s ≤ t → Span b at names s t f → entry_of b at t ≡ n → children_fit b at names t (children_of n) ≡ true
       → ((j : ℕ) → children_use b at t (children_of n) j ≡ f j) → Span b at names s (t + 1) (same t)
   span-node {s} {t} p x e c u = record {
-    fits = λ h. node-fits t (ap (λ (i : Entry). children_fit b at names t (children_of i)) e ∙ c) (x.fits h);
+    fits = λ h. node-fits t (ap (λ (i : Option Node). children_fit b at names t (children_of i)) e ∙ c) (x.fits h);
     uses = λ j. omega (
       arith,
       node-uses t j,
-      ap (λ (i : Entry). children_use b at t (children_of i) j) e,
+      ap (λ (i : Option Node). children_use b at t (children_of i) j) e,
       u j,
       x.uses j,
       within-one t j,
@@ -140,14 +142,14 @@ module _ (b : List ℕ) (at names : ℕ) where
   }
 
   -- a node that uses nothing leaves what was owed, and is owed itself
-  pub span-link : {s t : ℕ} {f : ℕ → ℕ} {n : Entry} → s ≤ t → Span b at names s t f → entry_of b at t ≡ n → children_fit b at names t (children_of n) ≡ true
+  pub span-link : {s t : ℕ} {f : ℕ → ℕ} {n : Option Node} → s ≤ t → Span b at names s t f → entry_of b at t ≡ n → children_fit b at names t (children_of n) ≡ true
       → ((j : ℕ) → children_use b at t (children_of n) j ≡ 0) → Span b at names s (t + 1) (λ j. same t j + f j)
   span-link {s} {t} p x e c u = record {
-    fits = λ h. node-fits t (ap (λ (i : Entry). children_fit b at names t (children_of i)) e ∙ c) (x.fits h);
+    fits = λ h. node-fits t (ap (λ (i : Option Node). children_fit b at names t (children_of i)) e ∙ c) (x.fits h);
     uses = λ j. omega (
       arith,
       node-uses t j,
-      ap (λ (i : Entry). children_use b at t (children_of i) j) e,
+      ap (λ (i : Option Node). children_use b at t (children_of i) j) e,
       u j,
       x.uses j,
       within-one t j,

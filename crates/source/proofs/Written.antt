@@ -11,22 +11,22 @@ use mir.Syntax.{w32}
 use mir.ValLaws.{to_z-of_z}
 use Rattle.field.specs.declared.InfixOp.{InfixOp}
 use Rattle.field.specs.Operators.{operator_number}
-use Rattle.source.specs.declared.Entry.{Entry}
+use Rattle.std.specs.Prelude.{Option, Some}
+use Rattle.source.specs.declared.Node.{Node}
 use Rattle.source.specs.declared.Form.{Form}
 use Rattle.source.specs.declared.Shape.{Shape}
 use Rattle.source.specs.declared.Chain.{Chain}
-use Rattle.source.specs.declared.Child.{Child}
-use Rattle.source.specs.declared.Children.{Children}
+use Rattle.source.specs.Children.{Child, Children}
 use Rattle.source.specs.Trees.{Pat, Expr, Items, Arms, Env}
-use Rattle.source.specs.Indices.{pick}
+use Rattle.marks.specs.Indices.{pick, same}
 use Rattle.source.specs.Nodes.{infix_for, entry_for, entry_of, is_expression, is_pattern, expression_fits, pattern_fits}
 use Rattle.source.specs.Nodes.{item_fits, result_fits, link_fits, chain_fits, child_fits, form_children, shape_children, children_fit}
-use Rattle.source.specs.Uses.{same, result_uses, link_uses, chain_uses, child_uses, children_use}
+use Rattle.source.specs.Uses.{result_uses, link_uses, chain_uses, child_uses, children_use}
 use Rattle.source.specs.Record.{Tree, expression_of, pattern_of, link_of, tree, node_tree}
 use Rattle.source.specs.Encoding.{root_of, link_to, pat_count, pats_count, expr_count, items_count, arms_count}
 use Rattle.source.specs.Encoding.{pat_nodes, pats_nodes, expr_nodes, items_nodes, arms_nodes, All, PatFits, ExprFits, ItemsFit, ArmsFit}
 use Rattle.field.proofs.Numbered.{operator-reads, operator-below}
-use Rattle.source.proofs.Laws.{pick_yes}
+use Rattle.marks.proofs.Indices.{pick_yes}
 use Rattle.source.proofs.Nodes.{settled, expression-is, pattern-is, link-is}
 use Rattle.source.proofs.Links.{chain-is, uses-is}
 use Rattle.source.proofs.Spans.{Holds, holds-left, nodes-after, node-held, Span, span_none, span-join}
@@ -91,7 +91,7 @@ pub record PatAt (b : List ℕ) (at names s n : ℕ) (p : Pat) : Type 0 where
 
 module _ (b : List ℕ) (at names : ℕ) where
   -- the root of a pattern, over what it uses
-  pat-node : (s n t : ℕ) {f : ℕ → ℕ} {c : Shape} {p : Pat} → s + n ≡ t → Span b at names s t f → entry_of b at t ≡ Entry.Pattern c
+  pat-node : (s n t : ℕ) {f : ℕ → ℕ} {c : Shape} {p : Pat} → s + n ≡ t → Span b at names s t f → entry_of b at t ≡ Some (Node.Pattern c)
       → children_fit b at names t (shape_children c) ≡ true → ((j : ℕ) → children_use b at t (shape_children c) j ≡ f j) → pattern_of (tree b at t) c ≡ p
       → PatAt b at names s (n + 1) p
   unfolding is_pattern
@@ -116,7 +116,7 @@ module _ (b : List ℕ) (at names : ℕ) where
     pub pat-below : (tree b at t (root_of s n)).pattern ≡ p
     pat-below = ap (λ (i : Tree). i.pattern) (settled b at t (root_of s n) pat-early) ∙ x.grows
 
-  pat-two : (s m n : ℕ) {p q z : Pat} (c : Shape) → PatAt b at names s m p → PatAt b at names (s + m) n q → entry_of b at (s + m + n) ≡ Entry.Pattern c
+  pat-two : (s m n : ℕ) {p q z : Pat} (c : Shape) → PatAt b at names s m p → PatAt b at names (s + m) n q → entry_of b at (s + m + n) ≡ Some (Node.Pattern c)
       → shape_children c ≡ record { first = Child.Pattern (root_of s m); second = Child.Pattern (root_of (s + m) n); third = Child.Nothing }
       → pattern_of (tree b at (s + m + n)) c ≡ z → PatAt b at names s (m + n + 1) z
   unfolding children_fit child_fits children_use child_uses
@@ -171,7 +171,7 @@ module _ (b : List ℕ) (at names : ℕ) (h : Chain) where
 
   -- one link more, at t: after the rest of the chain, its item and its arm result
   chain_more : (s n m t item result : ℕ) {g : ℕ → ℕ} → s + n ≤ t → s + m ≡ t → t < 2048 → ChainAt b at names h s n → Span b at names (s + n) t g
-      → ((j : ℕ) → g j ≡ same item j + result_uses h result j) → entry_of b at t ≡ Entry.Link item (link_to s n) result → item_fits b at h t item ≡ true
+      → ((j : ℕ) → g j ≡ same item j + result_uses h result j) → entry_of b at t ≡ Some (Node.Link item (link_to s n) result) → item_fits b at h t item ≡ true
       → result_fits b at h t result ≡ true → ChainAt b at names h s (m + 1)
   unfolding pick children_fit child_fits children_use child_uses link_fits link_uses
   chain_more s n m t item result {g} p q few x y u e c d =
@@ -182,7 +182,7 @@ module _ (b : List ℕ) (at names : ℕ) (h : Chain) where
         span = λ k a. rw (r, l, f) (span-owed b at names (chain_uses b at h k t)
             (λ j. let v : chain_uses b at h k t j
             ≡ same t j + (same item j + (result_uses h result j + pick (eqb (link_to s n) 4294967295) 0 (chain_uses b at h t (link_to s n) j))) =
-            uses-is b at h k t j (omega arith) ∙ ap (λ (i : Entry). same t j + link_uses h (λ z. chain_uses b at h t z j) i j) e in omega (arith, u j))
+            uses-is b at h k t j (omega arith) ∙ ap (λ (i : Option Node). same t j + link_uses h (λ z. chain_uses b at h t z j) i j) e in omega (arith, u j))
             (span-link b at names (omega arith) (span-join b at names (omega arith) p (x.span t p) y) e refl (λ j. refl)));
         good = λ k a. rw (r, f) (chain-is b at h k t (omega arith) ∙ ap (link_fits b at h (chain_fits b at h t) t) e ∙ rw (c, d, x.good t p));
       }
@@ -210,7 +210,7 @@ cons-is e f = cc
 
 module _ (b : List ℕ) (at names : ℕ) where
   pats-more : (s n m : ℕ) {p : Pat} {ps : List Pat} → s + n + m < 2048 → PatsAt b at names s n ps → PatAt b at names (s + n) m p
-      → entry_of b at (s + n + m) ≡ Entry.Link (root_of (s + n) m) (link_to s n) 0 → PatsAt b at names s (n + m + 1) (p ∷ ps)
+      → entry_of b at (s + n + m) ≡ Some (Node.Link (root_of (s + n) m) (link_to s n) 0) → PatsAt b at names s (n + m + 1) (p ∷ ps)
   unfolding item_fits result_fits result_uses link_of
   pats-more s n m few y x e =
       let t = s + n + m in
@@ -265,7 +265,7 @@ then_is e f = cc
 
 module _ (b : List ℕ) (at names : ℕ) where
   -- the root of an expression, over what it uses
-  expr-node : (s n t : ℕ) {f : ℕ → ℕ} {c : Form} {z : Expr} → s + n ≡ t → Span b at names s t f → entry_of b at t ≡ Entry.Expression c
+  expr-node : (s n t : ℕ) {f : ℕ → ℕ} {c : Form} {z : Expr} → s + n ≡ t → Span b at names s t f → entry_of b at t ≡ Some (Node.Expression c)
       → children_fit b at names t (form_children c) ≡ true → ((j : ℕ) → children_use b at t (form_children c) j ≡ f j) → expression_of (tree b at t) c ≡ z
       → ExprAt b at names s (n + 1) z
   unfolding is_expression
@@ -291,7 +291,7 @@ module _ (b : List ℕ) (at names : ℕ) where
     expr-below = ap (λ (i : Tree). i.expression) (settled b at t (root_of s n) expr-early) ∙ x.grows
 
   -- two expressions under a node
-  expr-two : (s m n : ℕ) {x y z : Expr} (c : Form) → ExprAt b at names s m x → ExprAt b at names (s + m) n y → entry_of b at (s + m + n) ≡ Entry.Expression c
+  expr-two : (s m n : ℕ) {x y z : Expr} (c : Form) → ExprAt b at names s m x → ExprAt b at names (s + m) n y → entry_of b at (s + m + n) ≡ Some (Node.Expression c)
       → form_children c ≡ record { first = Child.Expression (root_of s m); second = Child.Expression (root_of (s + m) n); third = Child.Nothing }
       → expression_of (tree b at (s + m + n)) c ≡ z → ExprAt b at names s (m + n + 1) z
   unfolding children_fit child_fits children_use child_uses
@@ -300,7 +300,7 @@ module _ (b : List ℕ) (at names : ℕ) where
       (λ j. ap (λ (i : Children). children_use b at (s + m + n) i j) k ∙ omega arith)
       w
 
-  items-last : (s m : ℕ) {x : Expr} → s + m < 2048 → ExprAt b at names s m x → entry_of b at (s + m) ≡ Entry.Link (root_of s m) 4294967295 0
+  items-last : (s m : ℕ) {x : Expr} → s + m < 2048 → ExprAt b at names s m x → entry_of b at (s + m) ≡ Some (Node.Link (root_of s m) 4294967295 0)
       → ItemsAt b at names s (m + 1) (Items.last x)
   unfolding item_fits result_fits result_uses link_of link_to
   items-last s m few x e =
@@ -316,7 +316,7 @@ module _ (b : List ℕ) (at names : ℕ) where
       }
 
   items-then : (s n m : ℕ) {x : Expr} {is : Items} → s + n + m < 2048 → ItemsAt b at names s n is → ExprAt b at names (s + n) m x
-      → entry_of b at (s + n + m) ≡ Entry.Link (root_of (s + n) m) (link_to s n) 0 → ItemsAt b at names s (n + m + 1) (Items.◌then◌ x is)
+      → entry_of b at (s + n + m) ≡ Some (Node.Link (root_of (s + n) m) (link_to s n) 0) → ItemsAt b at names s (n + m + 1) (Items.◌then◌ x is)
   unfolding item_fits result_fits result_uses link_of
   items-then s n m few y x e =
       let t = s + n + m in
@@ -326,7 +326,7 @@ module _ (b : List ℕ) (at names : ℕ) where
       let r = root_of s n in
       let early : r < t = omega (arith, root_below s n y.some) in
       let next : link_to s n ≡ r = link-root s n y.some in
-      let v : entry_of b at t ≡ Entry.Link (root_of (s + n) m) r 0 = e ∙ ap (λ (i : ℕ). Entry.Link (root_of (s + n) m) i 0) next in
+      let v : entry_of b at t ≡ Some (Node.Link (root_of (s + n) m) r 0) = e ∙ ap (λ (i : ℕ). Some (Node.Link (root_of (s + n) m) i 0)) next in
       record {
         some = omega arith;
         chain = chain_more b at names Chain.Items s n (n + m) t (root_of (s + n) m) 0 l q few y.chain x.span (λ j. omega arith) e (expr-fits x t w) refl;
@@ -340,7 +340,7 @@ module _ (b : List ℕ) (at names : ℕ) where
   arms_none s = record { chain = chain-none b at names Chain.Arms s; grows = λ k l. refl }
 
   arms_more : (s n m o : ℕ) {p : Pat} {x : Expr} {rs : Arms} → s + n + m + o < 2048 → ArmsAt b at names s n rs → PatAt b at names (s + n) m p
-      → ExprAt b at names (s + n + m) o x → entry_of b at (s + n + m + o) ≡ Entry.Link (root_of (s + n) m) (link_to s n) (root_of (s + n + m) o)
+      → ExprAt b at names (s + n + m) o x → entry_of b at (s + n + m + o) ≡ Some (Node.Link (root_of (s + n) m) (link_to s n) (root_of (s + n + m) o))
       → ArmsAt b at names s (n + m + o + 1) (Arms.arm p x rs)
   unfolding item_fits result_fits result_uses link_of
   arms_more s n m o few y p x e =
@@ -361,10 +361,11 @@ module _ (b : List ℕ) (at names : ℕ) where
 
 -- ---- every expression
 
-operator-read : (o : InfixOp) (x y : ℕ) → infix_for (operator_number o) x y ≡ Entry.Expression (Form.Infix o x y)
+operator-read : (o : InfixOp) (x y : ℕ) → infix_for (operator_number o) x y ≡ Some (Node.Expression (Form.Infix o x y))
 unfolding infix_for
 operator-read o x y =
-    sym (pick_yes _ _ (le-leb _ _ (omega (arith, operator-below o))) (ap (λ (p : InfixOp). Entry.Expression (Form.Infix p x y)) (sym (operator-reads o))))
+    sym (pick_yes _ _ (le-leb _ _ (omega (arith, operator-below o)))
+    (ap (λ (p : InfixOp). Some (Node.Expression (Form.Infix p x y))) (sym (operator-reads o))))
 
 pats-some : (ps : List Pat) → 1 ≤ length ps → 1 ≤ pats_count ps
 unfolding pats_count
@@ -374,7 +375,7 @@ pats-some (p ∷ ps) h = omega arith
 module _ (b : List ℕ) (at names : ℕ) where
   -- a function over its parameters and body, a match over its value and arms, a sequence over its items, a let over its three parts
   expr-function : (s m n : ℕ) {ps : List Pat} {x : Expr} {env : Env} → 1 ≤ m → s + m ≤ 2048 → env ≡ Env.empty → PatsAt b at names s m ps
-      → ExprAt b at names (s + m) n x → entry_of b at (s + m + n) ≡ Entry.Expression (Form.Function (root_of s m) (root_of (s + m) n))
+      → ExprAt b at names (s + m) n x → entry_of b at (s + m + n) ≡ Some (Node.Expression (Form.Function (root_of s m) (root_of (s + m) n)))
       → ExprAt b at names s (m + n + 1) (Expr.function ps x env)
   unfolding children_fit child_fits children_use child_uses expression_of
   expr-function s m n {ps} {x} {env} some few none y z e =
@@ -390,7 +391,7 @@ module _ (b : List ℕ) (at names : ℕ) where
       (rw (v, expr-below b at names z t w, none))
 
   expr-match : (s m n : ℕ) {x : Expr} {rs : Arms} → 1 ≤ n → s + m + n ≤ 2048 → ExprAt b at names s m x → ArmsAt b at names (s + m) n rs
-      → entry_of b at (s + m + n) ≡ Entry.Expression (Form.Match (root_of s m) (root_of (s + m) n)) → ExprAt b at names s (m + n + 1) (Expr.matching x rs)
+      → entry_of b at (s + m + n) ≡ Some (Node.Expression (Form.Match (root_of s m) (root_of (s + m) n))) → ExprAt b at names s (m + n + 1) (Expr.matching x rs)
   unfolding children_fit child_fits children_use child_uses expression_of
   expr-match s m n {x} {rs} some few z y e =
       let t = s + m + n in
@@ -404,7 +405,7 @@ module _ (b : List ℕ) (at names : ℕ) where
       (λ j. omega arith)
       (rw (expr-below b at names z t l, v))
 
-  expr-sequence : (s m : ℕ) {is : Items} → s + m ≤ 2048 → ItemsAt b at names s m is → entry_of b at (s + m) ≡ Entry.Expression (Form.Sequence (root_of s m))
+  expr-sequence : (s m : ℕ) {is : Items} → s + m ≤ 2048 → ItemsAt b at names s m is → entry_of b at (s + m) ≡ Some (Node.Expression (Form.Sequence (root_of s m)))
       → ExprAt b at names s (m + 1) (Expr.sequence is)
   unfolding children_fit child_fits children_use child_uses expression_of
   expr-sequence s m few y e =
@@ -418,7 +419,7 @@ module _ (b : List ℕ) (at names : ℕ) where
       (ap Expr.sequence (ap (λ (i : Tree). i.items) (settled b at t r early) ∙ y.grows))
 
   expr-let : (s m n o : ℕ) {p : Pat} {x y : Expr} → PatAt b at names s m p → ExprAt b at names (s + m) n x → ExprAt b at names (s + m + n) o y
-      → entry_of b at (s + m + n + o) ≡ Entry.Expression (Form.Let (root_of s m) (root_of (s + m) n) (root_of (s + m + n) o))
+      → entry_of b at (s + m + n + o) ≡ Some (Node.Expression (Form.Let (root_of s m) (root_of (s + m) n) (root_of (s + m + n) o)))
       → ExprAt b at names s (m + n + o + 1) (Expr.letting p x y)
   unfolding children_fit child_fits children_use child_uses expression_of
   expr-let s m n o p x y e =

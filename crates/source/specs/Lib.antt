@@ -1,8 +1,8 @@
 pub mod Trees
 pub mod Forms
-pub mod Indices
 pub mod Layout
 pub mod Names
+pub mod Children
 pub mod Nodes
 pub mod Uses
 pub mod Record

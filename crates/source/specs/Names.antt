@@ -1,7 +1,7 @@
 -- The names of a record with the bytes b, whose name text starts at byte `text`: what 3 and 4 say of them.
 use Rattle.std.specs.Prelude.{ℕ, zero, suc, ◌+◌, List, Bool, not, ◌&&◌, length, get_or, take, drop, leb, eqb}
 use Rattle.source.specs.Trees.{Text}
-use Rattle.source.specs.Indices.{every}
+use Rattle.marks.specs.Indices.{every}
 use Rattle.source.specs.Layout.{name_entry}
 use Rattle.records.specs.SourceRecord.{NAME-BYTES}
 

@@ -1,16 +1,16 @@
 -- The nodes of a record with the bytes b, whose nodes start at word `at`: what each says, what its children are, and what 5 says of them.
 -- 5 is one number for all its rules, so their order says nothing.
-use Rattle.std.specs.Prelude.{ℕ, zero, suc, List, Bool, true, false, ◌&&◌, ◌||◌, leb, ltb, eqb}
+use Rattle.std.specs.Prelude.{ℕ, zero, suc, List, [], ◌∷◌, Bool, true, false, ◌&&◌, ◌||◌, leb, ltb, eqb}
 use Rattle.std.proofs.Common.{to_z}
 use Rattle.std.specs.Int.{w32}
 unfoldable pub use Rattle.field.specs.Operators.{operator_of}
-use Rattle.source.specs.declared.Entry.{Entry}
+use Rattle.std.specs.Prelude.{Option, Some, None}
+use Rattle.source.specs.declared.Node.{Node}
 use Rattle.source.specs.declared.Form.{Form}
 use Rattle.source.specs.declared.Shape.{Shape}
 use Rattle.source.specs.declared.Chain.{Chain}
-use Rattle.source.specs.declared.Child.{Child}
-use Rattle.source.specs.declared.Children.{Children}
-use Rattle.source.specs.Indices.{every, pick}
+use Rattle.source.specs.Children.{Child, Children}
+use Rattle.marks.specs.Indices.{every, pick}
 use Rattle.source.specs.Layout.{public_at, definition_entry, expression_root, node_entry}
 use Rattle.records.specs.Kinds.{APPLICATION, AS-PATTERN, CONS, CONS-PATTERN, CONSTANT, CONSTANT-PATTERN, FUNCTION, INFIX, LET, LINK, MATCH}
 use Rattle.records.specs.Kinds.{NEGATE, NIL, NIL-PATTERN, PRODUCT, PRODUCT-PATTERN, SEQUENCE, UNIT, UNIT-PATTERN, VARIABLE, VARIABLE-PATTERN}
@@ -19,40 +19,45 @@ use Rattle.records.specs.SourceRecord.{NO-LINK}
 -- ---- what a node says
 
 -- "Unused words are 0"
-abbrev pub unused : ℕ → Entry → Entry
-unused w e = pick (eqb w 0) e Entry.Bad
+abbrev pub unused : ℕ → Option Node → Option Node
+unused w e = pick (eqb w 0) e None
 
-unfoldable pub infix_for : ℕ → ℕ → ℕ → Entry
-infix_for c x y = pick (leb c 8) (Entry.Expression (Form.Infix (operator_of c) x y)) Entry.Bad
+-- "Unused words are 0", of several
+abbrev pub all_unused : List ℕ → Option Node → Option Node
+all_unused [] e = e
+all_unused (w ∷ ws) e = unused w (all_unused ws e)
+
+unfoldable pub infix_for : ℕ → ℕ → ℕ → Option Node
+infix_for c x y = pick (leb c 8) (Some (Node.Expression (Form.Infix (operator_of c) x y))) None
 
 -- a node's kind and its words a, b, c: "bad kind, operator .. or unused word" is no node
-unfoldable pub entry_for : ℕ → ℕ → ℕ → ℕ → Entry
+unfoldable pub entry_for : ℕ → ℕ → ℕ → ℕ → Option Node
 entry_for kind x y z =
-    pick (eqb kind UNIT) (unused x (unused y (unused z (Entry.Expression Form.Unit))))
-    (pick (eqb kind NIL) (unused x (unused y (unused z (Entry.Expression Form.Nil))))
-    (pick (eqb kind PRODUCT) (unused z (Entry.Expression (Form.Product x y)))
-    (pick (eqb kind CONS) (unused z (Entry.Expression (Form.Cons x y)))
+    pick (eqb kind UNIT) (unused x (unused y (unused z (Some (Node.Expression Form.Unit)))))
+    (pick (eqb kind NIL) (unused x (unused y (unused z (Some (Node.Expression Form.Nil)))))
+    (pick (eqb kind PRODUCT) (unused z (Some (Node.Expression (Form.Product x y))))
+    (pick (eqb kind CONS) (unused z (Some (Node.Expression (Form.Cons x y))))
     (pick (eqb kind INFIX) (infix_for z x y)
-    (pick (eqb kind NEGATE) (unused y (unused z (Entry.Expression (Form.Negate x))))
-    (pick (eqb kind APPLICATION) (unused z (Entry.Expression (Form.Application x y)))
-    (pick (eqb kind CONSTANT) (unused y (unused z (Entry.Expression (Form.Constant (to_z w32 x)))))
-    (pick (eqb kind VARIABLE) (unused y (unused z (Entry.Expression (Form.Variable x))))
-    (pick (eqb kind FUNCTION) (unused z (Entry.Expression (Form.Function x y)))
-    (pick (eqb kind LET) (Entry.Expression (Form.Let x y z))
-    (pick (eqb kind MATCH) (unused z (Entry.Expression (Form.Match x y)))
-    (pick (eqb kind SEQUENCE) (unused y (unused z (Entry.Expression (Form.Sequence x))))
-    (pick (eqb kind LINK) (Entry.Link x y z)
-    (pick (eqb kind UNIT-PATTERN) (unused x (unused y (unused z (Entry.Pattern Shape.Unit))))
-    (pick (eqb kind NIL-PATTERN) (unused x (unused y (unused z (Entry.Pattern Shape.Nil))))
-    (pick (eqb kind AS-PATTERN) (unused z (Entry.Pattern (Shape.As x y)))
-    (pick (eqb kind PRODUCT-PATTERN) (unused z (Entry.Pattern (Shape.Product x y)))
-    (pick (eqb kind CONS-PATTERN) (unused z (Entry.Pattern (Shape.Cons x y)))
-    (pick (eqb kind VARIABLE-PATTERN) (unused y (unused z (Entry.Pattern (Shape.Variable x))))
-    (pick (eqb kind CONSTANT-PATTERN) (unused y (unused z (Entry.Pattern (Shape.Constant (to_z w32 x)))))
-    Entry.Bad))))))))))))))))))))
+    (pick (eqb kind NEGATE) (unused y (unused z (Some (Node.Expression (Form.Negate x)))))
+    (pick (eqb kind APPLICATION) (unused z (Some (Node.Expression (Form.Application x y))))
+    (pick (eqb kind CONSTANT) (unused y (unused z (Some (Node.Expression (Form.Constant (to_z w32 x))))))
+    (pick (eqb kind VARIABLE) (unused y (unused z (Some (Node.Expression (Form.Variable x)))))
+    (pick (eqb kind FUNCTION) (unused z (Some (Node.Expression (Form.Function x y))))
+    (pick (eqb kind LET) (Some (Node.Expression (Form.Let x y z)))
+    (pick (eqb kind MATCH) (unused z (Some (Node.Expression (Form.Match x y))))
+    (pick (eqb kind SEQUENCE) (unused y (unused z (Some (Node.Expression (Form.Sequence x)))))
+    (pick (eqb kind LINK) (Some (Node.Link x y z))
+    (pick (eqb kind UNIT-PATTERN) (unused x (unused y (unused z (Some (Node.Pattern Shape.Unit)))))
+    (pick (eqb kind NIL-PATTERN) (unused x (unused y (unused z (Some (Node.Pattern Shape.Nil)))))
+    (pick (eqb kind AS-PATTERN) (unused z (Some (Node.Pattern (Shape.As x y))))
+    (pick (eqb kind PRODUCT-PATTERN) (unused z (Some (Node.Pattern (Shape.Product x y))))
+    (pick (eqb kind CONS-PATTERN) (unused z (Some (Node.Pattern (Shape.Cons x y))))
+    (pick (eqb kind VARIABLE-PATTERN) (unused y (unused z (Some (Node.Pattern (Shape.Variable x)))))
+    (pick (eqb kind CONSTANT-PATTERN) (unused y (unused z (Some (Node.Pattern (Shape.Constant (to_z w32 x))))))
+    None))))))))))))))))))))
 
 -- node k
-unfoldable pub entry_of : List ℕ → ℕ → ℕ → Entry
+unfoldable pub entry_of : List ℕ → ℕ → ℕ → Option Node
 entry_of b at k = let n = node_entry b at k in entry_for n.kind n.a n.b n.c
 
 -- ---- what a node asks of its words
@@ -85,25 +90,25 @@ shape_children (Shape.Variable v) = three (Child.Name v) Child.Nothing Child.Not
 shape_children (Shape.Constant n) = three Child.Nothing Child.Nothing Child.Nothing
 
 -- "A chain of links is judged at its function, match or sequence": a link by itself asks nothing
-abbrev pub children_of : Entry → Children
-children_of (Entry.Expression f) = form_children f
-children_of (Entry.Pattern p) = shape_children p
-children_of (Entry.Link item next result) = three Child.Nothing Child.Nothing Child.Nothing
-children_of Entry.Bad = three Child.Wrong Child.Nothing Child.Nothing
+abbrev pub children_of : Option Node → Children
+children_of (Some (Node.Expression f)) = form_children f
+children_of (Some (Node.Pattern p)) = shape_children p
+children_of (Some (Node.Link item next result)) = three Child.Nothing Child.Nothing Child.Nothing
+children_of None = three Child.Wrong Child.Nothing Child.Nothing
 
 -- ---- not 5
 
-unfoldable pub is_expression : Entry → Bool
-is_expression (Entry.Expression f) = true
-is_expression (Entry.Pattern p) = false
-is_expression (Entry.Link item next result) = false
-is_expression Entry.Bad = false
+unfoldable pub is_expression : Option Node → Bool
+is_expression (Some (Node.Expression f)) = true
+is_expression (Some (Node.Pattern p)) = false
+is_expression (Some (Node.Link item next result)) = false
+is_expression None = false
 
-unfoldable pub is_pattern : Entry → Bool
-is_pattern (Entry.Expression f) = false
-is_pattern (Entry.Pattern p) = true
-is_pattern (Entry.Link item next result) = false
-is_pattern Entry.Bad = false
+unfoldable pub is_pattern : Option Node → Bool
+is_pattern (Some (Node.Expression f)) = false
+is_pattern (Some (Node.Pattern p)) = true
+is_pattern (Some (Node.Link item next result)) = false
+is_pattern None = false
 
 module _ (b : List ℕ) (at : ℕ) where
   -- x is an expression (a pattern) that stands before k: "A child stands before its parent"
@@ -126,11 +131,11 @@ module _ (b : List ℕ) (at : ℕ) where
   result_fits Chain.Items k x = eqb x 0
 
   -- link k, where `rest` says of a link before k whether the chain from it on fits: "link (item a, next link b or 4,294,967,295, arm result c)"
-  unfoldable pub link_fits : Chain → (ℕ → Bool) → ℕ → Entry → Bool
-  link_fits h rest k (Entry.Expression f) = false
-  link_fits h rest k (Entry.Pattern p) = false
-  link_fits h rest k (Entry.Link item next result) = item_fits h k item && (result_fits h k result && (eqb next NO-LINK || rest next))
-  link_fits h rest k Entry.Bad = false
+  unfoldable pub link_fits : Chain → (ℕ → Bool) → ℕ → Option Node → Bool
+  link_fits h rest k (Some (Node.Expression f)) = false
+  link_fits h rest k (Some (Node.Pattern p)) = false
+  link_fits h rest k (Some (Node.Link item next result)) = item_fits h k item && (result_fits h k result && (eqb next NO-LINK || rest next))
+  link_fits h rest k None = false
 
   -- x is a link that stands before n, and so is each next link, before the one that names it: by the falling index of the link
   unfoldable pub chain_fits : Chain → ℕ → ℕ → Bool

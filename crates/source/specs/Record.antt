@@ -1,11 +1,12 @@
 -- What a source record is: its module, or the first of the refusals 1 to 6. For a reader with document 01, "Source record" and "Numbers by place of the check",
 -- beside it.
 use Rattle.std.specs.Prelude.{ℕ, zero, suc, ◌+◌, List, [], ◌∷◌, Bool, true, false, ◌&&◌, length, leb, eqb}
-use Rattle.source.specs.declared.Entry.{Entry}
+use Rattle.std.specs.Prelude.{Option, Some, None}
+use Rattle.source.specs.declared.Node.{Node}
 use Rattle.source.specs.declared.Form.{Form}
 use Rattle.source.specs.declared.Shape.{Shape}
 use Rattle.source.specs.Trees.{Pat, Expr, Items, Arms, Env, Module}
-use Rattle.source.specs.Indices.{every, rows}
+use Rattle.marks.specs.Indices.{every, rows}
 use Rattle.source.specs.Layout.{names, publics, definitions, expressions, nodes, publics_offset, definitions_offset, expressions_offset, nodes_offset, text_offset}
 use Rattle.source.specs.Layout.{public_at, definition_entry, expression_root, counted, listed}
 use Rattle.source.specs.Names.{names_fit, names_differ, name_of}
@@ -71,11 +72,11 @@ module _ (below : ℕ → Tree) where
         items = elim ends [ true ↦ Items.last i.expression | false ↦ Items.◌then◌ i.expression rest.items ];
       }
 
-  unfoldable pub grown : Entry → Tree
-  grown (Entry.Expression f) = as_expression (expression_of f)
-  grown (Entry.Pattern p) = as_pattern (pattern_of p)
-  grown (Entry.Link item next result) = link_of item next result
-  grown Entry.Bad = as_expression Expr.unit
+  unfoldable pub grown : Option Node → Tree
+  grown (Some (Node.Expression f)) = as_expression (expression_of f)
+  grown (Some (Node.Pattern p)) = as_pattern (pattern_of p)
+  grown (Some (Node.Link item next result)) = link_of item next result
+  grown None = as_expression Expr.unit
 
 -- node k of the first n, by falling index: "A child stands before its parent"
 unfoldable pub tree : List ℕ → ℕ → ℕ → ℕ → Tree

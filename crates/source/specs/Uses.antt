@@ -1,17 +1,13 @@
 -- How often each node is used, in a record with the bytes b whose nodes start at word `at`: what 6 says. It is asked only where nothing is 5.
 use Rattle.std.specs.Prelude.{ℕ, zero, suc, ◌+◌, List, true, false, eqb}
-use Rattle.source.specs.declared.Entry.{Entry}
+use Rattle.std.specs.Prelude.{Option, Some, None}
+use Rattle.source.specs.declared.Node.{Node}
 use Rattle.source.specs.declared.Chain.{Chain}
-use Rattle.source.specs.declared.Child.{Child}
-use Rattle.source.specs.declared.Children.{Children}
-use Rattle.source.specs.Indices.{total, pick}
+use Rattle.source.specs.Children.{Child, Children}
+use Rattle.marks.specs.Indices.{total, pick, same}
 use Rattle.source.specs.Layout.{definition_entry, expression_root}
 use Rattle.source.specs.Nodes.{entry_of, children_of}
 use Rattle.records.specs.SourceRecord.{NO-LINK}
-
--- how often the index x uses node k
-unfoldable pub same : ℕ → ℕ → ℕ
-same x k = pick (eqb x k) 1 0
 
 -- by a link's arm result
 unfoldable pub result_uses : Chain → ℕ → ℕ → ℕ
@@ -20,11 +16,11 @@ result_uses Chain.Arms x k = same x k
 result_uses Chain.Items x k = 0
 
 -- by a link, where `rest` says how often the chain from a link on uses node k: its item, its arm result, the next link and what follows
-unfoldable pub link_uses : Chain → (ℕ → ℕ) → Entry → ℕ → ℕ
-link_uses h rest (Entry.Expression f) k = 0
-link_uses h rest (Entry.Pattern p) k = 0
-link_uses h rest (Entry.Link item next result) k = same item k + (result_uses h result k + pick (eqb next NO-LINK) 0 (rest next))
-link_uses h rest Entry.Bad k = 0
+unfoldable pub link_uses : Chain → (ℕ → ℕ) → Option Node → ℕ → ℕ
+link_uses h rest (Some (Node.Expression f)) k = 0
+link_uses h rest (Some (Node.Pattern p)) k = 0
+link_uses h rest (Some (Node.Link item next result)) k = same item k + (result_uses h result k + pick (eqb next NO-LINK) 0 (rest next))
+link_uses h rest None k = 0
 
 module _ (b : List ℕ) (at : ℕ) where
   -- by whoever names link x, of the links before n: x itself, and what it uses

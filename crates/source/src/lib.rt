@@ -5,7 +5,6 @@ mod entries;
 pub mod lists;
 
 ghost use Rattle.std.specs.Prelude.{◌≡◌, ◌+◌, ◌*◌, ◌≤◌, ◌<◌, length};
-ghost use Rattle.words.specs.Words.{word_at};
 ghost use Rattle.source.specs.Layout.{layout_of};
 ghost use Rattle.source.specs.Nodes.{entry_of};
 ghost use Rattle.records.specs.Kinds.{NODE-WORDS};
@@ -16,6 +15,7 @@ use field::InfixOp;
 use lists::{DEFINITION_WORDS, NAME_WORDS, node_words};
 use records::NODE_WORDS;
 use records::source_record::{DEFINITIONS, EXPRESSIONS, HEADER, NAME_BYTES, NAMES, NODES, PUBLICS};
+use words::count;
 
 // The words of the longest record, and its bytes with the name text.
 const WORDS: usize = HEADER
@@ -72,13 +72,12 @@ pub enum Shape {
     Constant(i64),
 }
 
-// What the reader of a node answers: an expression, a pattern, a link (item, next link, arm result), or no node.
+// A node: an expression, a pattern, or a link (item, next link, arm result).
 #[derive(Clone, Copy)]
-pub enum Entry {
+pub enum Node {
     Expression(Form),
     Pattern(Shape),
     Link(usize, usize, usize),
-    Bad,
 }
 
 // Whose links a chain's are.
@@ -87,32 +86,6 @@ pub enum Chain {
     Parameters,
     Arms,
     Items,
-}
-
-// What a word of a node must be: a name, an expression, a pattern, or the first link of a chain; of no node, nothing can serve.
-#[derive(Clone, Copy)]
-pub enum Child {
-    Nothing,
-    Name(usize),
-    Expression(usize),
-    Pattern(usize),
-    Links(Chain, usize),
-    Wrong,
-}
-
-#[derive(Clone, Copy)]
-pub struct Children {
-    pub first: Child,
-    pub second: Child,
-    pub third: Child,
-}
-
-// A word, as a count or an index.
-fn count(s: &[u8], i: usize) -> usize
-    requires { 4 * i + 4 ≤ length s.now }
-    ensures { (result ≡ word_at s.now i) × (result < 4294967296) }
-{
-    words::word_at(s, i) as usize
 }
 
 // The layout that the header says.
@@ -143,8 +116,8 @@ pub fn layout_of(s: &[u8]) -> Layout
     }
 }
 
-// Node k of the nodes that start at word `at`.
-pub fn node_at(s: &[u8], at: usize, k: usize) -> Entry
+// Node k of the nodes that start at word `at`, if its words are those of one.
+pub fn node_at(s: &[u8], at: usize, k: usize) -> Option<Node>
     requires { 4 * (at + NODE-WORDS * k + NODE-WORDS) ≤ length s.now }
     ensures { result ≡ entry_of s.now at k }
 {

@@ -8,19 +8,23 @@ use lib.ListN.{length, get_or}
 use lib.Dec.{leb, ltb, eqb}
 use borrow.Author.Tests.{leb-true, le-leb, lt-leb}
 use Rattle.source.specs.declared.Layout.{Layout}
-use Rattle.source.specs.Indices.{every}
+use Rattle.marks.specs.Indices.{every}
 use Rattle.source.specs.Layout.{layout_of, counted, listed, names, text_offset, NAME-WORDS, DEFINITION-WORDS}
 use Rattle.source.specs.Names.{names_fit, names_differ}
 use Rattle.source.specs.Nodes.{nodes_fit, publics_fit, definitions_fit, expressions_fit}
 use Rattle.source.specs.Uses.{by_nodes, by_definitions, by_expressions}
 use Rattle.source.specs.Record.{shaped, used_once, unless, source_of}
-use Rattle.source.proofs.Laws.{and_left, and_right}
+use Rattle.marks.proofs.Indices.{and_left, and_right}
 use Rattle.std.specs.Prelude.{Ok, Err}
 use Rattle.records.specs.declared.refusals.Refusal.{Refusal}
 use Rattle.source_check.specs.Answer.{Checked, checked}
-use Rattle.source_check.specs.Marks.{verdict, outcome, Adds, no_marks}
-use Rattle.source_check.proofs.Marks.{accepted, refused, adds-more, counted-once}
-use Rattle.records.specs.SourceRecord.{HEADER}
+use Rattle.source_check.specs.Marks.{verdict, outcome}
+use Rattle.source_check.proofs.Marks.{refused, passes-on}
+use Rattle.std.specs.Result.{IsErrAnd}
+use Rattle.marks.specs.declared.Uses.{Uses}
+use Rattle.marks.specs.Marks.{Adds, no_marks, all_once}
+use Rattle.marks.proofs.Counted.{counted-once, adds-more}
+use Rattle.records.specs.SourceRecord.{HEADER, NODES}
 
 -- where the lists lie in a file that is long enough
 pub record Room (l : Layout) (size : ℕ) : Type 0 where
@@ -40,42 +44,30 @@ room b size e h = rw e (room_of b size (rw e at h))
 
 -- ---- 5 and 6
 
-module _ (b : List ℕ) {l : Layout} (e : l ≡ layout_of b) {r1 : Checked} (p1 : r1 ≡ verdict Refusal.Entry (nodes_fit b l.nodes_at l.names l.nodes)) where
-  pub trees-nodes : {n : Refusal} → r1 ≡ Err n → Err Refusal.Entry ≡ outcome (shaped b) (used_once b)
-  unfolding shaped outcome layout_of
-  trees-nodes f = rw (rw e at (refused Refusal.Entry _ p1 f))
+-- where a layout in a local is the record's
+module _ (b : List ℕ) {l : Layout} (e : l ≡ layout_of b) where
+  pub shaped-is : shaped b
+      ≡ (nodes_fit b l.nodes_at l.names l.nodes
+      && (publics_fit b l.names l.publics_at l.publics
+      && (definitions_fit b l.nodes_at l.nodes l.definitions_at l.definitions && expressions_fit b l.nodes_at l.nodes l.expressions_at l.expressions)))
+  unfolding shaped layout_of
+  shaped-is = rw e refl
 
-  module _ {r2 : Checked} (a1 : r1 ≡ Ok tt) (p2 : r2 ≡ verdict Refusal.Entry (publics_fit b l.names l.publics_at l.publics)) where
-    pub trees-publics : {n : Refusal} → r2 ≡ Err n → Err Refusal.Entry ≡ outcome (shaped b) (used_once b)
-    unfolding shaped outcome layout_of
-    trees-publics f = rw (rw e at (accepted Refusal.Entry _ p1 a1), rw e at (refused Refusal.Entry _ p2 f))
+  -- the exit of a `?`
+  pub trees-stop : (t : Bool) {r v : Checked} {n : Refusal} → v ≡ verdict Refusal.Entry t → v ≡ Err n → IsErrAnd r (λ x. x ≡ n) → (t ≡ false → shaped b ≡ false)
+      → r ≡ outcome (shaped b) (used_once b)
+  unfolding outcome
+  trees-stop t p q h w = passes-on Refusal.Entry t p q h ∙ rw (w (refused Refusal.Entry t p q).0)
 
-    module _ {r3 : Checked} (a2 : r2 ≡ Ok tt)
-        (p3 : r3 ≡ verdict Refusal.Entry (definitions_fit b l.nodes_at l.nodes l.definitions_at l.definitions)) where
-      pub trees-definitions : {n : Refusal} → r3 ≡ Err n → Err Refusal.Entry ≡ outcome (shaped b) (used_once b)
-      unfolding shaped outcome layout_of
-      trees-definitions f = rw (rw e at (accepted Refusal.Entry _ p1 a1), rw e at (accepted Refusal.Entry _ p2 a2), rw e at (refused Refusal.Entry _ p3 f))
-
-      module _ {r4 : Checked} (a3 : r3 ≡ Ok tt)
-          (p4 : r4 ≡ verdict Refusal.Entry (expressions_fit b l.nodes_at l.nodes l.expressions_at l.expressions)) where
-        pub trees-expressions : {n : Refusal} → r4 ≡ Err n → Err Refusal.Entry ≡ outcome (shaped b) (used_once b)
-        unfolding shaped outcome layout_of
-        trees-expressions f = rw (rw e at (accepted Refusal.Entry _ p1 a1), rw e at (accepted Refusal.Entry _ p2 a2), rw e at (accepted Refusal.Entry _ p3 a3), rw e at (refused Refusal.Entry _ p4 f))
-
-        pub trees-shaped : r4 ≡ Ok tt → shaped b ≡ true
-        unfolding shaped layout_of
-        trees-shaped a4 = rw (rw e at (accepted Refusal.Entry _ p1 a1), rw e at (accepted Refusal.Entry _ p2 a2), rw e at (accepted Refusal.Entry _ p3 a3), rw e at (accepted Refusal.Entry _ p4 a4))
-
--- the marks, from none to the end's test
-pub trees-marked : (b : List ℕ) {l : Layout} {m m1 m2 m3 : List ℕ} {t : Bool} → l ≡ layout_of b → l.nodes ≤ 2048 → m ≡ no_marks
-    → Adds m m1 (by_nodes b l.nodes_at l.nodes) → Adds m1 m2 (by_definitions b l.definitions_at l.definitions)
-    → Adds m2 m3 (by_expressions b l.expressions_at l.expressions) → t ≡ every l.nodes (λ k. eqb (get_or m3 k 0) 1) → t ≡ used_once b
-unfolding used_once layout_of
-trees-marked b {l} e few z u1 u2 u3 q =
-    let f : ℕ → ℕ = λ k. by_nodes b l.nodes_at l.nodes k
-    + (by_definitions b l.definitions_at l.definitions k + by_expressions b l.expressions_at l.expressions k) in
-    rw e at (q ∙ counted-once l.nodes f few z (adds-more f u1 (adds-more (λ k.
-    by_definitions b l.definitions_at l.definitions k + by_expressions b l.expressions_at l.expressions k) u2 u3 (λ k. refl)) (λ k. refl)))
+  -- the marks, from none to the end's test
+  pub trees-marked : {m m₁ m₂ m₃ : List Uses} {t : Bool} → l.nodes ≤ NODES → m ≡ no_marks NODES → Adds m m₁ (by_nodes b l.nodes_at l.nodes)
+      → Adds m₁ m₂ (by_definitions b l.definitions_at l.definitions) → Adds m₂ m₃ (by_expressions b l.expressions_at l.expressions)
+      → t ≡ all_once m₃ l.nodes → t ≡ used_once b
+  unfolding used_once layout_of
+  trees-marked few z u₁ u₂ u₃ q =
+      let others : ℕ → ℕ = λ k. by_definitions b l.definitions_at l.definitions k + by_expressions b l.expressions_at l.expressions k in
+      let f : ℕ → ℕ = λ k. by_nodes b l.nodes_at l.nodes k + others k in
+      rw e at (q ∙ counted-once l.nodes f few z (adds-more f u₁ (adds-more others u₂ u₃ (λ k. refl)) (λ k. refl)))
 
 pub trees-once : (b : List ℕ) {t : Bool} → shaped b ≡ true → t ≡ used_once b → t ≡ true → Ok tt ≡ outcome (shaped b) (used_once b)
 unfolding outcome verdict

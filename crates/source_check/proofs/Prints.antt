@@ -10,11 +10,12 @@ use lib.ListN.{length, get_or, set}
 use lib.Seq.{get_or-set_same, get_or-set_other}
 use lib.Dec.{eqb}
 use borrow.Author.Tests.{eqb-true}
-use Rattle.source.specs.Indices.{every}
+use Rattle.marks.specs.Indices.{every}
 use Rattle.source.specs.Names.{offset_of, length_of, same_bytes, same_name}
 use Rattle.source.specs.Layout.{name_entry}
 use Rattle.source_check.specs.Fingerprints.{fingerprint_of, Fingerprinted}
-use Rattle.source.proofs.Laws.{and_left, and_right, alike}
+use Rattle.std.proofs.lemmas.Bool.{cases_eq}
+use Rattle.marks.proofs.Indices.{and_left, and_right}
 
 -- ---- one
 
@@ -36,7 +37,7 @@ print-set b text k r {h} {offset} {n} l f p q e =
     λ j m. ⊎_elim
     (λ (s : j ≡ k). rw s (get_or-set_same r k h 0 l ∙ e ∙ rw (p, q)))
     (λ (d : j ≡ k → ⊥). get_or-set_other r k j h 0 d ∙ f j (omega (arith, d)))
-    (alike j k)
+    (cases_eq j k)
 
 -- ---- equal names have equal ones
 

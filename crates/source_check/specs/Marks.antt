@@ -1,8 +1,12 @@
--- For the contracts of the reader's private functions: its array of marks, and a test's outcome as an answer.
-use Rattle.std.specs.Prelude.{ℕ, zero, suc, ◌+◌, ◌<◌, ◌≡◌, List, Bool, true, false, length, get_or, replicate, Ok, Err}
+-- For the contracts of the reader's private functions: what a part of the record that is read answers, and what it leaves in the marks.
+use Rattle.std.specs.Prelude.{ℕ, ◌≡◌, List, Bool, true, false, Ok, Err, Option, ◌&&◌, ltb}
+use Rattle.marks.specs.declared.Uses.{Uses}
+use Rattle.marks.specs.Marks.{Adds}
 use Rattle.records.specs.declared.refusals.Refusal.{Refusal}
+use Rattle.source.specs.declared.Node.{Node}
+use Rattle.source.specs.Nodes.{entry_of, is_expression, is_pattern}
 use Rattle.source_check.specs.Answer.{Checked}
-use Rattle.records.specs.SourceRecord.{NODES}
+use Rattle.source_check.specs.declared.reading.Sort.{Sort}
 
 -- accepted where a test holds, else refused
 unfoldable pub verdict : Refusal → Bool → Checked
@@ -14,25 +18,14 @@ unfoldable pub outcome : Bool → Bool → Checked
 outcome true once = verdict Refusal.Uses once
 outcome false once = Err Refusal.Entry
 
--- a mark is 0, 1, or 2 for more uses
-unfoldable pub capped : ℕ → ℕ
-capped zero = 0
-capped (suc zero) = 1
-capped (suc (suc n)) = 2
+-- an entry that does not fit where a test fails, else marks m' that are m after so many more uses
+abbrev pub Judged : Checked → Bool → List Uses → List Uses → (ℕ → ℕ) → Type 0
+Judged r fits m m' uses = (r ≡ verdict Refusal.Entry fits) × (r ≡ Ok tt → Adds m m' uses)
 
-unfoldable pub bump : ℕ → ℕ
-bump zero = 1
-bump (suc n) = 2
+-- whether a node is of a sort; x is one that stands before k
+unfoldable pub is_of : Sort → Option Node → Bool
+is_of Sort.Expression n = is_expression n
+is_of Sort.Pattern n = is_pattern n
 
--- marks that hold a count of uses
-abbrev pub Marked : List ℕ → (ℕ → ℕ) → Type 0
-Marked m f = (k : ℕ) → k < length m → get_or m k 0 ≡ capped (f k)
-
--- marks after g more uses
-pub record Adds (m m' : List ℕ) (g : ℕ → ℕ) : Type 0 where
-  pub long : length m' ≡ length m
-  pub adds : (f : ℕ → ℕ) → Marked m f → Marked m' (λ k. f k + g k)
-
--- no marks
-unfoldable pub no_marks : List ℕ
-no_marks = replicate NODES 0
+unfoldable pub sort_fits : List ℕ → ℕ → Sort → ℕ → ℕ → Bool
+sort_fits b at sort k x = ltb x k && is_of sort (entry_of b at x)

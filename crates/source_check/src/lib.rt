@@ -1,7 +1,6 @@
 // The check of a source record: accepted, or the first of refusals 1 to 6.
 #![tactic(auto)]
 
-mod asking;
 mod fingerprints;
 mod naming;
 mod reading;

@@ -11,8 +11,9 @@ ghost use Rattle.std.specs.Prelude.{◌≤◌};
 use field::InfixOp;
 use law_vectors::{LAW_ROWS, LAW_VECTORS};
 use laws::{differing_laws, laws_at_edges};
-use streams::{Opened, open_standard};
-use test_report::{Part, tell, tell_last};
+use std::rt::Env;
+use streams::{Failed, open_standard};
+use test_report::{tell, tell_last};
 use vectors::{COUNTS, FIRST, FIRST_COUNTS, POWERS, ROWS, VECTORS};
 
 fn operation(number: i64) -> InfixOp {
@@ -110,31 +111,25 @@ fn differing_counts(rows: &[u64]) -> u64 {
     wrong
 }
 
-fn main(rt: HostRuntime) {
-    let Opened::Standard = open_standard(&rt, "usage: test_field\n") else {
-        return;
-    };
+fn run(rt: &(impl Env + Print + Eprint)) -> Result<usize, Failed> {
+    open_standard(rt, "usage: test_field\n")?;
     let vectors = VECTORS;
     let of_vectors = [ROWS as u64, differing_vectors(&vectors)];
-    let Part::Whole = tell(&rt, b"# vectors, # differ\n", &of_vectors) else {
-        return;
-    };
+    tell(rt, b"# vectors, # differ\n", &of_vectors)?;
     let first = FIRST_COUNTS;
     let of_first = [FIRST as u64, differing_first(&first)];
-    let Part::Whole = tell(&rt, b"# power counts from 1 on, # differ\n", &of_first) else {
-        return;
-    };
+    tell(rt, b"# power counts from 1 on, # differ\n", &of_first)?;
     let powers = POWERS;
     let of_powers = [COUNTS as u64, differing_counts(&powers)];
-    let Part::Whole = tell(&rt, b"# more power counts, # differ\n", &of_powers) else {
-        return;
-    };
+    tell(rt, b"# more power counts, # differ\n", &of_powers)?;
     let edges = laws_at_edges();
     let of_edges = [edges.cases, edges.differ];
-    let Part::Whole = tell(&rt, b"# law cases at the edges, # differ\n", &of_edges) else {
-        return;
-    };
+    tell(rt, b"# law cases at the edges, # differ\n", &of_edges)?;
     let law_vectors = LAW_VECTORS;
     let of_laws = [LAW_ROWS as u64, differing_laws(&law_vectors)];
-    tell_last(&rt, b"# law vectors, # differ\n", &of_laws);
+    tell_last(rt, b"# law vectors, # differ\n", &of_laws)
+}
+
+fn main(rt: HostRuntime) {
+    let _ = run(&rt);
 }

@@ -11,8 +11,7 @@ use lib.Seq.{take-suc-set, take_all, take-suc, take-append-le, set_out, drop-con
 use borrow.Author.Tests.{ltb-true, ltb-false, lt-ltb, le-ltb, eq-eqb, ne_eqb}
 use Rattle.constraint_text.specs.Text.{decimal}
 use Rattle.test_report.specs.Lines.{MARK, piece, takes, filled, Holds}
-use Rattle.test_report.specs.declared.Part.{Part}
-use Rattle.test_report.specs.Parts.{MANY, counted, finished, Finish}
+use Rattle.test_report.specs.Parts.{MANY, counted}
 
 -- one byte more: there is room, or the line is full
 byte_at : (n : ℕ) (line t : List ℕ) (b : ℕ) (less : Bool) → ltb (length t) (length line) ≡ less → Holds n line t
@@ -101,7 +100,3 @@ counted-many xs k h = rw (le-ltb (get_or xs k 0) MANY h)
 
 pub counted-out : (xs : List ℕ) (k : ℕ) → length xs ≤ k → xs ≡ counted xs k
 counted-out xs k h = rw (get_or-eq_default {A = ℕ} xs 0 h) (sym (set_out {A = ℕ} xs k 1 h))
-
--- the end of a program, by what came last
-pub ended : (last p r : Part) (xs ys : List ℕ) (k : ℕ) → last ≡ p → (ys ≡ finished p xs k) × Finish p r → (ys ≡ finished last xs k) × Finish last r
-ended last p r xs ys k e h = rw e h

@@ -1,49 +1,63 @@
 -- What the answers about parts of the input say, and the counts.
-use Rattle.std.specs.Prelude.{ℕ, ◌+◌, ◌<◌, ◌≡◌, cond, List, ltb, get_or, set}
-use Rattle.test_report.specs.declared.Part.{Part}
+use Rattle.std.specs.Prelude.{ℕ, ◌+◌, ◌-◌, ◌<◌, ◌≡◌, Bool, true, false, cond, List, ltb, get_or, set, Result, Ok, Err, IsErr}
+use Rattle.streams.specs.declared.Failed.{Failed}
+use Rattle.test_report.specs.declared.Stop.{Stop}
+use Rattle.test_report.specs.declared.Verdict.{Verdict}
 
 -- no bytes are always there, and of one byte none can be missing behind the first
-abbrev pub Asked : Part → ℕ → Type 0
-Asked Part.Whole size = Unit {0}
-Asked Part.End size = 0 < size
-Asked Part.Broken size = 1 < size
-Asked Part.Failed size = Unit {0}
+abbrev pub Asked : Result (Unit {0}) Stop → ℕ → Type 0
+Asked (Ok _) size = Unit {0}
+Asked (Err Stop.End) size = 0 < size
+Asked (Err Stop.Broken) size = 1 < size
+Asked (Err Stop.Failed) size = Unit {0}
 
 -- the input must not end in front of what belongs to a part
-abbrev pub Rest : Part → Type 0
-Rest Part.Whole = Unit {0}
-Rest Part.End = ⊥
-Rest Part.Broken = Unit {0}
-Rest Part.Failed = Unit {0}
+abbrev pub Rest : Result (Unit {0}) Stop → Type 0
+Rest (Ok _) = Unit {0}
+Rest (Err Stop.End) = ⊥
+Rest (Err Stop.Broken) = Unit {0}
+Rest (Err Stop.Failed) = Unit {0}
 
--- what was to say was said, or a write failed
-abbrev pub Told : Part → Type 0
-Told Part.Whole = Unit {0}
-Told Part.End = ⊥
-Told Part.Broken = ⊥
-Told Part.Failed = Unit {0}
+-- a case whose answer is as expected or not, and which was to be accepted or refused
+abbrev pub verdict_of : Bool → Bool → Verdict
+verdict_of false accepted = Verdict.Different
+verdict_of true true = Verdict.Accepted
+verdict_of true false = Verdict.Refused
+
+-- the kind of a run that came to the answer that was wanted, an accepted one or a refusal, or to another
+abbrev pub run_kind : Result (Unit {0}) ℕ → Bool → ℕ
+run_kind (Ok _) true = 0
+run_kind (Ok _) false = 1
+run_kind (Err answered) accepted = 2
+
+-- an answer as a word of the input: a number, or the number of a refusal behind so much
+abbrev pub REFUSAL : ℕ
+REFUSAL = 4294901760
+
+abbrev pub said_of : ℕ → Result ℕ ℕ
+said_of word = cond (ltb word REFUSAL) (Ok word) (Err (word - REFUSAL))
 
 -- more cases are not counted
 abbrev pub MANY : ℕ
 MANY = 10000000
 
--- the place of the cases that differ, behind those accepted and refused
-abbrev pub DIFFERENT : ℕ
-DIFFERENT = 2
+-- how many parts a program takes
+abbrev pub PARTS : ℕ
+PARTS = 1000000
 
 -- one more at place k
 abbrev pub counted : List ℕ → ℕ → List ℕ
 counted xs k = cond (ltb (get_or xs k 0) MANY) (set xs k (get_or xs k 0 + 1)) xs
 
 -- at the end: one more that differs, unless the input ended where it may; and nothing is said after a fault
-abbrev pub finished : Part → List ℕ → ℕ → List ℕ
-finished Part.Whole xs k = counted xs k
-finished Part.End xs k = xs
-finished Part.Broken xs k = counted xs k
-finished Part.Failed xs k = xs
+abbrev pub finished : Result (Unit {0}) Stop → List ℕ → ℕ → List ℕ
+finished (Ok _) xs k = counted xs k
+finished (Err Stop.End) xs k = xs
+finished (Err Stop.Broken) xs k = counted xs k
+finished (Err Stop.Failed) xs k = xs
 
-abbrev pub Finish : Part → Part → Type 0
-Finish Part.Whole r = Told r
-Finish Part.End r = Told r
-Finish Part.Broken r = Told r
-Finish Part.Failed r = r ≡ Part.Failed
+abbrev pub Finish : Result (Unit {0}) Stop → Result ℕ Failed → Type 0
+Finish (Ok _) r = Unit {0}
+Finish (Err Stop.End) r = Unit {0}
+Finish (Err Stop.Broken) r = Unit {0}
+Finish (Err Stop.Failed) r = IsErr r

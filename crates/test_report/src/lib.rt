@@ -4,34 +4,68 @@
 
 mod line;
 
-ghost use Rattle.std.specs.Prelude.{◌≡◌, length, take};
+ghost use Rattle.std.specs.Prelude.{◌≡◌, ◌≤◌, length, take, replicate, IfOk};
 ghost use Rattle.streams.specs.Streams.{Whole};
-ghost use Rattle.test_report.specs.Parts.{Asked, Rest, Told, Finish, counted, finished, DIFFERENT};
+ghost use Rattle.test_report.specs.Parts.{Asked, Rest, Finish, counted, finished, verdict_of, run_kind, said_of, PARTS};
 ghost use Rattle.test_report.specs.Lines.{filled, LINE};
 
 use line::fill_line;
 use std::io;
-use streams::{Input, Output, close_output, read_standard, write_output};
+use streams::{Failed, close_output, read_standard, write_output};
 
-// A part of the input: a case, or some bytes of it. Whole: it was there, and what there was to say of it was said. End: the input had
-// ended before it. Broken: the input ends within it, or it does not fit here, so that no next one can be found. Failed: a read or a
-// write failed, which was said.
-#[derive(Clone, Copy)]
-pub enum Part {
-    Whole,
+// Why no further part of the input is read. A part is a case, or some bytes of it.
+#[derive(Clone, Copy, Debug, PartialEq, Eq)]
+pub enum Stop {
+    // The input had ended in front of the part.
     End,
+    // The input ends within the part, or it does not fit here, so that no next one can be found.
     Broken,
+    // A read or a write failed, which was said.
     Failed,
 }
 
-// The counts of most programs: of cases accepted, refused, different.
-pub const ACCEPTED: usize = 0;
+impl From<Failed> for Stop {
+    ghost use Rattle.test_report.specs.declared.Stop.{Stop};
 
-pub const REFUSED: usize = 1;
+    ghost from_gives = { λ _ stop. stop ≡ Stop.Failed };
 
-pub const DIFFERENT: usize = 2;
+    fn from(_failed: Failed) -> Stop {
+        Stop::Failed
+    }
+}
 
-pub const KINDS_OF_CASES: usize = 3;
+// What a case came to, in the order of the counts of most programs.
+#[derive(Clone, Copy, Debug, PartialEq, Eq)]
+pub enum Verdict {
+    Accepted,
+    Refused,
+    Different,
+}
+
+impl Verdict {
+    // The verdict on a case whose answer is as expected or not, and which was to be accepted or refused.
+    pub fn of(as_expected: bool, accepted: bool) -> Verdict
+        ensures { result ≡ verdict_of as_expected accepted }
+    {
+        match (as_expected, accepted) {
+            (false, _) => Verdict::Different,
+            (true, true) => Verdict::Accepted,
+            (true, false) => Verdict::Refused,
+        }
+    }
+}
+
+// An answer as a word of the input: a number, or the number of a refusal behind so much.
+const REFUSAL: u32 = 4294901760;
+
+pub fn said(word: u32) -> Result<u32, u32>
+    ensures { result ≡ said_of word }
+{
+    match word.checked_sub(REFUSAL) {
+        Some(number) => Err(number),
+        None => Ok(word),
+    }
+}
 
 // Room for every line of the test programs.
 const LINE: usize = 256;
@@ -39,34 +73,35 @@ const LINE: usize = 256;
 // More cases are not counted.
 const MANY: u64 = 10000000;
 
+// How many parts a program takes.
+const PARTS: u64 = 1000000;
+
 // The next bytes of standard input, as many as the slice has.
-pub fn read_part(rt: &(impl io::Input + Eprint), s: &mut [u8]) -> Part
+pub fn read_part(rt: &(impl Input + Eprint), s: &mut [u8]) -> Result<(), Stop>
     ensures { Asked result (length s.old) × (length s.new ≡ length s.old) }
 {
-    let Input::Bytes(n) = read_standard(rt, s) else {
-        return Part::Failed;
-    };
+    let n = read_standard(rt, s)?;
     if s.len() <= n {
-        return Part::Whole;
+        return Ok(());
     }
     if n == 0 {
-        return Part::End;
+        return Err(Stop::End);
     }
-    Part::Broken
+    Err(Stop::Broken)
 }
 
 // The same of bytes that belong to what was read before: the input must not end in front of them.
-pub fn read_rest(rt: &(impl io::Input + Eprint), s: &mut [u8]) -> Part
+pub fn read_rest(rt: &(impl Input + Eprint), s: &mut [u8]) -> Result<(), Stop>
     ensures { Rest result × (length s.new ≡ length s.old) }
 {
     match read_part(rt, s) {
-        Part::Whole => Part::Whole,
-        Part::Failed => Part::Failed,
-        _ => Part::Broken,
+        Err(Stop::End) => Err(Stop::Broken),
+        other => other,
     }
 }
 
-fn print_line(rt: &(impl Print + Eprint), text: &[u8], counts: &[u64]) -> Output
+// A text on standard output, with a count for each '#' of it; the answer is how many bytes that were.
+pub fn tell(rt: &(impl Print + Eprint), text: &[u8], counts: &[u64]) -> Result<usize, Failed>
     ensures { Whole result (length (take LINE (filled text.now counts.now))) }
 {
     let mut line = [0u8; LINE];
@@ -74,104 +109,151 @@ fn print_line(rt: &(impl Print + Eprint), text: &[u8], counts: &[u64]) -> Output
     write_output(rt, &mut io::writer(rt), &line[..n])
 }
 
-// A text on standard output, with a count for each '#' of it.
-pub fn tell(rt: &(impl Print + Eprint), text: &[u8], counts: &[u64]) -> Part
-    ensures { Told result }
-{
-    let Output::All(_) = print_line(rt, text, counts) else {
-        return Part::Failed;
-    };
-    Part::Whole
-}
-
 // The same for the last text: standard output is ended behind it.
-pub fn tell_last(rt: &(impl Print + Eprint), text: &[u8], counts: &[u64]) -> Part
-    ensures { Told result }
+pub fn tell_last(rt: &(impl Print + Eprint), text: &[u8], counts: &[u64]) -> Result<usize, Failed>
+    ensures { Whole result (length (take LINE (filled text.now counts.now))) }
 {
-    let Output::All(n) = print_line(rt, text, counts) else {
-        return Part::Failed;
-    };
-    let Output::All(_) = close_output(rt, &mut io::writer(rt), n) else {
-        return Part::Failed;
-    };
-    Part::Whole
+    let n = tell(rt, text, counts)?;
+    close_output(rt, &mut io::writer(rt), n)
 }
 
-// One more at place k of the counts.
-pub fn count(counts: &mut [u64], k: usize)
-    ensures { counts.new ≡ counted counts.old k }
-{
-    if k < counts.len() {
-        if counts[k] < MANY {
-            counts[k] += 1;
+// How many cases came to each kind, and the kind of those that differ.
+#[derive(Drop)]
+pub struct Counts<const KINDS: usize> {
+    pub of: [u64; KINDS],
+    pub different: usize,
+}
+
+impl<const KINDS: usize> Counts<KINDS> {
+    pub fn new(different: usize) -> Counts<KINDS>
+        ensures { (result.of ≡ replicate KINDS 0) × (result.different ≡ different) }
+    {
+        Counts {
+            of: [0; KINDS],
+            different,
+        }
+    }
+
+    // One more of a kind.
+    pub fn count(&mut self, kind: usize)
+        ensures { (self.new.of ≡ counted self.old.of kind) × (self.new.different ≡ self.old.different) }
+    {
+        if kind < KINDS && self.of[kind] < MANY {
+            self.of[kind] += 1;
+        }
+    }
+
+    // A case of a kind. One that differs is told by its number.
+    pub fn count_case(
+        &mut self,
+        rt: &(impl Print + Eprint),
+        kind: usize,
+        case: u64,
+    ) -> Result<(), Failed>
+        ensures { (self.new.of ≡ counted self.old.of kind) × (self.new.different ≡ self.old.different) }
+    {
+        self.count(kind);
+        if kind == self.different {
+            tell(rt, b"case # differs\n", &[case])?;
+        }
+        Ok(())
+    }
+
+    // A run of a group, which came to the answer that was wanted or to another. One that differs is told by both numbers and its answer.
+    pub fn count_run(
+        &mut self,
+        rt: &(impl Print + Eprint),
+        seen: Result<(), u32>,
+        accepted: bool,
+        group: u64,
+        run: u64,
+    ) -> Result<(), Failed>
+        ensures { (self.new.of ≡ counted self.old.of (run_kind seen accepted)) × (self.new.different ≡ self.old.different) }
+    {
+        self.count(Verdict::of(seen.is_ok(), accepted) as usize);
+        if let Err(answered) = seen {
+            tell(
+                rt,
+                b"group # run # differs: #\n",
+                &[group, run, answered as u64],
+            )?;
+        }
+        Ok(())
+    }
+
+    // A part that is broken is told by its number, and counts as one that differs.
+    fn finish_broken(
+        &mut self,
+        rt: &(impl Print + Eprint),
+        at: u64,
+        text: &[u8],
+    ) -> Result<usize, Failed>
+        ensures { self.new.of ≡ counted self.old.of self.old.different }
+    {
+        self.count(self.different);
+        tell(rt, b"part # of the input is broken\n", &[at])?;
+        tell_last(rt, text, &self.of)
+    }
+
+    // The end of a program, where `last` came of the last part, whose number is `at`: nothing is told after a fault, else the text with
+    // the counts. Ok: there were as many parts as a program takes, and no end.
+    pub fn finish(
+        &mut self,
+        rt: &(impl Print + Eprint),
+        last: Result<(), Stop>,
+        at: u64,
+        text: &[u8],
+    ) -> Result<usize, Failed>
+        ensures { (self.new.of ≡ finished last self.old.of self.old.different) × Finish last result }
+    {
+        match last {
+            Ok(()) => self.finish_broken(rt, at, text),
+            Err(Stop::End) => tell_last(rt, text, &self.of),
+            Err(Stop::Broken) => self.finish_broken(rt, at, text),
+            Err(Stop::Failed) => Err(Failed),
         }
     }
 }
 
-// A case that came to place k of the counts. One that differs is told by its number.
-pub fn count_case(
-    rt: &(impl Print + Eprint),
-    counts: &mut [u64],
-    k: usize,
-    different: usize,
-    case: u64,
-) -> Part
-    ensures { (counts.new ≡ counted counts.old k) × Told result }
-{
-    count(counts, k);
-    if k == different {
-        return tell(rt, b"case # differs\n", &[case]);
-    }
-    Part::Whole
-}
+// The counts of most programs, and the text that says them.
+pub const KINDS_OF_CASES: usize = 3;
 
-// A part that is broken is told by its number, and counts as one that differs.
-fn finish_broken(
-    rt: &(impl Print + Eprint),
-    at: u64,
-    counts: &mut [u64],
-    different: usize,
-    text: &[u8],
-) -> Part
-    ensures { (counts.new ≡ counted counts.old different) × Told result }
-{
-    count(counts, different);
-    let Part::Whole = tell(rt, b"part # of the input is broken\n", &[at]) else {
-        return Part::Failed;
-    };
-    tell_last(rt, text, counts)
-}
+pub const CASES_TEXT: &[u8] = b"# accepted, # refused, # differ\n";
 
-// The end of a program, where `last` came of the last part, whose number is `at`: nothing is told after a fault, else the text with
-// the counts. Whole: there were as many parts as a program takes, and no end.
-pub fn finish(
-    rt: &(impl Print + Eprint),
-    last: Part,
-    at: u64,
-    counts: &mut [u64],
-    different: usize,
-    text: &[u8],
-) -> Part
-    ensures { (counts.new ≡ finished last counts.old different) × Finish last result }
-{
-    match last {
-        Part::Whole => finish_broken(rt, at, counts, different, text),
-        Part::End => tell_last(rt, text, counts),
-        Part::Broken => finish_broken(rt, at, counts, different, text),
-        Part::Failed => Part::Failed,
+impl Counts<KINDS_OF_CASES> {
+    // The counts of verdicts.
+    pub fn of_verdicts() -> Counts<KINDS_OF_CASES>
+        ensures { (result.of ≡ replicate 3 0) × (result.different ≡ 2) }
+    {
+        Counts::new(Verdict::Different as usize)
     }
 }
 
-// The same for the counts of accepted, refused and different cases.
-pub fn finish_cases(rt: &(impl Print + Eprint), last: Part, at: u64, counts: &mut [u64]) -> Part
-    ensures { (counts.new ≡ finished last counts.old DIFFERENT) × Finish last result }
+// The cases of a test program, with what is lent to them: how the next part of the input is read and replayed. Each part has a number.
+pub trait Cases<const KINDS: usize> {
+    fn replay<R: Input + Print + Eprint>(
+        &mut self,
+        rt: &R,
+        part: u64,
+        counts: &mut Counts<KINDS>,
+    ) -> Result<(), Stop>;
+}
+
+// Every part of the input, and then the text with the counts; the answer is how many parts were replayed.
+pub fn replay_all<const KINDS: usize, C: Cases<KINDS>, R: Input + Print + Eprint>(
+    rt: &R,
+    cases: &mut C,
+    counts: &mut Counts<KINDS>,
+    text: &[u8],
+) -> Result<u64, Failed>
+    ensures { IfOk result (λ n. n ≤ PARTS) }
 {
-    finish(
-        rt,
-        last,
-        at,
-        counts,
-        DIFFERENT,
-        b"# accepted, # refused, # differ\n",
-    )
+    for part in 0..PARTS {
+        if let Err(stop) = cases.replay(rt, part, counts) {
+            counts.finish(rt, Err(stop), part, text)?;
+            return Ok(part);
+        }
+    }
+    counts.finish(rt, Ok(()), PARTS, text)?;
+    Ok(PARTS)
 }

@@ -24,10 +24,8 @@ fn put_text(line: &mut [u8], at: usize, text: &[u8]) -> usize
     ensures { (t : List ℕ) → Holds at line.old t → Holds result line.new (t ++ text.now) }
 {
     let mut end = at;
-    let mut k = 0usize;
-    while k < text.len() {
-        end = put_byte(line, end, text[k]);
-        k += 1;
+    for byte in text {
+        end = put_byte(line, end, *byte);
     }
     end
 }
@@ -59,7 +57,7 @@ fn taken(byte: u8) -> usize
 fn count_at(counts: &[u64], k: usize) -> u64
     ensures { result ≡ get_or counts.now k 0 }
 {
-    if k < counts.len() { counts[k] } else { 0 }
+    counts.get(k).copied().unwrap_or(0)
 }
 
 // The text, with the next of the counts for each mark of it, at the front of the line; the answer is the line's length.
@@ -69,11 +67,9 @@ pub fn fill_line(text: &[u8], counts: &[u64], line: &mut [u8]) -> usize
 {
     let mut end = 0usize;
     let mut next = 0usize;
-    let mut k = 0usize;
-    while k < text.len() {
-        end = put_next(line, end, text[k], count_at(counts, next));
-        next += taken(text[k]);
-        k += 1;
+    for byte in text {
+        end = put_next(line, end, *byte, count_at(counts, next));
+        next += taken(*byte);
     }
     end
 }

@@ -5,16 +5,14 @@
 // A read or a write that fails is said on standard error.
 #![tactic(auto)]
 
-ghost use Rattle.std.specs.Prelude.{◌≤◌, length};
+ghost use Rattle.std.specs.Prelude.{◌≤◌};
 
-use records::source_record::NODES;
-use streams::{Opened, open_standard};
-use test_report::{Part, count_case, finish, read_part, read_rest};
+use std::rt::Env;
+use streams::{Failed, open_standard};
+use test_report::{Cases, Counts, Stop, read_part, read_rest, replay_all, said};
 use words::{put_word, word_at};
 
 const BASE: u32 = 4294967295;
-
-const REFUSED: u32 = 4294901760;
 
 // The counts of cases: accepted, refused by 1 to 6, different.
 const ACCEPTED: usize = 0;
@@ -23,81 +21,33 @@ const DIFFERENT: usize = 7;
 
 const KINDS_OF_CASES: usize = 8;
 
-// Bytes of a case's words, and how many cases and bases there may be.
+const TEXT: &[u8] =
+    b"# accepted; refused: # by 1, # by 2, # by 3, # by 4, # by 5, # by 6; # differ\n";
+
+// Bytes of a case's words, and room for every record.
 const HEAD: usize = 24;
 
-const PARTS: u64 = 1000000;
+const RECORD: usize = 80000;
 
-fn no_ids(ids: &[u32; NODES]) -> bool {
-    let mut i = 0usize;
-    while i < NODES {
-        if ids[i] != 0 {
-            return false;
-        }
-        i += 1;
-    }
-    true
-}
-
-fn no_publics(publics: &[u32; 64]) -> bool {
-    let mut i = 0usize;
-    while i < 64 {
-        if publics[i] != 0 {
-            return false;
-        }
-        i += 1;
-    }
-    true
-}
-
-// An accepted record has its next id.
-fn judge_accepted(next: u32, answer: u32) -> usize {
-    if next == answer { ACCEPTED } else { DIFFERENT }
-}
-
-// A refused one has its number, and no id in either array.
-fn judge_refused(number: u32, answer: u32, none: bool) -> usize {
-    let same = REFUSED as u64 + number as u64 == answer as u64;
-    let known = (number as usize) < DIFFERENT;
-    if same & none & known {
-        number as usize
-    } else {
-        DIFFERENT
-    }
-}
-
-// The place in the counts of a case.
+// The place in the counts of a case: a refused one has no id in either array.
 fn judge(image: &[u8], answer: u32) -> usize {
+    let expected = said(answer);
     let r = numbering::number_module_variables(image);
-    let ids = r.ids;
-    let publics = r.publics;
     match r.answer {
-        Ok(next) => judge_accepted(next, answer),
-        Err(refusal) => judge_refused(
-            refusal.number(),
-            answer,
-            no_ids(&ids) & no_publics(&publics),
-        ),
+        Ok(next) => {
+            if expected == Ok(next) {
+                return ACCEPTED;
+            }
+        }
+        Err(refusal) => {
+            let number = refusal.number();
+            let none = r.ids.iter().all(|id| *id == 0) && r.publics.iter().all(|id| *id == 0);
+            if expected == Err(number) && none && (number as usize) < DIFFERENT {
+                return number as usize;
+            }
+        }
     }
-}
-
-// The record is the first n bytes of the image.
-fn judge_front(image: &[u8], n: usize, answer: u32) -> usize {
-    if image.len() < n {
-        return DIFFERENT;
-    }
-    judge(&image[..n], answer)
-}
-
-// The first n bytes of the base go to the image.
-fn copy(base: &[u8], image: &mut [u8], n: usize)
-    requires { (n ≤ length base.now) × (n ≤ length image.old) }
-{
-    let mut i = 0usize;
-    while i < n {
-        image[i] = base[i];
-        i += 1;
-    }
+    DIFFERENT
 }
 
 // Word i becomes w; an index beyond the image says that no word does.
@@ -107,91 +57,64 @@ fn damage(image: &mut [u8], i: usize, w: u32) {
     }
 }
 
-// A new base: its bytes go to the front of the buffer.
-fn read_base(rt: &(impl Input + Eprint), base: &mut [u8], n: usize) -> Part {
-    if base.len() < n {
-        return Part::Broken;
-    }
-    read_rest(rt, &mut base[..n])
+// The base of the cases, and room for one that is damaged.
+#[derive(Drop)]
+struct Records {
+    base: [u8; RECORD],
+    image: [u8; RECORD],
 }
 
-// A case, by its six words.
-fn replay_case(
-    rt: &(impl Print + Eprint),
-    base: &[u8],
-    image: &mut [u8],
-    head: &[u8; HEAD],
-    case: u64,
-    counts: &mut [u64],
-) -> Part {
-    let n = word_at(head, 0) as usize;
-    if base.len() < n {
-        return Part::Broken;
+impl Records {
+    // A case, by its six words: the first n bytes of the base, with two words of it written anew.
+    fn judge_damaged(&mut self, head: &[u8; HEAD], n: usize) -> usize
+        requires { n ≤ RECORD }
+    {
+        let base = &self.base[..n];
+        let image = &mut self.image[..];
+        image[..n].copy_from_slice(base);
+        damage(image, word_at(head, 2) as usize, word_at(head, 3));
+        damage(image, word_at(head, 4) as usize, word_at(head, 5));
+        judge(&image[..n], word_at(head, 1))
     }
-    if image.len() < n {
-        return Part::Broken;
-    }
-    copy(base, image, n);
-    damage(image, word_at(head, 2) as usize, word_at(head, 3));
-    damage(image, word_at(head, 4) as usize, word_at(head, 5));
-    let k = judge_front(image, n, word_at(head, 1));
-    count_case(rt, counts, k, DIFFERENT, case)
 }
 
-// The next case or base of the input; both have a number.
-fn replay(
-    rt: &(impl Input + Print + Eprint),
-    base: &mut [u8],
-    image: &mut [u8],
-    case: u64,
-    counts: &mut [u64],
-) -> Part {
-    let mut head = [0u8; HEAD];
-    let part = read_part(rt, &mut head);
-    let Part::Whole = part else {
-        return part;
+impl Cases<KINDS_OF_CASES> for Records {
+    // The next case or base of the input.
+    fn replay<R: Input + Print + Eprint>(
+        &mut self,
+        rt: &R,
+        part: u64,
+        counts: &mut Counts<KINDS_OF_CASES>,
+    ) -> Result<(), Stop> {
+        let mut head = [0u8; HEAD];
+        read_part(rt, &mut head)?;
+        let first = word_at(&head, 0);
+        let n = if first == BASE {
+            word_at(&head, 1)
+        } else {
+            first
+        } as usize;
+        if RECORD < n {
+            return Err(Stop::Broken);
+        }
+        if first == BASE {
+            return read_rest(rt, &mut self.base[..n]);
+        }
+        let kind = self.judge_damaged(&head, n);
+        counts.count_case(rt, kind, part)?;
+        Ok(())
+    }
+}
+
+fn run(rt: &(impl Env + Input + Print + Eprint)) -> Result<u64, Failed> {
+    open_standard(rt, "usage: test_source < CASES\n")?;
+    let mut records = Records {
+        base: [0; RECORD],
+        image: [0; RECORD],
     };
-    if word_at(&head, 0) == BASE {
-        return read_base(rt, base, word_at(&head, 1) as usize);
-    }
-    replay_case(rt, base, image, &head, case, counts)
-}
-
-fn finish_counts(rt: &(impl Print + Eprint), last: Part, at: u64, counts: &mut [u64]) -> Part {
-    finish(
-        rt,
-        last,
-        at,
-        counts,
-        DIFFERENT,
-        b"# accepted; refused: # by 1, # by 2, # by 3, # by 4, # by 5, # by 6; # differ\n",
-    )
-}
-
-// Every case of the input, with what is lent to them.
-fn replay_all(
-    rt: &(impl Input + Print + Eprint),
-    base: &mut [u8],
-    image: &mut [u8],
-    counts: &mut [u64],
-) -> Part {
-    let mut case = 0u64;
-    while case < PARTS {
-        let part = replay(rt, base, image, case, counts);
-        let Part::Whole = part else {
-            return finish_counts(rt, part, case, counts);
-        };
-        case += 1;
-    }
-    finish_counts(rt, Part::Whole, case, counts)
+    replay_all(rt, &mut records, &mut Counts::new(DIFFERENT), TEXT)
 }
 
 fn main(rt: HostRuntime) {
-    let Opened::Standard = open_standard(&rt, "usage: test_source < CASES\n") else {
-        return;
-    };
-    let mut base = [0u8; 80000];
-    let mut image = [0u8; 80000];
-    let mut counts = [0u64; KINDS_OF_CASES];
-    replay_all(&rt, &mut base, &mut image, &mut counts);
+    let _ = run(&rt);
 }

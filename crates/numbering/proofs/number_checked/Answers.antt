@@ -1,8 +1,10 @@
 -- `numbering::number_checked` meets its contract. Assumes nothing.
-use Rattle.std.proofs.Common.{◌≡◌, [], ◌≤◌, ◌+◌, arith, ap, ◌∙◌}
+use Rattle.std.proofs.Common.{◌≡◌, ℕ, [], ◌≤◌, ◌+◌, arith, ap, sym, ◌∙◌, length}
+use Rattle.std.proofs.Math.ListN.{length-replicate}
 use Rattle.numbering.specs.Outcome.{Outcome}
-use Rattle.numbering.specs.Walks.{Holds}
+use Rattle.numbering.specs.Walks.{Holds, no_entries, no_publics}
 use Rattle.numbering.specs.declared.rows.Scopes.{Scopes}
+use Rattle.numbering.specs.declared.Numbering.{Numbering}
 use Rattle.numbering.proofs.Entire.{no-row-holds, names-asked, publics-asked, definitions-asked, expressions-asked, entire-at}
 use Rattle.numbering.proofs.number_checked.Goals as goal
 use Rattle.numbering.proofs.number_checked.Goals.{After-register_intrinsics, After-number_publics-publics}
@@ -35,7 +37,11 @@ number_publics-publics-requires c =
 pub number_definitions-requires : goal.number_definitions-requires
 number_definitions-requires c =
     let d = (goal.at.number_definitions-requires c).After-number_publics-publics in
-    let w = definitions-asked _ c.requires.1 _ c.layout_of-l.ensures c.number_publics-publics.new.self (next_few d) (top_none d) in record { long = w.0.0; fit = w.0.1; ready = w.1 }
+    let w = definitions-asked _ c.requires.1 _ c.layout_of-l.ensures c.number_publics-publics.new.self (next_few d) (top_none d) in record {
+      long = w.0.0;
+      fit = w.0.1;
+      ready = w.1;
+    }
 
 pub number_expressions-requires : goal.number_expressions-requires
 number_expressions-requires c =
@@ -47,11 +53,15 @@ number_expressions-requires c =
     }
 
 pub returns : goal.returns
-unfolding Outcome
+unfolding Outcome no_entries no_publics
 returns c =
     let new = c.new-scopes.ensures in
     let first = c.register_intrinsics.ensures in
     let hl : Holds c.register_intrinsics.new.self.locals [] = rw (first.rest.0.same_locals, new) no-row-holds in
+    let same : c.register_intrinsics.new.self.ids ≡ no_entries = first.rest.0.same_ids ∙ ap (λ (s : Scopes). s.ids) new in
+    let last = c.answered.ensures in
+    let li = ap (λ (n : Numbering). length n.ids) (sym last.parts) ∙ last.long.0 ∙ sym (ap length same ∙ length-replicate {A = ℕ} 2048 0) in
+    let lp = ap (λ (n : Numbering). length n.publics) (sym last.parts) ∙ last.long.1 ∙ sym (length-replicate {A = ℕ} 64 0) in
     let w = entire-at _ c.requires.1 _ c.layout_of-l.ensures c.number_publics-publics.ensures c.number_definitions.ensures c.number_expressions.ensures
-    (next-first (goal.at.returns c).After-register_intrinsics) hl (first.holds (rw new no-row-holds)) in
-    (c.requires.0, rw (first.rest.0.same_ids, new) at w)
+    (next-first (goal.at.returns c).After-register_intrinsics) hl (first.holds (rw new no-row-holds)) li lp in
+    rw last.parts (c.requires.0, rw same at w)

@@ -16,5 +16,7 @@ joined a k n xs ys within fits =
     ∙ sym (take-add a n (put_mid a k xs ys))
 
 pub loop-done-preserved : goal.loop-done-preserved
-loop-done-preserved g c =
-    (search rules, search rules, subst (Consumes _ _) (joined _ _ _ _ _ (search rules) (search rules)) (Consumes-trans _ _ _ _ _ c.loop-done.invariant.2 c.in-More.ensures.bytes))
+loop-done-preserved g c = (
+  search rules,
+  subst (Consumes _ _) (joined _ _ _ _ _ c.loop-done.invariant.0 (search rules)) (Consumes-trans _ _ _ _ _ c.loop-done.invariant.1 c.in_ok-n.ensures.bytes.0),
+)

@@ -10,6 +10,6 @@ joined : (a n : ℕ) (xs : List ℕ) → take a xs ++ take n (take (length xs - 
 joined a n xs =
     ap (λ l. take a xs ++ take n l) (take_all (length xs - a) (drop a xs) (omega (arith, length-drop a xs))) ∙ sym (take-add a n xs)
 
-pub loop-done-preserved : goal.loop-done-preserved
-loop-done-preserved g c =
-    (search rules, subst (Appends _ _) (joined _ _ _) (Appends-trans _ _ _ _ _ c.loop-done.invariant.1 c.in-All.ensures.bytes))
+pub loop-written-preserved : goal.loop-written-preserved
+loop-written-preserved g c =
+    (search rules, subst (Appends _ _) (joined _ _ _) (Appends-trans _ _ _ _ _ c.loop-written.invariant.1 c.in_ok-written.ensures.bytes))

@@ -1,9 +1,7 @@
-use Prim.Native.Nat.{◌-◌, ◌≤◌}
-use lib.ListN.{length}
+use Rattle.std.proofs.Common.{◌≡◌}
+use Rattle.std.specs.Slice.Iter.{chunks_size}
 use Rattle.test_flat.proofs.is_next.Given as goal
 
-abbrev pub invariant-loop-at : goal.invariant-loop-at
-invariant-loop-at g l = l.at ≤ length l.s
-
-abbrev pub decreases-loop-at : goal.decreases-loop-at
-decreases-loop-at g l = length l.s - l.at
+abbrev pub invariant-loop-expected : goal.invariant-loop-expected
+invariant-loop-expected g l =
+    (goal.iterator-loop-expected g).can_next l.expected-iterator × (goal.iterator-loop-expected g).is_finite l.expected-iterator × (chunks_size l.expected-iterator ≡ 4096)

@@ -1,6 +1,6 @@
 -- `source_check::naming::name_new` meets its contract. Assumes nothing.
 use native.Mathlib.Omega.{arith}
-use Rattle.source.proofs.Laws.{every-none}
+use Rattle.marks.proofs.Indices.{every-none}
 use Rattle.source.proofs.Names.{new-more, new-fails, new-all}
 use Rattle.source_check.proofs.naming.name_new.Goals as goal
 

@@ -1,7 +1,7 @@
 use Prim.Native.Nat.{◌-◌, ◌≤◌}
 use mathlib.Core.Path.{◌≡◌}
 use mathlib.Core.Bool.{true, not}
-use Rattle.source.specs.Indices.{every}
+use Rattle.marks.specs.Indices.{every}
 use Rattle.source.specs.Names.{same_name}
 use Rattle.source_check.proofs.naming.name_new.Given as goal
 

@@ -1,7 +1,7 @@
 -- `source_check::naming::names_differ` meets its contract. Assumes nothing.
 use native.Mathlib.Omega.{arith}
 use mathlib.Core.Path.{◌∙◌, sym}
-use Rattle.source.proofs.Laws.{every-none, every_more}
+use Rattle.marks.proofs.Indices.{every-none, every_more}
 use Rattle.source.proofs.Names.{differ-fails, differ-all}
 use Rattle.source_check.proofs.naming.names_differ.Goals as goal
 

@@ -2,7 +2,7 @@
 use borrow.Author.Rules.{rules}
 use native.Mathlib.Omega.{arith}
 use mathlib.Core.Path.{◌∙◌, sym}
-use Rattle.source.proofs.Laws.{every-none, every_more}
+use Rattle.marks.proofs.Indices.{every-none, every_more}
 use Rattle.source.proofs.Parts.{offset-is, size_is}
 use Rattle.source.proofs.Names.{end_none, end_more, names-fail, names-end}
 use Rattle.source_check.proofs.naming.names_fit.Goals as goal

@@ -12,23 +12,23 @@ use Rattle.test_report.specs.Lines.{piece}
 use Rattle.test_report.proofs.Laws.{filled_more, filled-all}
 use Rattle.test_report.proofs.line.fill_line.Goals as goal
 
-pub loop-k-init : goal.loop-k-init
-loop-k-init c = (([], (omega arith, sym (take-nil {A = ℕ} (length c.args.line.now))), refl), (refl, (omega arith, omega arith)))
+pub loop-byte-init : goal.loop-byte-init
+loop-byte-init c = (([], (omega arith, sym (take-nil {A = ℕ} (length c.args.line.now))), refl), (refl, (omega arith, omega arith)))
 
-pub loop-k-preserved : goal.loop-k-preserved
-loop-k-preserved c =
+pub loop-byte-preserved : goal.loop-byte-preserved
+loop-byte-preserved c =
     let text = c.args.text.now in
-    let x = get_or text c.loop-k.k 0 in
-    let t = c.loop-k.invariant.0.0 in
-    let less = c.loop-k-test.true in
-    let same = c.loop-k.invariant.0.2 in
-    let more = filled_more text _ t _ c.loop-k.k c.loop-k.next _ _ less c.count_at.ensures c.taken-next.ensures.0 same in
-    ((t ++ piece x c.count_at.result, c.put_next-end.ensures t c.loop-k.invariant.0.1, more), search rules)
+    let x = get_or text c.loop-byte.byte-index 0 in
+    let t = c.loop-byte.invariant.0.0 in
+    let less = c.loop-byte-test.true in
+    let same = c.loop-byte.invariant.0.2 in
+    let more = filled_more text _ t _ c.loop-byte.byte-index c.loop-byte.next _ _ less c.count_at.ensures c.taken-next.ensures.0 same in
+    ((t ++ piece x c.count_at.result, c.put_next-end.ensures t c.loop-byte.invariant.0.1, more), search rules)
 
 pub returns : goal.returns
 returns c =
     let text = c.args.text.now in
     let given = c.args.counts.now in
-    let inv = c.loop-k.invariant.0 in
-    let held = filled-all _ _ text given _ c.loop-k.k c.loop-k.next c.loop-k-test.false inv.1 inv.2 in
+    let inv = c.loop-byte.invariant.0 in
+    let held = filled-all _ _ text given _ c.loop-byte.byte-index c.loop-byte.next c.loop-byte-test.false inv.1 inv.2 in
     record { holds = held; prefix_len = prefix_len _ _ (omega (arith, held.0)) }

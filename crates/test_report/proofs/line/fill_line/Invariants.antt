@@ -5,10 +5,7 @@ use lib.ListN.{length, drop}
 use Rattle.test_report.specs.Lines.{filled, Holds}
 use Rattle.test_report.proofs.line.fill_line.Given as goal
 
-abbrev pub invariant-loop-k : goal.invariant-loop-k
-invariant-loop-k l =
-    ((t : List ℕ) × Holds l.end l.line t × (t ++ filled (drop l.k l.text) (drop l.next l.counts) ≡ filled l.text l.counts))
-    × ((length l.line ≡ length l.initial.line) × ((l.k ≤ length l.text) × (l.next ≤ l.k)))
-
-abbrev pub decreases-loop-k : goal.decreases-loop-k
-decreases-loop-k l = length l.text - l.k
+abbrev pub invariant-loop-byte : goal.invariant-loop-byte
+invariant-loop-byte l =
+    ((t : List ℕ) × Holds l.end l.line t × (t ++ filled (drop l.byte-index l.text) (drop l.next l.counts) ≡ filled l.text l.counts))
+    × ((length l.line ≡ length l.initial.line) × ((l.byte-index ≤ length l.text) × (l.next ≤ l.byte-index)))

@@ -1,7 +1,8 @@
 use Rattle.std.proofs.Common.{◌≡◌, arith, sym, ap, ◌∙◌}
-use Rattle.source.specs.declared.Entry.{Entry}
+use Rattle.std.specs.Prelude.{Option, Some}
+use Rattle.source.specs.declared.Node.{Node}
 use Rattle.source.specs.declared.Form.{Form}
-use Rattle.numbering.proofs.Children.{has-expression, has-link}
+use Rattle.numbering.proofs.Children.{some-is, link-read, expression-read, has-expression, has-link}
 use Rattle.numbering.proofs.Ways.{scope-way, body-way, item-first, item-rest, item-last-way, item-more-way, arm-first, arm-rest, arm-last-way, arm-more-way}
 use Rattle.numbering.proofs.Ways.{operands, two-first, two-second, operands-way, negate-ready, negate-way, variable-ready, variable-way}
 use Rattle.numbering.proofs.Ways.{function-ready, function-way, let-first, let-second, let-way, match-first, match-second, match-way}
@@ -9,11 +10,11 @@ use Rattle.numbering.proofs.Ways.{sequence-ready, sequence-way, leaf-way}
 use Rattle.numbering.proofs.rows.Scopes.+number_expr_variables.Goals as goal
 
 -- the node that was read
-here : {e : Entry} {f g : Form} → Entry.Expression f ≡ e → f ≡ g → e ≡ Entry.Expression g
-here p q = sym p ∙ ap Entry.Expression q
+here : {e : Option Node} {f g : Form} → Some (Node.Expression f) ≡ e → f ≡ g → e ≡ Some (Node.Expression g)
+here p q = sym p ∙ ap (λ (f : Form). Some (Node.Expression f)) q
 
 pub number_arms-returns-in_default : goal.number_arms-returns-in_default
-number_arms-returns-in_default t c = absurd (has-link _ _ _ _ c.requires.chained (λ x y z e. c.in_default.not-Link x y z (c.node_at.ensures ∙ e)))
+number_arms-returns-in_default t c = absurd (has-link _ _ _ _ c.requires.chained (λ x y z e. c.in_default.not-Link x y z (some-is (c.node.ensures ∙ e))))
 
 pub number_arms-number_scope-requires : goal.number_arms-number_scope-requires
 number_arms-number_scope-requires t c =
@@ -34,7 +35,7 @@ number_arms-returns-else-rest-ne-NO_LINK t c =
 
 pub number_expr_variables-returns-in_default : goal.number_expr_variables-returns-in_default
 number_expr_variables-returns-in_default t c =
-    absurd (has-expression _ c.requires.sorted (λ f e. c.in_default.not-Expression f (c.node_at.ensures ∙ e)))
+    absurd (has-expression _ c.requires.sorted (λ f e. c.in_default.not-Expression f (some-is (c.node.ensures ∙ e))))
 
 pub number_expr_variables-number_expr_variables-requires : goal.number_expr_variables-number_expr_variables-requires
 number_expr_variables-number_expr_variables-requires t c =
@@ -115,7 +116,7 @@ pub number_function-returns : goal.number_function-returns
 number_function-returns t c = body-way _ _ _ _ _ c.requires c.number_parameters.ensures c.number_expr_variables.ensures c.unwind.ensures
 
 pub number_items-returns-in_default : goal.number_items-returns-in_default
-number_items-returns-in_default t c = absurd (has-link _ _ _ _ c.requires.chained (λ x y z e. c.in_default.not-Link x y z (c.node_at.ensures ∙ e)))
+number_items-returns-in_default t c = absurd (has-link _ _ _ _ c.requires.chained (λ x y z e. c.in_default.not-Link x y z (some-is (c.node.ensures ∙ e))))
 
 pub number_items-number_expr_variables-requires : goal.number_items-number_expr_variables-requires
 number_items-number_expr_variables-requires t c =
@@ -136,3 +137,12 @@ number_items-returns-else-rest-ne-NO_LINK t c =
 
 pub number_scope-returns : goal.number_scope-returns
 number_scope-returns t c = scope-way _ _ _ _ _ c.requires c.number_pattern_variables.ensures c.number_expr_variables.ensures c.unwind.ensures
+
+pub number_arms-node-requires-clause-read : goal.number_arms-node-requires-clause-read
+number_arms-node-requires-clause-read t c = link-read _ _ _ _ c.requires.chained
+
+pub number_items-node-requires-clause-read : goal.number_items-node-requires-clause-read
+number_items-node-requires-clause-read t c = link-read _ _ _ _ c.requires.chained
+
+pub number_expr_variables-node-requires-clause-read : goal.number_expr_variables-node-requires-clause-read
+number_expr_variables-node-requires-clause-read t c = expression-read _ c.requires.sorted

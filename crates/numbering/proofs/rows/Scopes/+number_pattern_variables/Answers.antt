@@ -1,16 +1,17 @@
 use Rattle.std.proofs.Common.{◌≡◌, arith, sym, ap, ◌∙◌}
-use Rattle.source.specs.declared.Entry.{Entry}
+use Rattle.std.specs.Prelude.{Option, Some}
+use Rattle.source.specs.declared.Node.{Node}
 use Rattle.source.specs.declared.Shape.{Shape}
-use Rattle.numbering.proofs.Children.{has-pattern}
+use Rattle.numbering.proofs.Children.{some-is, pattern-read, has-pattern}
 use Rattle.numbering.proofs.Binding.{paired, pair-first, pair-second, pair-way, as_first, as-bind, as-way, variable-bind, variable-way, leaf-way}
 use Rattle.numbering.proofs.rows.Scopes.+number_pattern_variables.Goals as goal
 
 -- the node that was read
-here : {e : Entry} {f g : Shape} → Entry.Pattern f ≡ e → f ≡ g → e ≡ Entry.Pattern g
-here p q = sym p ∙ ap Entry.Pattern q
+here : {e : Option Node} {f g : Shape} → Some (Node.Pattern f) ≡ e → f ≡ g → e ≡ Some (Node.Pattern g)
+here p q = sym p ∙ ap (λ (f : Shape). Some (Node.Pattern f)) q
 
 pub returns-in_default : goal.returns-in_default
-returns-in_default t c = absurd (has-pattern _ c.requires.sorted (λ f e. c.in_default.not-Pattern f (c.node_at.ensures ∙ e)))
+returns-in_default t c = absurd (has-pattern _ c.requires.sorted (λ f e. c.in_default.not-Pattern f (some-is (c.node.ensures ∙ e))))
 
 pub number_pattern_variables-requires : goal.number_pattern_variables-requires
 number_pattern_variables-requires t c =
@@ -46,3 +47,6 @@ pub returns-in-Product : goal.returns-in-Product
 returns-in-Product t c =
     pair-way _ _ _ _ c.requires (sym c.in-Pattern.ensures) c.in-Product.is
     c.number_pattern_variables-in-Product.ensures c.number_pattern_variables-in-Product-2.ensures
+
+pub node-requires-clause-read : goal.node-requires-clause-read
+node-requires-clause-read t c = pattern-read _ c.requires.sorted

@@ -1,5 +1,5 @@
 use Rattle.std.proofs.Common.{◌≡◌, ◌-◌}
-use Rattle.source.specs.Indices.{rows}
+use Rattle.marks.specs.Indices.{rows}
 use Rattle.source.specs.Names.{name_of}
 use Rattle.numbering.specs.Numbering.{named}
 use Rattle.numbering.proofs.rows.Scopes.register.Given as goal

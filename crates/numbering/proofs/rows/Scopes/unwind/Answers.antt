@@ -18,5 +18,6 @@ pub returns : goal.returns
 returns c =
     let first = c.args.self.now in
     let turn = c.loop-i in
+    let back = sym (unwound-none first.undo c.args.base turn.self.locals (omega arith)) ∙ turn.invariant.rows in
     ap (λ (s : Scopes). record s { top = c.args.base }) turn.invariant.rest
-    ∙ ap (λ (r : List ℕ). record first { locals = r; top = c.args.base }) (sym (unwound-none first.undo c.args.base turn.self.locals (omega arith)) ∙ turn.invariant.rows)
+    ∙ ap (λ (r : List ℕ). record first { locals = r; top = c.args.base }) back
