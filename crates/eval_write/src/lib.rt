@@ -82,7 +82,12 @@ fn write_definitions(
     for d in 0..count {
         k = write_tree(memory, out, at, memory.listed(Listed::DefinedNode, d), k);
         let to = list + DEFINITION_WORDS * (d as usize);
-        put_definition(out, to, memory.listed(Listed::DefinedId, d), k.saturating_sub(1));
+        put_definition(
+            out,
+            to,
+            memory.listed(Listed::DefinedId, d),
+            k.saturating_sub(1),
+        );
     }
     k
 }

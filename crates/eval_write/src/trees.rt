@@ -28,14 +28,7 @@ fn add_node(out: &mut FlatBytes, at: usize, k: u32, kind: u32, x: u32, y: u32, z
 
 // Of a node below n.
 #[cycle(write_tree)]
-fn write_below(
-    memory: &Memory,
-    out: &mut FlatBytes,
-    at: usize,
-    n: u32,
-    c: u32,
-    k: u32,
-) -> u32
+fn write_below(memory: &Memory, out: &mut FlatBytes, at: usize, n: u32, c: u32, k: u32) -> u32
     requires { (at ≤ LAST-NODES-AT) × (k ≤ NODES) }
     ensures { (written result out.new ≡ upto (λ w. w) (write_body memory.now.fixed memory.now.store.now at) n c (written k out.old))
         × (result ≤ NODES) }
@@ -48,13 +41,7 @@ fn write_below(
 
 // The nodes of a number's tree, children first, behind k nodes: how many there are then.
 #[cycle(write_tree)]
-pub fn write_tree(
-    memory: &Memory,
-    out: &mut FlatBytes,
-    at: usize,
-    n: u32,
-    k: u32,
-) -> u32
+pub fn write_tree(memory: &Memory, out: &mut FlatBytes, at: usize, n: u32, k: u32) -> u32
     requires { (at ≤ LAST-NODES-AT) × (k ≤ NODES) }
     ensures { (written result out.new ≡ write_tree memory.now.fixed memory.now.store.now at n (written k out.old)) × (result ≤ NODES) }
 {
@@ -71,5 +58,13 @@ pub fn write_tree(
     let c = memory.node_word(n, 3);
     let one = write_below(memory, out, at, n, a, k);
     let two = write_below(memory, out, at, n, b, one);
-    add_node(out, at, two, INFIX, one.saturating_sub(1), two.saturating_sub(1), c)
+    add_node(
+        out,
+        at,
+        two,
+        INFIX,
+        one.saturating_sub(1),
+        two.saturating_sub(1),
+        c,
+    )
 }
