@@ -78,6 +78,7 @@ pub fn equation_at(s: &[u8], at: usize, k: usize) -> EquationEntry
 }
 
 // The header: the next id, the counts of publics and prover ids, of the two lists behind them, and of nodes.
+#[tactic(auto, unfolding(crate::specs::Layout::header_words, words::specs::Words::set_words))]
 pub fn put_header(
     out: &mut [u8],
     next: u32,
@@ -99,6 +100,7 @@ pub fn put_header(
 }
 
 // A definition at word `at`: its id and its root.
+#[tactic(auto, unfolding(crate::specs::Layout::definition_words, words::specs::Words::set_words))]
 pub fn put_definition(out: &mut [u8], at: usize, id: u32, node: u32)
     requires { 4 * (at + DEFINITION-WORDS) ≤ length out.old }
     ensures { out.new ≡ set_words out.old at (definition_words id node) }
@@ -108,6 +110,7 @@ pub fn put_definition(out: &mut [u8], at: usize, id: u32, node: u32)
 }
 
 // An equation at word `at`: the roots of its sides.
+#[tactic(auto, unfolding(crate::specs::Layout::equation_words, words::specs::Words::set_words))]
 pub fn put_equation(out: &mut [u8], at: usize, left: u32, right: u32)
     requires { 4 * (at + EQUATION-WORDS) ≤ length out.old }
     ensures { out.new ≡ set_words out.old at (equation_words left right) }
@@ -117,6 +120,7 @@ pub fn put_equation(out: &mut [u8], at: usize, left: u32, right: u32)
 }
 
 // A node at word `at`.
+#[tactic(auto, unfolding(crate::specs::Layout::node_words, words::specs::Words::set_words))]
 pub fn put_node(out: &mut [u8], at: usize, kind: u32, a: u32, b: u32, c: u32)
     requires { 4 * (at + NODE-WORDS) ≤ length out.old }
     ensures { out.new ≡ set_words out.old at (node_words kind a b c) }
