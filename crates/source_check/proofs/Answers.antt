@@ -4,11 +4,10 @@ use mathlib.Core.Path.{◌≡◌, refl, sym, ◌∙◌}
 use mathlib.Core.List.{List}
 use mathlib.Core.Bool.{Bool, true, false, ◌&&◌, ◌||◌}
 use native.Mathlib.Omega.{arith}
-use lib.ListN.{length, get_or}
+use lib.ListN.{length}
 use lib.Dec.{leb, ltb, eqb}
 use borrow.Author.Tests.{leb-true, le-leb, lt-leb}
 use Rattle.source.specs.declared.Layout.{Layout}
-use Rattle.marks.specs.Indices.{every}
 use Rattle.source.specs.Layout.{layout_of, counted, listed, names, text_offset, NAME-WORDS, DEFINITION-WORDS}
 use Rattle.source.specs.Names.{names_fit, names_differ}
 use Rattle.source.specs.Nodes.{nodes_fit, publics_fit, definitions_fit, expressions_fit}

@@ -1,8 +1,6 @@
 -- `source_check::reading::Nodes::use_form` meets its contract. Assumes nothing.
-use mathlib.Core.Path.{◌≡◌, refl, ap, ◌∙◌}
-use Prim.Native.Nat.{ℕ}
+use mathlib.Core.Path.{◌≡◌, refl, ap}
 use Rattle.std.proofs.Common.{inl, inr}
-use Rattle.source.specs.declared.Form.{Form}
 use Rattle.source.specs.declared.Chain.{Chain}
 use Rattle.source.specs.Children.{Child}
 use Rattle.source.specs.Nodes.{form_children, child_fits, expression_fits, pattern_fits, three}

@@ -1,5 +1,5 @@
 -- `source_check::reading::Nodes::use_node` meets its contract. Assumes nothing.
-use mathlib.Core.Path.{◌≡◌, refl, sym, ◌∙◌}
+use mathlib.Core.Path.{◌≡◌, refl}
 use mathlib.Core.Bool.{false, and-false}
 use Rattle.std.specs.Prelude.{None}
 use Rattle.source.specs.Nodes.{is_expression, is_pattern}
