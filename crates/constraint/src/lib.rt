@@ -11,7 +11,7 @@ ghost use Rattle.constraint.specs.Record.{EQUALITY-WORDS, TERM-WORDS, term_words
 use field::InfixOp;
 use flat::entries::DEFINITION_WORDS;
 use records::flat_record;
-use words::{put_word, unsigned};
+use words::{put_word, put_words, unsigned};
 
 // Words of the record's header.
 pub const HEADER: usize = flat_record::HEADER;
@@ -65,17 +65,16 @@ impl From<Operation> for u32 {
 }
 
 // A term: of which sort it is, and its id or number.
-#[tactic(auto, unfolding(crate::specs::Record::term_words, crate::specs::Record::number_word, words::specs::Words::set_words))]
+#[tactic(auto, unfolding(crate::specs::Record::term_words, crate::specs::Record::number_word))]
 fn put_term(out: &mut [u8], at: usize, term: Term)
     requires { 4 * (at + TERM-WORDS) ≤ length out.old }
     ensures { out.new ≡ set_words out.old at (term_words term) }
 {
-    let (sort, word) = match term {
-        Term::Variable(id) => (0, id),
-        Term::Constant(number) => (1, unsigned(number)),
+    let words = match term {
+        Term::Variable(id) => [0, id],
+        Term::Constant(number) => [1, unsigned(number)],
     };
-    put_word(out, at, sort);
-    put_word(out, at + 1, word);
+    put_words(out, at, words);
 }
 
 // An equality at word `at`.
