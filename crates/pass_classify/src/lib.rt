@@ -25,6 +25,7 @@ type Usages = [Usage; ID_COUNT];
 type Provers = [bool; ID_COUNT];
 
 // A readable record, and after classify_defs how each id is used and whether it is the prover's.
+#[derive(Drop)]
 pub struct Classes<'a> {
     pub record: Record<'a>,
     pub usage: Usages,

@@ -19,6 +19,7 @@ use pass_classify::record::Record;
 use records::flat_record::ID_COUNT;
 
 // The term that stands for an id, and by how many steps an id is followed at most.
+#[derive(Drop)]
 pub struct Substitutions {
     pub terms: [Option<Term>; ID_COUNT],
     pub steps: usize,
