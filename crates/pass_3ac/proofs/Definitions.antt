@@ -54,7 +54,8 @@ module _ (b : List ℕ) (k : ℕ) (s : Substitutions) (id : ℕ) (e : Flat) (n :
   cut-unused h = rw (used-not h)
 
   -- the prover's
-  pub cut-prover : is_never (usage (module_of b) id) ≡ false → member id (provers_of b) ≡ true → defs_cut b k s (the ∷ []) n ≡ record { next = n; equalities = [] }
+  pub cut-prover : is_never (usage (module_of b) id) ≡ false → member id (provers_of b) ≡ true
+      → defs_cut b k s (the ∷ []) n ≡ record { next = n; equalities = [] }
   unfolding defs_cut copy_propagate_defs copy_propagate_def flatten_defs flatten_def_to_3ac joined
   cut-prover h p = rw (used-so h, p)
 
@@ -116,7 +117,8 @@ unfolding defs_after
 after-says b k d m long s e = ap subst_of e ∙ definitions-say b k m (d ∷ []) long (s, tt)
 
 -- one, and then the others
-pub leave-join : (b : List ℕ) (k : ℕ) (d : Definition) (ds : List Definition) (m m1 m2 : List (Maybe Term)) (c : List ℕ) {c1 c2 : List ℕ} (at n : ℕ) {r1 r2 : Place} →
+pub leave-join : (b : List ℕ) (k : ℕ) (d : Definition) (ds : List Definition) (m m1 m2 : List (Maybe Term)) (c : List ℕ) {c1 c2 : List ℕ}
+    (at n : ℕ) {r1 r2 : Place} →
     length m ≡ 65536 → Storable d → DefsPut b k (d ∷ []) m m1 c c1 at n r1 → DefsPut b k ds m1 m2 c1 c2 r1.at r1.next r2 →
     DefsPut b k (d ∷ ds) m m2 c c2 at n r2
 leave-join b k d ds m m1 m2 c at n {r1 = r1} long s l1 l2 =

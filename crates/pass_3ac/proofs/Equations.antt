@@ -108,7 +108,8 @@ module _ (k : ℕ) (s : Substitutions) (l r : Flat) (n : ℕ) where
       let h : b.next ≤ a.next + tree_nodes r = cut-ids k s r a.next None in
       rw (cut-both a b refl refl) (record { equalities = simp length-append (omega arith); ids = omega arith })
 
-  few-by : (q : Sides) (d : Bool) → sides_of (copied_of x) (copied_of y) ≡ q → dead x y ≡ d → Few (equations_cut k s (the ∷ []) n) (tree_nodes l + tree_nodes r) n
+  few-by : (q : Sides) (d : Bool) → sides_of (copied_of x) (copied_of y) ≡ q → dead x y ≡ d
+      → Few (equations_cut k s (the ∷ []) n) (tree_nodes l + tree_nodes r) n
   few-by q true e h = rw (cut-dead h) (few-less _ (few-none n) (omega arith))
   few-by (Left t) false e h = rw (cut_by (Left t) e h ∙ cut_left t) (few-less _ (few-given t r) (omega arith))
   few-by (Right t) false e h = rw (cut_by (Right t) e h ∙ cut_right t) (few-less _ (few-given t l) (omega arith))

@@ -119,7 +119,8 @@ module _ (target : Maybe Term) (k : ℕ) (s : Substitutions) (e : Flat) (b : Lis
   pub way-infix : {o : InfixOp} {x y : Flat} {c d f : List ℕ} {r1 r2 r : Cut} {l : Term} {q : Written}
       → e ≡ Flat.infixed o x y → Leaves b c at (tree_cut None k s x n) r1 → Leaves c d r1.place.at (tree_cut None k s y r1.place.next) r2
       → l ≡ or_variable (option_of target) r2.place.next → q ≡ equality_of l (infix_op o r1.term r2.term)
-      → (f ≡ set_words d r2.place.at (written_words q)) × (r ≡ record { term = q.left; place = record { next = r2.place.next + 1; at = r2.place.at + EQUALITY-WORDS } })
+      → (f ≡ set_words d r2.place.at (written_words q))
+      × (r ≡ record { term = q.left; place = record { next = r2.place.next + 1; at = r2.place.at + EQUALITY-WORDS } })
       → Leaves b f at (tree_cut target k s e n) r
   way-infix {o} {x} {y} {c} {d} {f} {r1} {r2} {r} p l1 l2 lt qt w =
       let X : Cutting = tree_cut None k s x n in
@@ -137,7 +138,8 @@ module _ (target : Maybe Term) (k : ℕ) (s : Substitutions) (e : Flat) (b : Lis
 
   pub way-negate : {x : Flat} {c f : List ℕ} {r1 r : Cut} {l : Term} {q : Written} → e ≡ Flat.negate x
       → Leaves b c at (tree_cut None k s x n) r1 → l ≡ or_variable (option_of target) r1.place.next → q ≡ equality_of l (Side.negate r1.term)
-      → (f ≡ set_words c r1.place.at (written_words q)) × (r ≡ record { term = q.left; place = record { next = r1.place.next + 1; at = r1.place.at + EQUALITY-WORDS } })
+      → (f ≡ set_words c r1.place.at (written_words q))
+      × (r ≡ record { term = q.left; place = record { next = r1.place.next + 1; at = r1.place.at + EQUALITY-WORDS } })
       → Leaves b f at (tree_cut target k s e n) r
   way-negate {x} {c} {f} {r1} {r} p l1 lt qt w =
       let X : Cutting = tree_cut None k s x n in

@@ -5,15 +5,17 @@ use mathlib.Core.List.{List, [], ◌∷◌}
 use mathlib.Core.Bool.{Bool, true, false, not, ◌&&◌, ◌||◌}
 use mathlib.Core.Logic.{⊎_elim}
 use native.Mathlib.Omega.{arith}
+use lib.ListN.{length, get_or, get_or-eq_default}
 use lib.Dec.{eqb, ltb}
 use borrow.Author.Tests.{eq-eqb, ne_eqb, lt-ltb, le-ltb}
 use Rattle.flat.specs.Trees.{Flat, Definition, Equation}
 use Rattle.flat.specs.Meaning.{update}
 use Rattle.flat.specs.Rules.{All, Every}
 use Rattle.flat.specs.Layout.{next}
-use Rattle.flat.specs.Record.{module_of}
+use Rattle.flat.specs.Record.{rows, module_of}
 use Rattle.flat.specs.Readable.{Readable}
 use Rattle.std.proofs.lemmas.Bool.{cases_lt, cases_eq}
+use Rattle.flat.proofs.Rows.{length-rows, rows_at}
 use Rattle.flat.proofs.Wellformed.{readable-provers, readable-definitions, readable-equations}
 use Rattle.pass_trees.specs.declared.Usage.{Usage}
 use Rattle.pass_trees.specs.declared.Usage.TheVariants.{Never, Constraint}
@@ -144,6 +146,44 @@ pub usage-past : {b : List ℕ} → Readable b → (v : ℕ) → next b ≤ v �
 unfolding usage
 usage-past {b} r v l = definitions-past _ (module_of b).definitions _ v (next b) (readable-definitions r) l
     ∙ equations-past (module_of b).equations _ v (next b) (readable-equations r) l
+
+prover-past : (b : List ℕ) (v : ℕ) → next b ≤ v → member v (classify_defs (module_of b)).provers ≡ false
+unfolding classify_defs module_of
+prover-past b v l = ids-without _ v 0 (next b) (λ j h m q. omega arith)
+
+-- ---- what is read from the arrays after classify_defs
+
+-- a table of so many values, at an index
+table_at : {A : Type 0} (d : A) (n : ℕ) (f : ℕ → A) (v : ℕ) → v < n → get_or (rows n 0 f) v d ≡ f v
+table_at d n f v l = rows_at f n 0 v d l ∙ (let z : 0 + v ≡ v = omega arith in ap f z)
+
+table-past : {A : Type 0} (d : A) (n : ℕ) (f : ℕ → A) (v : ℕ) → n ≤ v → get_or (rows n 0 f) v d ≡ d
+table-past d n f v l = get_or-eq_default (rows n 0 f) d {n = v} (omega (arith, length-rows f n 0))
+
+module _ {b : List ℕ} (r : Readable b) where
+  usages-say : usage_of (usages_of b) ≡ usage (module_of b)
+  unfolding usages_of
+  usages-say = fun_ext (λ v. ⊎_elim
+      (λ (l : v < 65536). table_at Never 65536 (usage (module_of b)) v l)
+      (λ (l : 65536 ≤ v). table-past Never 65536 (usage (module_of b)) v l ∙ sym (usage-past r v (omega (arith, r.next_small))))
+      (cases_lt v 65536))
+
+  marks-say : marked (marks_of b) ≡ (λ v. member v (classify_defs (module_of b)).provers)
+  unfolding marks_of provers_of
+  marks-say = fun_ext (λ v. ⊎_elim
+      (λ (l : v < 65536). table_at false 65536 (λ w. member w (provers_of b)) v l)
+      (λ (l : 65536 ≤ v). table-past false 65536 (λ w. member w (provers_of b)) v l ∙ sym (prover-past b v (omega (arith, r.next_small))))
+      (cases_lt v 65536))
+
+  -- what the passes know of the arrays
+  pub classified-of : {m : List Usage} {p : List Bool} → m ≡ usages_of b → p ≡ marks_of b → Classified b m p
+  unfolding usages_of marks_of
+  classified-of e q = record {
+    used = ap usage_of e ∙ usages-say;
+    proved = ap marked q ∙ marks-say;
+    usages-long = ap length e ∙ length-rows _ 65536 0;
+    provers-long = ap length q ∙ length-rows _ 65536 0;
+  }
 
 -- ---- the arrays themselves
 

@@ -33,7 +33,8 @@ definitions-length steps m (d ∷ ds) = definitions-length steps (put_definition
 
 -- ---- a list by its first
 
-pub put-append : (steps : ℕ) (xs ys : List Definition) (m : List (Option Term)) → put_definitions steps m (xs ++ ys) ≡ put_definitions steps (put_definitions steps m xs) ys
+pub put-append : (steps : ℕ) (xs ys : List Definition) (m : List (Option Term)) →
+    put_definitions steps m (xs ++ ys) ≡ put_definitions steps (put_definitions steps m xs) ys
 unfolding put_definitions
 put-append steps [] ys m = refl
 put-append steps (d ∷ xs) ys m = put-append steps xs ys (put_definition steps m d)

@@ -178,8 +178,8 @@ KeptLeave b k at m m' body body' list list' o =
 
 -- ---- the rooms that the calls ask for
 
-module _ {b : List ℕ} {us : List Usage} {ps : List Bool} (r : Readable b) (c : Classified b us ps) (few : module_nodes (module_of b) ≤ 16384) {body body2 : List ℕ}
-    (long : length body ≡ BODY-BYTES) {start : ℕ} (l : Lists b ps body body2 start) (k : ℕ) where
+module _ {b : List ℕ} {us : List Usage} {ps : List Bool} (r : Readable b) (c : Classified b us ps) (few : module_nodes (module_of b) ≤ 16384)
+    {body body2 : List ℕ} (long : length body ≡ BODY-BYTES) {start : ℕ} (l : Lists b ps body body2 start) (k : ℕ) where
   first-long : length body2 ≡ BODY-BYTES
   first-long = ap length l.written ∙ length-set_words ((module_of b).publics ++ ids_from (marked ps) 0 (next b)) body 0 ∙ long
 
@@ -271,7 +271,8 @@ module _ {b : List ℕ} {us : List Usage} {ps : List Bool} (r : Readable b) (c :
       room-of-nodes g = record { long = omega (arith, nodes-few); few = omega (arith, nodes-few) }
 
       -- after the kept definitions, worked out again from no substitutions
-      module _ (body5 list list1 : List ℕ) (m2 m3 : List (Option Term)) (y : m2 ≡ no_substitutions) (o : Kept) (w : KeptLeave b k q.at m2 m3 body4 body5 list list1 o) where
+      module _ (body5 list list1 : List ℕ) (m2 m3 : List (Option Term)) (y : m2 ≡ no_substitutions) (o : Kept)
+          (w : KeptLeave b k q.at m2 m3 body4 body5 list list1 o) where
         kept-are : kept_of b k (subst_of m2) (module_of b).definitions ≡ kept_definitions b k
         kept-are = ap (λ (x : Substitutions). kept_of b k x (module_of b).definitions) (ap subst_of y ∙ none_is)
 
@@ -343,5 +344,6 @@ module _ {b : List ℕ} {us : List Usage} {ps : List Bool} (r : Readable b) (c :
             let e : q.at ≡ length (module_of b).publics + length (provers_of b) + EQUALITY-WORDS * length
             ((cut_definitions b k).equalities ++ (cut_equations b k).equalities) = omega (arith, third-place, second-place, start_is, both_long) in
             let f : o.at ≡ length (module_of b).publics + length (provers_of b) + EQUALITY-WORDS * length
-            ((cut_definitions b k).equalities ++ (cut_equations b k).equalities) + KEPT-WORDS * length (kept_definitions b k) = omega (arith, fourth-place, e) in
+            ((cut_definitions b k).equalities ++ (cut_equations b k).equalities) + KEPT-WORDS * length (kept_definitions b k) =
+            omega (arith, fourth-place, e) in
             (built-same third-next start_is e f list-place, (body-written, list_written))

@@ -29,7 +29,9 @@ rows_none n k f l = let z : n - k ≡ 0 = omega arith in ap (λ (m : ℕ). rows 
 pub row-turn : {r : List ℕ} (b : List ℕ) (n k : ℕ) (f : ℕ → ℕ) (w : ℕ) → k < n → w ≡ f k → set_words b k (rows (n - k) k f) ≡ r
     → set_words (set_word b k w) (k + 1) (rows (n - (k + 1)) (k + 1) f) ≡ r
 unfolding set_words
-row-turn b n k f w l e h = ap (λ (x : ℕ). set_words (set_word b k x) (k + 1) (rows (n - (k + 1)) (k + 1) f)) e ∙ sym (ap (set_words b k) (rows_next n k f l)) ∙ h
+row-turn b n k f w l e h =
+    ap (λ (x : ℕ). set_words (set_word b k x) (k + 1) (rows (n - (k + 1)) (k + 1) f)) e
+    ∙ sym (ap (set_words b k) (rows_next n k f l)) ∙ h
 
 pub row-end : {r : List ℕ} (b : List ℕ) (n k : ℕ) (f : ℕ → ℕ) → n ≤ k → set_words b k (rows (n - k) k f) ≡ r → b ≡ r
 unfolding set_words

@@ -50,7 +50,8 @@ tree-length l base e = length-set_words (nodes_from base e) l (4 * base)
 -- ---- one node after the other
 
 module _ (l : List ℕ) (base : ℕ) where
-  pub leaf-variable : {l' : List ℕ} {t : Term} (v : ℕ) → t ≡ Term.Variable v → l' ≡ set_words l (4 * base) (node_words 8 v 0 0) → l' ≡ put_tree l base (to_expr t)
+  pub leaf-variable : {l' : List ℕ} {t : Term} (v : ℕ) → t ≡ Term.Variable v → l' ≡ set_words l (4 * base) (node_words 8 v 0 0)
+      → l' ≡ put_tree l base (to_expr t)
   unfolding put_tree nodes_from to_expr
   leaf-variable v e p = p ∙ sym (ap (λ (u : Term). put_tree l base (to_expr u)) e)
 
@@ -58,7 +59,8 @@ module _ (l : List ℕ) (base : ℕ) where
       → l' ≡ set_words l (4 * base) (node_words 7 n 0 0) → l' ≡ put_tree l base (to_expr t)
   unfolding put_tree nodes_from to_expr number_word
   leaf-constant c n e f q p =
-      p ∙ ap (λ (w : ℕ). set_words l (4 * base) (node_words 7 w 0 0)) (q ∙ ap (of_z w32) (to_z-of_z w32 c f)) ∙ sym (ap (λ (u : Term). put_tree l base (to_expr u)) e)
+      p ∙ ap (λ (w : ℕ). set_words l (4 * base) (node_words 7 w 0 0)) (q ∙ ap (of_z w32) (to_z-of_z w32 c f))
+      ∙ sym (ap (λ (u : Term). put_tree l base (to_expr u)) e)
 
   -- after the nodes of a first child
   after_first : (ws : List ℕ) {l₁ : List ℕ} {a : ℕ} (x : Flat) → l₁ ≡ put_tree l base x → a ≡ next_from base x

@@ -46,7 +46,8 @@ module _ (b : List ℕ) (steps : ℕ) where
       ∙ ap (those (λ v. member v (provers_of b))) (copies-append (provers_of b) steps (used_of b (d ∷ [])) (used_of b ds) s)
       ∙ those-append (λ v. member v (provers_of b)) (copy_propagate_defs (provers_of b) steps s (used_of b (d ∷ []))) _
 
-  after-says : (m : List (Option Term)) (d : Definition) {m1 : List (Option Term)} → length m ≡ 65536 → Storable d → m1 ≡ put_definitions steps m (counted_of b (d ∷ [])) →
+  after-says : (m : List (Option Term)) (d : Definition) {m1 : List (Option Term)} → length m ≡ 65536 → Storable d →
+      m1 ≡ put_definitions steps m (counted_of b (d ∷ [])) →
       subst_of m1 ≡ after (subst_of m) (d ∷ [])
   after-says m d long h q = ap subst_of q ∙ definitions-say b steps m (d ∷ []) long (h, tt)
 
@@ -157,7 +158,8 @@ module _ (b : List ℕ) (steps n at : ℕ) (m₀ : List (Option Term)) (body₀ 
         record { long = omega (arith, size, g.node-room.long); few = omega (arith, size, g.node-room.few) },
       )
 
-      pub going-turn : {m' : List (Option Term)} {body' list' : List ℕ} {a : Kept} → length m ≡ 65536 → Keeps b steps (first ∷ []) to base m body list m' body' list' a
+      pub going-turn : {m' : List (Option Term)} {body' list' : List ℕ} {a : Kept} → length m ≡ 65536
+          → Keeps b steps (first ∷ []) to base m body list m' body' list' a
           → Going a.at a.nodes (k + 1) m' body' list'
       unfolding kept_from
       going-turn {m'} {body'} {list'} {a} long w =

@@ -19,7 +19,8 @@ loop-k-preserved c =
     let i = c.loop-k.invariant in
     let d = c.definition-d.ensures in
     let w = c.args.classes.now.classified in
-    record { end = i.end; rest = holds _ c.if-not-cuttable_def.false (counted-turn _ w (omega (arith, i.end, c.loop-k-test.true)) d.value d.within c.cuttable_def.ensures i.rest) }
+    let turn = counted-turn _ w (omega (arith, i.end, c.loop-k-test.true)) d.value d.within c.cuttable_def.ensures i.rest in
+    record { end = i.end; rest = holds _ c.if-not-cuttable_def.false turn }
 
 pub returns : goal.returns
 returns c = let i = c.loop-k.invariant in counted-end _ (omega (arith, i.end, c.loop-k-test.false)) i.rest

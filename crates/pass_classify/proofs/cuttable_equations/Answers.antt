@@ -17,7 +17,8 @@ pub loop-k-preserved : goal.loop-k-preserved
 loop-k-preserved c =
     let i = c.loop-k.invariant in
     let e = c.equation-e.ensures in
-    record { end = i.end; rest = holds _ c.if-not-cuttable_equation.false (cuttable-turn _ (omega (arith, i.end, c.loop-k-test.true)) e.value e.within c.cuttable_equation.ensures i.rest) }
+    let turn = cuttable-turn _ (omega (arith, i.end, c.loop-k-test.true)) e.value e.within c.cuttable_equation.ensures i.rest in
+    record { end = i.end; rest = holds _ c.if-not-cuttable_equation.false turn }
 
 pub returns : goal.returns
 returns c = let i = c.loop-k.invariant in cuttable-end _ (omega (arith, i.end, c.loop-k-test.false)) i.rest

@@ -17,4 +17,7 @@ returns c =
     let r = c.args.self.now.readable in
     let k = c.args.k in
     let value = c.definition_at.ensures ∙ ap (λ (at : ℕ). definition_entry b at k) (definitions-at-laid b c.args.self.now.laid) in
-    record { value = value; within = let w = definition-below r k c.requires in let i = id-is value in let n = node-is value in (omega (arith, i, w.0), omega (arith, n, w.1)) }
+    let w = definition-below r k c.requires in
+    let i = id-is value in
+    let n = node-is value in
+    record { value = value; within = (omega (arith, i, w.0), omega (arith, n, w.1)) }

@@ -17,4 +17,7 @@ returns c =
     let r = c.args.self.now.readable in
     let k = c.args.k in
     let value = c.equation_at.ensures ∙ ap (λ (at : ℕ). equation_entry b at k) (equations-at-laid b c.args.self.now.laid) in
-    record { value = value; within = let w = equation-below r k c.requires in let i = left_is value in let n = right_is value in (omega (arith, i, w.0), omega (arith, n, w.1)) }
+    let w = equation-below r k c.requires in
+    let i = left_is value in
+    let n = right_is value in
+    record { value = value; within = (omega (arith, i, w.0), omega (arith, n, w.1)) }
