@@ -53,7 +53,8 @@ module _ (b : List ℕ) {l : Layout} (e : l ≡ layout_of b) where
   shaped-is = rw e refl
 
   -- the exit of a `?`
-  pub trees-stop : (t : Bool) {r v : Checked} {n : Refusal} → v ≡ verdict Refusal.Entry t → v ≡ Err n → IsErrAnd r (λ x. x ≡ n) → (t ≡ false → shaped b ≡ false)
+  pub trees-stop : (t : Bool) {r v : Checked} {n : Refusal} → v ≡ verdict Refusal.Entry t → v ≡ Err n → IsErrAnd r (λ x. x ≡ n) → (t ≡ false
+      → shaped b ≡ false)
       → r ≡ outcome (shaped b) (used_once b)
   unfolding outcome
   trees-stop t p q h w = passes-on Refusal.Entry t p q h ∙ rw (w (refused Refusal.Entry t p q).0)

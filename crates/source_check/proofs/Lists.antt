@@ -32,7 +32,8 @@ module _ (b : List ℕ) (at names k : ℕ) where
   unfolding children_fit children_use child_fits child_uses
   uses-none {m = m} e = rw e (judged-yes _ refl (adds_none m _ (λ j. refl)))
 
-  pub uses-one : {c : Children} (x : Child) {r : Checked} {m m' : List Uses} → c ≡ three x Child.Nothing Child.Nothing → Uses-child r x m m' → Uses-children r c m m'
+  pub uses-one : {c : Children} (x : Child) {r : Checked} {m m' : List Uses} → c ≡ three x Child.Nothing Child.Nothing → Uses-child r x m m'
+      → Uses-children r c m m'
   unfolding children_fit children_use child_fits child_uses
   uses-one x e i = rw e (judged-as _ (sym (and-true _)) (λ j. omega arith) i)
 
