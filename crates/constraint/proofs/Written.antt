@@ -1,37 +1,17 @@
 -- What the writers leave: words put one after the other are the list of them.
 use mathlib.Core.Path.{◌≡◌, sym, ap, ap₂, ◌∙◌}
-use mathlib.Core.List.{List, [], ◌∷◌, ◌++◌}
+use mathlib.Core.List.{List, ◌∷◌, ◌++◌}
 use Prim.Native.Nat.{ℕ, ◌+◌, ◌*◌, ◌≤◌}
 use native.Mathlib.Omega.{arith}
-use lib.IntN.{ℤ}
 use lib.ListN.{length, drop}
-use mir.Val.{of_z, to_z, SFits}
-use mir.Syntax.{w32}
-use mir.Facts.{to_z-of_z}
 use Rattle.words.specs.Words.{set_word, set_words, bytes_of}
 use Rattle.words.proofs.Laws.{set_words-append, set_words-bytes, length-bytes_of}
-use Rattle.constraint.specs.declared.Term.{Term}
 use Rattle.constraint.specs.declared.Equality.{Equality as Written}
 use Rattle.constraint.specs.Trees.{ConstraintModule}
-use Rattle.constraint.specs.Record.{number_word, term_words, operation_word, written_words, constraint_words, constraint_bytes}
+use Rattle.constraint.specs.Record.{term_words, operation_word, written_words, constraint_words, constraint_bytes}
 use Rattle.constraint.proofs.Lengths.{length-term}
 
 module _ (b : List ℕ) (at : ℕ) where
-  two : {c d : List ℕ} (x y : ℕ) → c ≡ set_word b at x → d ≡ set_word c (at + 1) y → d ≡ set_words b at (x ∷ y ∷ [])
-  unfolding set_words
-  two x y p q = rw (q, p)
-
-  pub variable-written : {c d : List ℕ} (v : ℕ) (t : Term) → t ≡ Term.Variable v → c ≡ set_word b at 0 → d ≡ set_word c (at + 1) v
-      → d ≡ set_words b at (term_words t)
-  unfolding term_words
-  variable-written v t e p q = two 0 v p q ∙ sym (ap (λ (u : Term). set_words b at (term_words u)) e)
-
-  pub constant-written : {c d : List ℕ} (z : ℤ) (n : ℕ) (t : Term) → t ≡ Term.Constant z → SFits w32 z → n ≡ of_z w32 (to_z w32 (of_z w32 z)) → c ≡ set_word b at 1
-      → d ≡ set_word c (at + 1) n → d ≡ set_words b at (term_words t)
-  unfolding term_words number_word
-  constant-written z n t e f u p q =
-      two 1 n p q ∙ ap (λ (k : ℕ). set_words b at (1 ∷ k ∷ [])) (u ∙ ap (of_z w32) (to_z-of_z f)) ∙ sym (ap (λ (u : Term). set_words b at (term_words u)) e)
-
   -- a term, a word, and two terms
   pub equality-written : {c d e f : List ℕ} (q : Written) (n : ℕ) → n ≡ operation_word q.operation → c ≡ set_words b at (term_words q.left)
       → d ≡ set_word c (at + 2) n → e ≡ set_words d (at + 3) (term_words q.first) → f ≡ set_words e (at + 5) (term_words q.second)

@@ -11,6 +11,7 @@ pub use Rattle.flat.specs.Writer.{SignedTree}
 pub use Rattle.records.specs.FlatRecord.{HEADER}
 use Rattle.records.specs.Kinds.{NODE-WORDS}
 use Rattle.constraint.specs.declared.Term.{Term}
+use Rattle.constraint.specs.declared.Operation.{Operation}
 use Rattle.constraint.specs.declared.Equality.{Equality as Written}
 use Rattle.constraint.specs.declared.reading.Layout.{Layout}
 use Rattle.constraint.specs.Trees.{Side, Equality, ConstraintModule, written}
@@ -61,6 +62,10 @@ layout_of b = record {
 -- the term at word i: "0 and an id, or 1 and a number"; what is not 0 reads as 1
 unfoldable pub term_at : List ℕ → ℕ → Term
 term_at b i = pick (eqb (word_at b i) 0) (Term.Variable (word_at b (i + 1))) (Term.Constant (to_z w32 (word_at b (i + 1))))
+
+-- the operation with a number; a number above 10 reads as 8
+unfoldable pub operation_of : ℕ → Operation
+operation_of n = pick (eqb n NEGATE) Operation.Negate (pick (eqb n COPY) Operation.Copy (Operation.Infix (operator_of n)))
 
 -- the right side of an operation's number and two terms; negate and copy have no second, and a number above 10 reads as 8
 unfoldable pub side_for : ℕ → Term → Term → Side

@@ -11,7 +11,7 @@ ghost use Rattle.constraint.specs.Record.{EQUALITY-WORDS, TERM-WORDS, term_words
 use field::InfixOp;
 use flat::entries::DEFINITION_WORDS;
 use records::flat_record;
-use words::{put_word, unsigned};
+use words::{put_word, put_words, unsigned};
 
 // Words of the record's header.
 pub const HEADER: usize = flat_record::HEADER;
@@ -34,7 +34,7 @@ pub enum Term {
 }
 
 // The operation of a right side: one of the nine on two terms, or negate or copy on one.
-#[derive(Clone, Copy)]
+#[derive(Clone, Copy, PartialEq, Eq, Debug)]
 pub enum Operation {
     Infix(InfixOp),
     Negate,
@@ -42,7 +42,7 @@ pub enum Operation {
 }
 
 // left = first OP second. Negate and copy have no second term: there it is Variable(0).
-#[derive(Clone, Copy)]
+#[derive(Clone, Copy, PartialEq, Eq, Debug)]
 pub struct Equality {
     pub left: Term,
     pub operation: Operation,
@@ -51,31 +51,30 @@ pub struct Equality {
 }
 
 // The operation's number, 0 to 10.
-fn operation_number(operation: Operation) -> u32
-    ensures { result ≡ operation_word operation }
-{
-    match operation {
-        Operation::Infix(op) => u32::from(op),
-        Operation::Negate => NEGATE,
-        Operation::Copy => COPY,
+#[tactic(auto, unfolding(crate::specs::Record::operation_word))]
+impl From<Operation> for u32 {
+    ghost from_gives = { λ operation n. n ≡ operation_word operation };
+
+    fn from(operation: Operation) -> u32 {
+        match operation {
+            Operation::Infix(op) => u32::from(op),
+            Operation::Negate => NEGATE,
+            Operation::Copy => COPY,
+        }
     }
 }
 
 // A term: of which sort it is, and its id or number.
+#[tactic(auto, unfolding(crate::specs::Record::term_words, crate::specs::Record::number_word))]
 fn put_term(out: &mut [u8], at: usize, term: Term)
     requires { 4 * (at + TERM-WORDS) ≤ length out.old }
     ensures { out.new ≡ set_words out.old at (term_words term) }
 {
-    match term {
-        Term::Variable(id) => {
-            put_word(out, at, 0);
-            put_word(out, at + 1, id);
-        }
-        Term::Constant(number) => {
-            put_word(out, at, 1);
-            put_word(out, at + 1, unsigned(number));
-        }
-    }
+    let words = match term {
+        Term::Variable(id) => [0, id],
+        Term::Constant(number) => [1, unsigned(number)],
+    };
+    put_words(out, at, words);
 }
 
 // An equality at word `at`.
@@ -83,12 +82,8 @@ pub fn put_equality(out: &mut [u8], at: usize, equality: Equality)
     requires { 4 * (at + EQUALITY-WORDS) ≤ length out.old }
     ensures { out.new ≡ set_words out.old at (written_words equality) }
 {
-    let left = equality.left;
-    let operation = equality.operation;
-    let first = equality.first;
-    let second = equality.second;
-    put_term(out, at, left);
-    put_word(out, at + 2, operation_number(operation));
-    put_term(out, at + 3, first);
-    put_term(out, at + 5, second);
+    put_term(out, at, equality.left);
+    put_word(out, at + 2, u32::from(equality.operation));
+    put_term(out, at + 3, equality.first);
+    put_term(out, at + 5, equality.second);
 }

@@ -1,8 +1,10 @@
 -- The texts of a number, a term and a right side, by the cases of the code. Assumes nothing.
 use Prim.Native.Nat.{ℕ, ◌+◌}
-use mathlib.Core.Path.{◌≡◌}
+use mathlib.Core.Path.{◌≡◌, sym, ◌∙◌}
+use native.Mathlib.Omega.{arith}
 use mathlib.Core.List.{◌∷◌, ◌++◌}
 use lib.IntN.{ℤ, pos, negsuc}
+use Rattle.std.specs.Prelude.{unsigned_abs}
 use Rattle.field.specs.Prime.{P}
 use Rattle.field.specs.Element.{elem}
 use Rattle.field.specs.declared.InfixOp.{InfixOp}
@@ -10,13 +12,13 @@ use Rattle.constraint.specs.declared.Term.{Term}
 use Rattle.constraint.specs.declared.Operation.{Operation}
 use Rattle.constraint_text.specs.Text.{decimal, number_text, term_text, sign_of, between, side_text}
 
-pub number-negative : (z : ℤ) (m n : ℕ) → z ≡ negsuc m → n ≡ m → 45 ∷ decimal (n + 1) ≡ number_text z
+pub number-negative : (z : ℤ) (m n : ℕ) → z ≡ negsuc m → n ≡ unsigned_abs z → 45 ∷ decimal n ≡ number_text z
 unfolding number_text
-number-negative z m n e i = rw (e, i)
+number-negative z m n e i = let s : n ≡ m + 1 = omega (arith, rw e at i) in rw (e, s)
 
-pub number-positive : (z : ℤ) (m n : ℕ) → z ≡ pos m → n ≡ m → decimal n ≡ number_text z
+pub number-positive : (z : ℤ) (m n : ℕ) → z ≡ pos m → n ≡ unsigned_abs z → decimal n ≡ number_text z
 unfolding number_text
-number-positive z m n e i = rw (e, i)
+number-positive z m n e i = let s : n ≡ m = rw e at i in rw (e, s)
 
 pub term-variable : (t : Term) (v : ℕ) → t ≡ Term.Variable v → 118 ∷ decimal v ≡ term_text t
 unfolding term_text

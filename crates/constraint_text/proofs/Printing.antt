@@ -1,5 +1,6 @@
 -- What a writer gets of a line, and of one line after the other.
-use Rattle.std.proofs.Common.{◌≡◌, ℕ, zero, suc, ◌+◌, ◌-◌, ◌≤◌, arith, List, [], ◌++◌, Result, length, take, drop, take-append-drop, append_assoc, append-nil, Option, refl, sym, ap, ◌∙◌, subst}
+use Rattle.std.proofs.Common.{◌≡◌, ℕ, zero, suc, ◌+◌, ◌-◌, ◌≤◌, arith, Option, Result, refl, sym, ap, ◌∙◌, subst}
+use Rattle.std.proofs.Common.{List, [], ◌++◌, length, take, drop, take-append-drop, append_assoc, append-nil}
 use Rattle.streams.specs.declared.Failed.{Failed}
 use Rattle.streams.specs.Streams.{IsPrefixLen, Added}
 use Rattle.constraint_text.specs.Reading.{lines, line_at, lines_text}
@@ -22,7 +23,8 @@ more-lines b zero m k = let z : zero + m ≡ m = omega arith in let e : k + zero
 more-lines b (suc n) m k =
     let z : suc n + m ≡ suc (n + m) = omega arith in
     let e : suc k + n ≡ k + suc n = omega arith in
-    rw z (ap (λ t. line_at b k ++ t) (rw e at (more-lines b n m (suc k))) ∙ sym (append_assoc (line_at b k) (lines_text b (suc k) n) (lines_text b (k + suc n) m)))
+    let parts = append_assoc (line_at b k) (lines_text b (suc k) n) (lines_text b (k + suc n) m) in
+    rw z (ap (λ t. line_at b k ++ t) (rw e at (more-lines b n m (suc k))) ∙ sym parts)
 
 pub line-added : (b : List ℕ) (k : ℕ) → lines_text b 0 k ++ line_at b k ≡ lines_text b 0 (k + 1)
 unfolding lines_text
@@ -45,7 +47,9 @@ front-cut xs ys zs j =
 
 pub lines-cut : (b : List ℕ) (k j : ℕ) → k ≤ lines b → (m : ℕ) × (lines_text b 0 k ++ take j (line_at b k) ≡ take m (lines_text b 0 (lines b)))
 unfolding lines_text
-lines-cut b k j h = (length front, front-cut (lines_text b 0 k) (line_at b k) (rest (lines b - k)) j ∙ ap (take (length front)) (whole (lines b - k) (omega arith)))
+lines-cut b k j h =
+    let cut = front-cut (lines_text b 0 k) (line_at b k) (rest (lines b - k)) j in
+    (length front, cut ∙ ap (take (length front)) (whole (lines b - k) (omega arith)))
   where
     front : List ℕ
     front = lines_text b 0 k ++ take j (line_at b k)

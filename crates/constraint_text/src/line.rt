@@ -1,6 +1,5 @@
 // The parts of a line, each put into the bytes from a place on; the answer is the place behind it.
 ghost use Rattle.std.specs.Prelude.{◌≡◌, ◌∷◌, [], ◌+◌, ◌≤◌, length};
-ghost use Rattle.std.specs.Int.Signed.{mag};
 ghost use Rattle.streams.specs.Streams.{IsPrefixLen};
 ghost use Rattle.constraint_text.specs.Text.{set_bytes, decimal, number_text, term_text, sign_of, between};
 ghost use Rattle.constraint_text.specs.Text.{side_text, equality_text, line_text, next_text, refused_text};
@@ -24,12 +23,9 @@ fn put_text(out: &mut [u8], at: usize, text: &[u8]) -> usize
     requires { at + length text.now ≤ length out.old }
     ensures { (result ≡ at + length text.now) × (out.new ≡ set_bytes out.old at text.now) }
 {
-    let mut k = 0usize;
-    while k < text.len() {
-        out[at + k] = text[k];
-        k += 1;
-    }
-    at + k
+    let end = at + text.len();
+    out[at..end].copy_from_slice(text);
+    end
 }
 
 fn put_decimal(out: &mut [u8], at: usize, n: u64) -> usize
@@ -41,22 +37,15 @@ fn put_decimal(out: &mut [u8], at: usize, n: u64) -> usize
     put_text(out, at, digits.format(n).as_bytes())
 }
 
-// n for n and for -(n + 1).
-fn magnitude(z: i64) -> u64
-    ensures { result ≡ mag z }
-{
-    if z < 0 { (-(z + 1)) as u64 } else { z as u64 }
-}
-
 fn put_number(out: &mut [u8], at: usize, z: i64) -> usize
     requires { at + 21 ≤ length out.old }
     ensures value { (result ≡ at + length (number_text z)) × (out.new ≡ set_bytes out.old at (number_text z)) }
     ensures upper_bound { result ≤ at + 21 }
 {
-    let n = magnitude(z);
+    let n = z.unsigned_abs();
     if z < 0 {
         let a = put_byte(out, at, b'-');
-        return put_decimal(out, a, n + 1);
+        return put_decimal(out, a, n);
     }
     put_decimal(out, at, n)
 }

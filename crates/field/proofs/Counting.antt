@@ -2,10 +2,11 @@
 use mathlib.Core.Path.{◌≡◌, refl, ap, sym, subst, ◌∙◌}
 use mathlib.Core.Bool.{Bool, true, false}
 use mathlib.Core.List.{List, [], ◌∷◌, map}
-use Prim.Native.Nat.{ℕ, zero, suc, ◌+◌, ◌*◌, ◌/◌, ◌%◌, ◌^◌, ◌<◌, ◌≤◌}
+use Prim.Native.Nat.{ℕ, zero, suc, ◌+◌, ◌*◌, ◌-◌, ◌/◌, ◌%◌, ◌^◌, ◌<◌, ◌≤◌}
 use native.Mathlib.Nat.{le_refl, not-suc-le-zero, zero-lt-suc, pow-suc}
 use native.Mathlib.Omega.{arith}
 use native.Mathlib.Decide.{dec_lt}
+use Rattle.std.proofs.Math.Nat.{pow-le-pow_right}
 use lib.Arith.{bin_ind}
 use lib.Count.{ones, ones_step, count_leading_zeros}
 use lib.ListN.{length}
@@ -107,6 +108,21 @@ highest-bit = bin_ind Between (λ h. absurd (not-suc-le-zero h)) (λ n ih h. go 
         subst (λ (m : ℕ). (2 ^ highest_bit m ≤ m) × (m < 2 ^ suc (highest_bit m))) (sym e)
         (subst (λ (i : ℕ). (2 ^ i ≤ 1) × (1 < 2 ^ suc i)) (sym highest-one) (le_refl 1, le_refl 2))
 
+-- and so is only its highest one bit
+pub highest-only : (n h : ℕ) → 2 ^ h ≤ n → n < 2 * 2 ^ h → h ≡ highest_bit n
+highest-only n h low high = by-order (dec_lt h k) (dec_lt k h)
+  where
+    k : ℕ
+    k = highest_bit n
+
+    between : (2 ^ k ≤ n) × (n < 2 ^ suc k)
+    between = highest-bit n (omega (arith, low, pow-le-pow_right {n = 2} (omega arith) {i = 0} {j = h} (omega arith)))
+
+    by-order : Dec (h < k) → Dec (k < h) → h ≡ k
+    by-order (yes l) d = absurd (omega (arith, pow-suc 2 h, high, pow-le-pow_right {n = 2} (omega arith) l, between.0))
+    by-order (no m) (yes l) = absurd (omega (arith, low, pow-le-pow_right {n = 2} (omega arith) l, between.1))
+    by-order (no m) (no l) = omega arith
+
 -- the powers 0 and 1 leave none
 pub power-count-zero : power_count 0 ≡ 0
 unfolding power_count highest_bit
@@ -115,6 +131,15 @@ power-count-zero = omega (arith, length_none, ones_none)
 pub power-count-one : power_count 1 ≡ 0
 unfolding power_count highest_bit ones_of total bits bits_from
 power-count-one = refl
+
+-- by the highest one bit and the ones that the language counts
+pub count-is : (n h : ℕ) → 2 ^ h ≤ n → n < 2 * 2 ^ h → h + ones n - 1 ≡ power_count n
+unfolding power_count
+count-is n h low high = omega (arith, highest-only n h low high, ones-counted n)
+
+pub count-above : (n h : ℕ) → 2 ^ h ≤ n → 1 ≤ h + ones n
+count-above n h low =
+    omega (arith, ones-counted n, some-ones n (omega (arith, low, pow-le-pow_right {n = 2} (omega arith) {i = 0} {j = h} (omega arith))))
 
 -- document 01's "1 leaves 0, 2 leaves 1, 3 leaves 2, 5 leaves 3"; the last of its table, and the largest element as exponent
 pub worked-counts : map power_count (1 ∷ 2 ∷ 3 ∷ 5 ∷ 64 ∷ 1073741823 ∷ []) ≡ 0 ∷ 1 ∷ 2 ∷ 3 ∷ 6 ∷ 58 ∷ []

@@ -27,6 +27,10 @@ neg-neg p x h =
     let e : s + 1 ≡ p = omega arith in
     mod-eq p x (s * (s * x)) (s * x) x (omega (arith, ap (λ (k : ℕ). k * (s * x)) e, ap (λ (k : ℕ). k * x) e))
 
+pub abs-zero : (z : ℤ) → nat_abs z ≡ 0 → z ≡ pos 0
+abs-zero (pos n) e = ap pos e
+abs-zero (negsuc n) e = absurd (omega (arith, e))
+
 pub abs_neg : (z : ℤ) → nat_abs (neg_ℤ z) ≡ nat_abs z
 abs_neg (pos zero) = refl
 abs_neg (pos (suc n)) = refl

@@ -13,4 +13,5 @@ pub mod Counting
 pub mod Signed
 pub mod Calls
 pub mod Table
+pub mod Steps
 pub mod Desk

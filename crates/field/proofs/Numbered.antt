@@ -51,8 +51,16 @@ operator-back (suc (suc (suc (suc (suc (suc (suc (suc (suc n))))))))) h = absurd
 pub operator-above : (n : ℕ) → 8 < n → operator_of n ≡ InfixOp.Modulo
 unfolding operator_of
 operator-above n h =
-    rw (no 0 (omega arith), no 1 (omega arith), no 2 (omega arith), no 3 (omega arith),
-        no 4 (omega arith), no 5 (omega arith), no 6 (omega arith), no 7 (omega arith))
+    rw (
+      no 0 (omega arith),
+      no 1 (omega arith),
+      no 2 (omega arith),
+      no 3 (omega arith),
+      no 4 (omega arith),
+      no 5 (omega arith),
+      no 6 (omega arith),
+      no 7 (omega arith),
+    )
   where
     no : (k : ℕ) → k < 8 → eqb n k ≡ false
     no k l = ne_eqb n k (λ e. omega (arith, h, l, e))

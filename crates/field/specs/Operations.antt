@@ -50,6 +50,13 @@ signed_by (negsuc n) z = neg_ℤ z
 unfoldable pub whole_quotient : ℤ → ℤ → ℤ
 whole_quotient x y = signed_by x (signed_by y (pos (nearest (nat_abs x) (nat_abs y))))
 
+-- where there is an inverse, and a quotient so rounded: none at 0
+unfoldable pub checked_inverse : ℕ → ℕ → Option ℕ
+checked_inverse p b = elim (eqb b 0) [ true ↦ None | false ↦ Some (inv p b) ]
+
+unfoldable pub checked_quotient : ℤ → ℤ → Option ℤ
+checked_quotient x y = pick (eqb (nat_abs y) 0) None (Some (whole_quotient x y))
+
 -- the inverse has no value at 0
 unfoldable pub inverse_of : ℕ → ℤ → Answer
 inverse_of p b = pick (eqb (res p b) 0) None (Some (inverse p b))

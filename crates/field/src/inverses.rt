@@ -1,7 +1,8 @@
 // The inverse of a residue: a table up to 512, computed above.
-ghost use Rattle.std.specs.Prelude.{◌≡◌, ◌≤◌, ◌<◌};
+ghost use Rattle.std.specs.Prelude.{◌≡◌, ◌≤◌, ◌<◌, IfSome};
 ghost use Rattle.field.specs.Prime.{P};
 ghost use Rattle.field.specs.Element.{inv};
+ghost use Rattle.field.specs.Operations.{checked_inverse};
 
 use super::residues::P;
 
@@ -80,16 +81,20 @@ fn table_inverse(b: u64) -> u64
     INVERSES[(b - 1) as usize]
 }
 
-// The inverse of a residue. The rest is b times the factor, modulo P, and falls to where the table has its inverse.
-pub fn inverse_of(b: u64) -> u64
-    requires { (0 < b) × (b < P) }
-    ensures { result ≡ inv P b }
+// The inverse of a residue, which 0 has not. The rest is b times the factor, modulo P, and falls to where the table has its inverse.
+pub fn checked_inverse(b: u64) -> Option<u64>
+    requires { b < P }
+    ensures value { result ≡ checked_inverse P b }
+    ensures upper_bound { IfSome result (λ y. y < P) }
 {
+    if b == 0 {
+        return None;
+    }
     let mut factor: u64 = 1;
     let mut rest = b;
     while rest > 512 {
         factor = factor * (P - P / rest) % P;
         rest = P % rest;
     }
-    factor * table_inverse(rest) % P
+    Some(factor * table_inverse(rest) % P)
 }

@@ -1,6 +1,6 @@
 // Arithmetic modulo P = 2,147,483,647. An element is the number from -1,073,741,823 to 1,073,741,823 congruent to it, in an i64.
 // Every function takes any i64, which stands for its element.
-#![tactic(auto)]
+#![tactic(auto, using(crate::proofs::Steps::steps))]
 
 pub mod counts;
 mod inverses;
@@ -8,15 +8,15 @@ pub mod operators;
 mod residues;
 mod whole;
 
-ghost use Rattle.std.specs.Prelude.{◌≡◌, ◌<◌};
+ghost use Rattle.std.specs.Prelude.{◌≡◌};
 ghost use Rattle.field.specs.Prime.{P};
-ghost use Rattle.field.specs.Element.{res, elem};
-ghost use Rattle.field.specs.Operations.{sum, difference, product, opposite, quotient, inverse_of, divide_of};
-ghost use Rattle.field.specs.Operations.{divide_z_of, int_divide_of, modulo_of, raised, exponentiate_of, infix_of};
+ghost use Rattle.field.specs.Element.{elem};
+ghost use Rattle.field.specs.Operations.{sum, difference, product, opposite, inverse_of, divide_of};
+ghost use Rattle.field.specs.Operations.{divide_z_of, int_divide_of, modulo_of, exponentiate_of, infix_of};
 
-use inverses::inverse_of;
-use residues::{P, centred, magnitude, power_of, residue};
-use whole::whole_quotient;
+use inverses::checked_inverse;
+use residues::{P, centred, power_of, residue};
+use whole::checked_quotient;
 
 // The operations on two elements, in the order of their numbers: / | * + - = ^ \ %
 #[derive(Clone, Copy, Debug, PartialEq, Eq, Hash)]
@@ -68,85 +68,48 @@ fn subtract(a: i64, b: i64) -> i64
 pub fn inverse(b: i64) -> Option<i64>
     ensures { result ≡ inverse_of P b }
 {
-    let d = residue(b);
-    if d == 0 {
-        return None;
-    }
-    let z = centred(inverse_of(d));
-    Some(z)
-}
-
-// a over b, where b counts: the product with its inverse.
-fn over(a: i64, b: i64) -> i64
-    requires { res P b ≡ 0 → ⊥ }
-    ensures { result ≡ quotient P a b }
-{
-    centred(residue(a) * inverse_of(residue(b)) % P)
+    Some(centred(checked_inverse(residue(b))?))
 }
 
 fn divide(a: i64, b: i64) -> Option<i64>
     ensures { result ≡ divide_of P a b }
 {
-    if residue(b) == 0 {
-        return None;
-    }
-    let z = over(a, b);
-    Some(z)
+    let y = checked_inverse(residue(b))?;
+    Some(centred(residue(a) * y % P))
 }
 
 fn divide_z(a: i64, b: i64) -> Option<i64>
     ensures { result ≡ divide_z_of P a b }
 {
-    if residue(b) == 0 {
-        return Some(0);
-    }
-    let z = over(a, b);
-    Some(z)
+    Some(divide(a, b).unwrap_or(0))
 }
 
 fn int_divide(a: i64, b: i64) -> Option<i64>
     ensures { result ≡ int_divide_of P a b }
 {
-    if residue(b) == 0 {
-        return None;
-    }
-    let q = canonical(whole_quotient(canonical(a), canonical(b)));
-    Some(q)
+    let q = checked_quotient(canonical(a), canonical(b))?;
+    Some(canonical(q))
 }
 
 fn modulo(a: i64, b: i64) -> Option<i64>
     ensures { result ≡ modulo_of P a b }
 {
-    if residue(b) == 0 {
-        return None;
-    }
     let x = canonical(a);
     let y = canonical(b);
-    let z = subtract(x, multiply(y, whole_quotient(x, y)));
-    Some(z)
+    let q = checked_quotient(x, y)?;
+    Some(subtract(x, multiply(y, q)))
 }
 
-// a raised to the number n.
-fn raise(a: i64, n: i64) -> Option<i64>
-    ensures { result ≡ raised P a n }
-{
-    let b = residue(a);
-    let m = magnitude(n);
-    if n < 0 {
-        if b == 0 {
-            return None;
-        }
-        let y = centred(inverse_of(power_of(b, m + 1)));
-        return Some(y);
-    }
-    let z = centred(power_of(b, m));
-    Some(z)
-}
-
+// The exponent is an element: a power, or the inverse of one.
 fn exponentiate(a: i64, b: i64) -> Option<i64>
     ensures { result ≡ exponentiate_of P a b }
 {
-    raise(a, canonical(b))
+    let n = canonical(b);
+    let power = power_of(residue(a), n.unsigned_abs());
+    if n < 0 {
+        return Some(centred(checked_inverse(power)?));
+    }
+    Some(centred(power))
 }
 
 // What an operation answers on two operands.

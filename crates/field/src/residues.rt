@@ -10,15 +10,17 @@ pub const P: u64 = 2147483647;
 const HALF: u64 = 1073741823;
 
 // n for n and for -(n + 1).
-pub fn magnitude(x: i64) -> u64
+fn magnitude(x: i64) -> u64
     ensures { result ≡ mag x }
 {
-    if x < 0 { (-(x + 1)) as u64 } else { x as u64 }
+    if x < 0 { !x as u64 } else { x as u64 }
 }
 
 // The residue of x: the number from 0 to P - 1 that x is congruent to.
+// Kept as it is: `x.rem_euclid(P)` branches on the sign, and with it a sum or a product takes half as long again.
 pub fn residue(x: i64) -> u64
-    ensures { result ≡ res P x }
+    ensures value { result ≡ res P x }
+    ensures upper_bound { result < P }
 {
     let r = magnitude(x) % P;
     if x < 0 { P - 1 - r } else { r }
@@ -39,7 +41,8 @@ pub fn centred(r: u64) -> i64
 // The power of a residue, by squares.
 pub fn power_of(b: u64, n: u64) -> u64
     requires { b < P }
-    ensures { result ≡ b ^ n % P }
+    ensures value { result ≡ b ^ n % P }
+    ensures upper_bound { result < P }
 {
     let mut product: u64 = 1;
     let mut base = b;
@@ -49,7 +52,7 @@ pub fn power_of(b: u64, n: u64) -> u64
             product = product * base % P;
         }
         base = base * base % P;
-        left = left / 2;
+        left /= 2;
     }
     product
 }

@@ -7,15 +7,12 @@ use native.Mathlib.Omega.{arith}
 use lib.ListN.{length}
 use lib.Dec.{eqb}
 use borrow.Author.Tests.{leb-true, eqb-true, le-leb, lt-leb, eq-eqb, ne_eqb}
-use Rattle.words.specs.Words.{word_at}
-use Rattle.records.specs.Kinds.{NODE-WORDS}
 use Rattle.marks.specs.declared.Uses.{Uses}
 use Rattle.marks.specs.Marks.{Adds, no_marks, all_once}
 use Rattle.std.proofs.lemmas.Bool.{and_parts}
 use Rattle.marks.proofs.Indices.{and_no, and-on}
 use Rattle.marks.proofs.Counted.{adds-more, counted-once}
 use Rattle.flat.specs.Layout.{layout_of, next, definitions, equations, nodes, definitions_offset, equations_offset, nodes_offset, size, Within}
-use Rattle.flat.specs.Layout.{DEFINITION-WORDS, EQUATION-WORDS}
 use Rattle.flat.specs.Record.{has_few, ids_hold, measured, rules, rows, definitions_fit, equations_fit}
 use Rattle.flat.specs.Record.{nodes_fit, ordered, definition_at, used_once, trees_hold, by_definitions, by_equations, by_nodes}
 use Rattle.flat.specs.declared.Layout.{Layout}
@@ -36,8 +33,8 @@ module _ (b : List ℕ) (next d ds e es t ts : ℕ) {u : Bool} (p : u ≡ defini
       unfolding trees_hold
       trees-3 f = f ∙ and-on _ (sym p ∙ y) (and-on _ (sym q ∙ z) (and_no _ _ (sym o ∙ f)))
 
-      pub trees-all : {r : Bool} {m m1 m2 m3 : List Uses} → w ≡ true → ts ≤ 16384 → m ≡ no_marks 16384 → Adds m m1 (by_definitions b d ds) → Adds m1 m2 (by_equations b e es)
-          → Adds m2 m3 (by_nodes b t ts) → r ≡ all_once m3 ts → r ≡ trees_hold b next d ds e es t ts
+      pub trees-all : {r : Bool} {m m1 m2 m3 : List Uses} → w ≡ true → ts ≤ 16384 → m ≡ no_marks 16384 → Adds m m1 (by_definitions b d ds)
+          → Adds m1 m2 (by_equations b e es) → Adds m2 m3 (by_nodes b t ts) → r ≡ all_once m3 ts → r ≡ trees_hold b next d ds e es t ts
       unfolding trees_hold used_once
       trees-all h l n a1 a2 a3 k =
           let a = adds-more (λ k. by_definitions b d ds k + by_equations b e es k + by_nodes b t ts k)
@@ -104,24 +101,6 @@ size-small b {l} e h =
     let f : Few (layout_of b) = few-has (layout_of b) (rw e at h) in
     let s : l.size ≡ size b = ap (λ (x : Layout). x.size) e in
     omega (arith, f.publics, f.provers, f.definitions, f.equations, f.nodes)
-
--- the header as it was read
-pub laid_out : (b : List ℕ) {a0 a1 a2 a3 a4 a5 : ℕ} → a0 ≡ word_at b 0 → a1 ≡ word_at b 1 → a2 ≡ word_at b 2 → a3 ≡ word_at b 3 → a4 ≡ word_at b 4
-    → a5 ≡ word_at b 5 → record {
-      next = a0;
-      publics = a1;
-      provers = a2;
-      definitions = a3;
-      equations = a4;
-      nodes = a5;
-      provers_at = 6 + a1;
-      definitions_at = 6 + a1 + a2;
-      equations_at = 6 + a1 + a2 + DEFINITION-WORDS * a3;
-      nodes_at = 6 + a1 + a2 + DEFINITION-WORDS * a3 + EQUATION-WORDS * a4;
-      size = 6 + a1 + a2 + DEFINITION-WORDS * a3 + EQUATION-WORDS * a4 + NODE-WORDS * a5;
-    } ≡ layout_of b
-unfolding layout_of
-laid_out b e0 e1 e2 e3 e4 e5 = rw (e0, e1, e2, e3, e4, e5)
 
 -- the ways through the length's test
 pub too-short : (b : List ℕ) → length b < 24 → measured b ≡ false

@@ -37,7 +37,8 @@ module_f = record {
 }
 
 pub case-F : flat_of record_f ≡ Read.module-of module_f
-unfolding record_f module_f word_at bytes_of defines every_id every total rows pick has_few ids_hold layout_of measured node_at operator_of node_for node_of grown tree definition_at
+unfolding record_f module_f word_at bytes_of defines every_id every total rows pick has_few ids_hold layout_of measured
+    node_at operator_of node_for node_of grown tree definition_at
     equation_at module_of all_below rising definitions_fit equations_fit node_fits nodes_fit same used_by by_nodes by_definitions by_equations used_once
     trees_hold ordered rules flat_of
 case-F = refl
@@ -47,6 +48,7 @@ unfolding record_f word_at bytes_of pick has_few layout_of measured flat_of
 case-short = refl
 
 pub case-next : flat_of (set_word record_f 0 2) ≡ Read.refused Refusal.FlatRule
-unfolding record_f word_at set_word bytes_of defines every_id every total rows pick has_few ids_hold layout_of measured node_at operator_of node_for node_of grown tree definition_at all_below
+unfolding record_f word_at set_word bytes_of defines every_id every total rows pick has_few ids_hold layout_of measured
+    node_at operator_of node_for node_of grown tree definition_at all_below
     rising definitions_fit equations_fit node_fits nodes_fit same used_by by_nodes by_definitions by_equations used_once trees_hold ordered rules flat_of
 case-next = refl

@@ -27,7 +27,7 @@ use Rattle.marks.proofs.Indices.{and_left, and_right, every-at}
 last : (t a c : Bool) → pick t (a && c) false ≡ true → a ≡ true
 unfolding pick
 last true a c e = and_left a c e
-last false a c e = let z : ◌≡◌ {A = ℕ} 0 1 = cc in absurd (omega arith)
+last false a c e = cc
 
 -- ---- a node by its kind
 
@@ -52,28 +52,29 @@ module _ (kind x y z : ℕ) where
   pub by_kind : {A : Type 0} → (kind ≡ 4 → A) → (kind ≡ 5 → A) → (kind ≡ 7 → A) → ((kind ≡ 4 → ⊥) → (kind ≡ 5 → ⊥) → (kind ≡ 7 → ⊥) → A) → A
   by_kind f4 f5 f7 f8 =
       ⊎_elim f4
-      (λ (n4 : kind ≡ 4 → ⊥). ⊎_elim f5 (λ (n5 : kind ≡ 5 → ⊥). ⊎_elim f7 (λ (n7 : kind ≡ 7 → ⊥). f8 n4 n5 n7) (cases_eq kind 7)) (cases_eq kind 5)) (cases_eq kind 4)
+      (λ (n4 : kind ≡ 4 → ⊥). ⊎_elim f5 (λ (n5 : kind ≡ 5 → ⊥). ⊎_elim f7 (λ (n7 : kind ≡ 7 → ⊥). f8 n4 n5 n7) (cases_eq kind 7))
+      (cases_eq kind 5)) (cases_eq kind 4)
 
   -- the kind by its node
   is-4 : {o : InfixOp} {a b : ℕ} → node_for kind x y z ≡ Infix o a b → (kind ≡ 4) × (a ≡ x) × (b ≡ y)
   is-4 e = by_kind
       (λ q. let w = for-4 q in (q, cc, cc))
-      (λ q. let w = for-5 q in let c : ◌≡◌ {A = ℕ} 0 1 = cc in absurd (omega arith))
-      (λ q. let w = for-7 q in let c : ◌≡◌ {A = ℕ} 0 1 = cc in absurd (omega arith))
-      (λ n4 n5 n7. let w = for-8 n4 n5 n7 in let c : ◌≡◌ {A = ℕ} 0 1 = cc in absurd (omega arith))
+      (λ q. let w = for-5 q in cc)
+      (λ q. let w = for-7 q in cc)
+      (λ n4 n5 n7. let w = for-8 n4 n5 n7 in cc)
 
   is-5 : {a : ℕ} → node_for kind x y z ≡ Negate a → (kind ≡ 5) × (a ≡ x)
   is-5 e = by_kind
-      (λ q. let w = for-4 q in let c : ◌≡◌ {A = ℕ} 0 1 = cc in absurd (omega arith))
+      (λ q. let w = for-4 q in cc)
       (λ q. let w = for-5 q in (q, cc))
-      (λ q. let w = for-7 q in let c : ◌≡◌ {A = ℕ} 0 1 = cc in absurd (omega arith))
-      (λ n4 n5 n7. let w = for-8 n4 n5 n7 in let c : ◌≡◌ {A = ℕ} 0 1 = cc in absurd (omega arith))
+      (λ q. let w = for-7 q in cc)
+      (λ n4 n5 n7. let w = for-8 n4 n5 n7 in cc)
 
   is-8 : {a : ℕ} → node_for kind x y z ≡ Variable a → (kind ≡ 4 → ⊥) × (kind ≡ 5 → ⊥) × (kind ≡ 7 → ⊥) × (a ≡ x)
   is-8 e = by_kind
-      (λ q. let w = for-4 q in let c : ◌≡◌ {A = ℕ} 0 1 = cc in absurd (omega arith))
-      (λ q. let w = for-5 q in let c : ◌≡◌ {A = ℕ} 0 1 = cc in absurd (omega arith))
-      (λ q. let w = for-7 q in let c : ◌≡◌ {A = ℕ} 0 1 = cc in absurd (omega arith))
+      (λ q. let w = for-4 q in cc)
+      (λ q. let w = for-5 q in cc)
+      (λ q. let w = for-7 q in cc)
       (λ n4 n5 n7. let w = for-8 n4 n5 n7 in (n4, n5, n7, cc))
 
   -- what fits

@@ -95,7 +95,8 @@ module _ (b : List ℕ) (at n trees nodes k : ℕ) (pos : 0 < k) (le : k ≤ n) 
         let i : not (defines ds d.id) ≡ true = rw e1 at (ap not (sym (known id) ∙ free)) in
         let r : d.right ≡ tree b trees (node + 1) node = ap (λ (j : ℕ). tree b trees nodes j) (sym e2) ∙ settled b trees nodes node one in
         let w : every_id (λ v. not (defines (d ∷ ds) v)) d.right ≡ t = ap (λ (x : Flat). every_id (λ v. not (defines (d ∷ ds) v)) x) r
-        ∙ sym (every_id-same (λ v. not (get_or (set m id true) v false)) (λ v. not (defines (d ∷ ds) v)) (λ v. ap not (later-set-on v)) (tree b trees (node + 1) node)) ∙ sym walked in
+        ∙ sym (every_id-same (λ v. not (get_or (set m id true) v false)) (λ v. not (defines (d ∷ ds) v))
+        (λ v. ap not (later-set-on v)) (tree b trees (node + 1) node)) ∙ sym walked in
         ordered-cons d ds t i w
 
     pub order-used : t ≡ false → false ≡ ordered (rows n 0 (definition_at b at trees nodes))
@@ -107,11 +108,12 @@ module _ (b : List ℕ) (at n trees nodes k : ℕ) (pos : 0 < k) (le : k ≤ n) 
     order-more h g = rw (rows_step n k (definition_at b at trees nodes) pos le) (first ∙ rw (h, g), later-set-on)
 
 -- what the code knows of a definition that fits
-pub definition-fits : (b : List ℕ) (at n limit count k : ℕ) {d : DefinitionEntry} → definitions_fit b at n limit count ≡ true → k < n → d ≡ definition_entry b at k
-    → (d.id < limit) × (d.node < count)
+pub definition-fits : (b : List ℕ) (at n limit count k : ℕ) {d : DefinitionEntry} → definitions_fit b at n limit count ≡ true → k < n
+    → d ≡ definition_entry b at k → (d.id < limit) × (d.node < count)
 unfolding definitions_fit
 definition-fits b at n limit count k {d} h l e =
-    let g : (ltb d.id limit && ltb d.node count) ≡ true = rw e (every-at n k (λ j. ltb (definition_entry b at j).id limit && ltb (definition_entry b at j).node count) h l) in
+    let w = every-at n k (λ j. ltb (definition_entry b at j).id limit && ltb (definition_entry b at j).node count) h l in
+    let g : (ltb d.id limit && ltb d.node count) ≡ true = rw e w in
     (ltb-true d.id limit (and_left _ _ g), ltb-true d.node count (and_right _ _ g))
 
 -- the walk at a node: what it finds is what its children's walks find

@@ -24,7 +24,8 @@ use Rattle.flat.proofs.Answers.{measured-has, rules-have, hold-definitions, hold
 
 -- ---- accepted records
 
-module-at : (m r : Bool) (g f : FlatModule) → pick m (pick r (Read.module-of g) (Read.refused Refusal.FlatRule)) (Read.refused Refusal.FlatLength) ≡ Read.module-of f
+module-at : (m r : Bool) (g f : FlatModule)
+    → pick m (pick r (Read.module-of g) (Read.refused Refusal.FlatRule)) (Read.refused Refusal.FlatLength) ≡ Read.module-of f
     → (m ≡ true) × (r ≡ true) × (g ≡ f)
 unfolding pick
 module-at true true g f h = (refl, refl, cc)

@@ -11,7 +11,8 @@ use Rattle.flat.specs.Trees.{Flat, Definition, Equation, FlatModule, defines, ev
 use Rattle.flat.specs.declared.Node.{Node}
 use Rattle.flat.specs.declared.Node.TheVariants.{Infix, Negate, Constant, Variable}
 use Rattle.flat.specs.declared.Layout.{Layout}
-use Rattle.flat.specs.Layout.{layout_of, next, publics, provers, definitions, equations, nodes, provers_offset, definitions_offset, equations_offset, nodes_offset, size}
+use Rattle.flat.specs.Layout.{layout_of, next, publics, provers, definitions, equations, nodes, size}
+use Rattle.flat.specs.Layout.{provers_offset, definitions_offset, equations_offset, nodes_offset}
 use Rattle.flat.specs.Layout.{public_at, prover_at, definition_entry, equation_entry, node_at}
 use Rattle.records.specs.declared.refusals.Refusal.{Refusal}
 use Rattle.records.specs.FlatRecord.{HEADER, IDS, LISTED, NODES, PUBLICS}

@@ -8,7 +8,7 @@ ghost use Rattle.records.specs.Kinds.{NODE-WORDS};
 
 use records::NODE_WORDS;
 use records::flat_record::{HEADER, LISTED, NODES, PUBLICS};
-use words::{count, put_word, word_at};
+use words::{count, put_words, word_at};
 
 // The words of a definition and of an equation.
 pub const DEFINITION_WORDS: usize = 2;
@@ -78,6 +78,7 @@ pub fn equation_at(s: &[u8], at: usize, k: usize) -> EquationEntry
 }
 
 // The header: the next id, the counts of publics and prover ids, of the two lists behind them, and of nodes.
+#[tactic(auto, unfolding(crate::specs::Layout::header_words))]
 pub fn put_header(
     out: &mut [u8],
     next: u32,
@@ -90,39 +91,33 @@ pub fn put_header(
     requires { 4 * HEADER ≤ length out.old }
     ensures { out.new ≡ set_words out.old 0 (header_words next publics provers first second nodes) }
 {
-    put_word(out, 0, next);
-    put_word(out, 1, publics);
-    put_word(out, 2, provers);
-    put_word(out, 3, first);
-    put_word(out, 4, second);
-    put_word(out, 5, nodes);
+    put_words(out, 0, [next, publics, provers, first, second, nodes]);
 }
 
 // A definition at word `at`: its id and its root.
+#[tactic(auto, unfolding(crate::specs::Layout::definition_words))]
 pub fn put_definition(out: &mut [u8], at: usize, id: u32, node: u32)
     requires { 4 * (at + DEFINITION-WORDS) ≤ length out.old }
     ensures { out.new ≡ set_words out.old at (definition_words id node) }
 {
-    put_word(out, at, id);
-    put_word(out, at + 1, node);
+    put_words(out, at, [id, node]);
 }
 
 // An equation at word `at`: the roots of its sides.
+// Kept as it is: (d) beside put_definition, since each names what its two words are; both are calls of put_words.
+#[tactic(auto, unfolding(crate::specs::Layout::equation_words))]
 pub fn put_equation(out: &mut [u8], at: usize, left: u32, right: u32)
     requires { 4 * (at + EQUATION-WORDS) ≤ length out.old }
     ensures { out.new ≡ set_words out.old at (equation_words left right) }
 {
-    put_word(out, at, left);
-    put_word(out, at + 1, right);
+    put_words(out, at, [left, right]);
 }
 
 // A node at word `at`.
+#[tactic(auto, unfolding(crate::specs::Layout::node_words))]
 pub fn put_node(out: &mut [u8], at: usize, kind: u32, a: u32, b: u32, c: u32)
     requires { 4 * (at + NODE-WORDS) ≤ length out.old }
     ensures { out.new ≡ set_words out.old at (node_words kind a b c) }
 {
-    put_word(out, at, kind);
-    put_word(out, at + 1, a);
-    put_word(out, at + 2, b);
-    put_word(out, at + 3, c);
+    put_words(out, at, [kind, a, b, c]);
 }

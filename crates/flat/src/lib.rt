@@ -65,6 +65,7 @@ pub fn node_at(s: &[u8], at: usize, k: usize) -> Node
 }
 
 // The layout that the header says.
+#[tactic(auto, unfolding(crate::specs::Layout::layout_of))]
 pub fn layout_of(s: &[u8]) -> Layout
     requires { 4 * HEADER ≤ length s.now }
     ensures { result ≡ layout_of s.now }

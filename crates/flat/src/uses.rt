@@ -28,8 +28,10 @@ impl Measured<'_> {
 
     // Whether the definitions fit; then their nodes are marked.
     fn read_definitions(&self, marks: &mut Marks<NODES>) -> bool
-        ensures fit { result ≡ definitions_fit self.now.bytes.now self.now.layout.definitions_at self.now.layout.definitions self.now.layout.next self.now.layout.nodes }
-        ensures marks { result ≡ true → Adds marks.old marks.new (by_definitions self.now.bytes.now self.now.layout.definitions_at self.now.layout.definitions) }
+        ensures fit { result ≡ definitions_fit self.now.bytes.now self.now.layout.definitions_at self.now.layout.definitions self.now.layout.next
+            self.now.layout.nodes }
+        ensures marks { result ≡ true
+            → Adds marks.old marks.new (by_definitions self.now.bytes.now self.now.layout.definitions_at self.now.layout.definitions) }
     {
         let l = &self.layout;
         for k in 0..l.definitions {

@@ -1,62 +1,38 @@
 -- Definitions: one by whether it is used and whether its id is the prover's, a list by its first. Assumes nothing.
 use mathlib.Core.Path.{◌≡◌, refl, sym, ap, ap₂, ◌∙◌}
 use mathlib.Core.List.{List, [], ◌∷◌, ◌++◌}
-use mathlib.Core.Bool.{Bool, true, false, not}
-use Prim.Native.Nat.{ℕ, zero, suc, ◌+◌}
+use mathlib.Core.Bool.{Bool, true, false}
+use Prim.Native.Nat.{ℕ, ◌+◌}
 use native.Mathlib.Omega.{arith}
-use lib.ListN.{length, get_or}
-use lib.Dec.{eqb}
-use borrow.Author.Tests.{eq-eqb, ne_eqb}
+use lib.ListN.{length}
+use Rattle.std.specs.Prelude.{Option as Maybe, Some}
 use Rattle.flat.specs.Trees.{Flat, Definition, tree_nodes, definitions_nodes}
 use Rattle.flat.specs.Record.{module_of}
 use Rattle.constraint.specs.declared.Term.{Term}
-use Rattle.pass_trees.specs.Passes.{member, keep_if, those, Usage, is_never, usage, Substitutions, copy_propagate_def}
+use Rattle.pass_trees.specs.declared.Usage.{Usage}
+use Rattle.pass_trees.specs.Passes.{member, keep_if, those, is_never, usage, Substitutions, copy_propagate_def}
 use Rattle.pass_trees.specs.Passes.{copy_propagate_defs, Cuts, cuts_of, joined, flatten_def_to_3ac, flatten_defs}
 use Rattle.pass_trees.proofs.Loops.{those-append, copies-append, defs-append}
-use Rattle.pass_classify.specs.Arrays.{usage_at, usage_of, marked, Classified}
-use Rattle.pass_copies.specs.Substituted.{SUBSTITUTION-WORDS, subst_of, put_definition, put_definitions}
+use Rattle.pass_classify.specs.Arrays.{usage_of, marked, Classified}
+use Rattle.pass_copies.specs.Substituted.{option_of, subst_of, put_definition, put_definitions}
 use Rattle.pass_copies.proofs.After.{put-none, put_first, put-unused, put-prover, put-counted, Storable, definitions-say}
-use Rattle.pass_3ac.specs.declared.Target.TheVariants.{Given}
 use Rattle.pass_3ac.specs.declared.Cut.{Cut}
 use Rattle.pass_3ac.specs.declared.Place.{Place}
 use Rattle.pass_classify.specs.Arrays.{provers_of, used_of, counted_of}
-use Rattle.pass_3ac.specs.Cutting.{target_of, tree_cut, put_equalities, place_from, defs_cut, defs_after, DefsPut, Room}
+use Rattle.pass_3ac.specs.Cutting.{tree_cut, put_equalities, place_from, defs_cut, defs_after, DefsPut, Room}
 use Rattle.pass_3ac.proofs.Trees.{cut-few, cut-ids}
 use Rattle.pass_3ac.proofs.Ways.{Leaves}
 use Rattle.pass_3ac.proofs.Joining.{place-next, puts_none, puts-tree, puts-join, joined-none, Few, few-none, few-join, few-less, room-puts}
 
 -- ---- what the arrays say of an id
 
-never-zero : (m : ℕ) → m ≡ 0 → is_never (usage_at m) ≡ true
-unfolding usage_at is_never
-never-zero m e = rw e
+module _ {b : List ℕ} {us : List Usage} {ps : List Bool} (c : Classified b us ps) (id : ℕ) where
+  says-used : {t : Bool} → is_never (usage_of us id) ≡ t → is_never (usage (module_of b) id) ≡ t
+  says-used e = sym (ap (λ (f : ℕ → Usage). is_never (f id)) c.used) ∙ e
 
-never-else : (m : ℕ) → (m ≡ 0 → ⊥) → is_never (usage_at m) ≡ false
-unfolding usage_at is_never
-never-else zero f = absurd (f refl)
-never-else (suc zero) f = refl
-never-else (suc (suc m)) f = refl
-
-module _ {b us ps : List ℕ} (c : Classified b us ps) (id : ℕ) where
-  says-used : is_never (usage_at (get_or us id 0)) ≡ is_never (usage (module_of b) id)
-  unfolding usage_of
-  says-used = ap (λ (f : ℕ → Usage). is_never (f id)) c.used
-
-  says-prover : not (eqb (get_or ps id 0) 0) ≡ member id (provers_of b)
-  unfolding marked provers_of
-  says-prover = ap (λ (f : ℕ → Bool). f id) c.proved
-
-  pub is-unused : get_or us id 0 ≡ 0 → is_never (usage (module_of b) id) ≡ true
-  is-unused e = sym says-used ∙ never-zero _ e
-
-  pub is-used : (get_or us id 0 ≡ 0 → ⊥) → is_never (usage (module_of b) id) ≡ false
-  is-used f = sym says-used ∙ never-else _ f
-
-  pub is-prover : (get_or ps id 0 ≡ 0 → ⊥) → member id (provers_of b) ≡ true
-  is-prover f = sym says-prover ∙ ap not (ne_eqb _ _ f)
-
-  pub is-counted : get_or ps id 0 ≡ 0 → member id (provers_of b) ≡ false
-  is-counted e = sym says-prover ∙ ap not (eq-eqb _ _ e)
+  says-prover : {t : Bool} → marked ps id ≡ t → member id (provers_of b) ≡ t
+  unfolding provers_of
+  says-prover e = sym (ap (λ (f : ℕ → Bool). f id) c.proved) ∙ e
 
 -- ---- one definition
 
@@ -78,17 +54,18 @@ module _ (b : List ℕ) (k : ℕ) (s : Substitutions) (id : ℕ) (e : Flat) (n :
   cut-unused h = rw (used-not h)
 
   -- the prover's
-  pub cut-prover : is_never (usage (module_of b) id) ≡ false → member id (provers_of b) ≡ true → defs_cut b k s (the ∷ []) n ≡ record { next = n; equalities = [] }
+  pub cut-prover : is_never (usage (module_of b) id) ≡ false → member id (provers_of b) ≡ true
+      → defs_cut b k s (the ∷ []) n ≡ record { next = n; equalities = [] }
   unfolding defs_cut copy_propagate_defs copy_propagate_def flatten_defs flatten_def_to_3ac joined
   cut-prover h p = rw (used-so h, p)
 
   -- counted
   pub cut-counted : is_never (usage (module_of b) id) ≡ false → member id (provers_of b) ≡ false
-      → defs_cut b k s (the ∷ []) n ≡ cuts_of (tree_cut (Given (Term.Variable id)) k s e n)
-  unfolding defs_cut copy_propagate_defs copy_propagate_def flatten_defs flatten_def_to_3ac tree_cut target_of
+      → defs_cut b k s (the ∷ []) n ≡ cuts_of (tree_cut (Some (Term.Variable id)) k s e n)
+  unfolding defs_cut copy_propagate_defs copy_propagate_def flatten_defs flatten_def_to_3ac tree_cut option_of
   cut-counted h p = rw (used-so h, p) (joined-none _)
 
-  few-tree : Few (cuts_of (tree_cut (Given (Term.Variable id)) k s e n)) (tree_nodes e) n
+  few-tree : Few (cuts_of (tree_cut (Some (Term.Variable id)) k s e n)) (tree_nodes e) n
   unfolding cuts_of
   few-tree = record { equalities = cut-few k s e n _; ids = cut-ids k s e n _ }
 
@@ -124,7 +101,7 @@ module _ (b : List ℕ) (k : ℕ) where
 -- ---- what is left of cut definitions: the body, the answer, the substitutions
 
 -- nothing from there on
-pub leave_none : (b : List ℕ) (k : ℕ) (m c : List ℕ) (at n : ℕ) → DefsPut b k [] m m c c at n (record { next = n; at = at })
+pub leave_none : (b : List ℕ) (k : ℕ) (m : List (Maybe Term)) (c : List ℕ) (at n : ℕ) → DefsPut b k [] m m c c at n (record { next = n; at = at })
 leave_none b k m c at n =
     let p = puts_none c at n in (
       p.0 ∙ ap (λ (x : Cuts). put_equalities c at x.equalities) (sym (defs-none b k (subst_of m) n)),
@@ -134,14 +111,15 @@ leave_none b k m c at n =
     )
 
 -- what the array after one says
-after-says : (b : List ℕ) (k : ℕ) (d : Definition) (m : List ℕ) {m1 : List ℕ} → length m ≡ SUBSTITUTION-WORDS → Storable d →
+after-says : (b : List ℕ) (k : ℕ) (d : Definition) (m : List (Maybe Term)) {m1 : List (Maybe Term)} → length m ≡ 65536 → Storable d →
     m1 ≡ put_definitions k m (counted_of b (d ∷ [])) → subst_of m1 ≡ defs_after b k (subst_of m) (d ∷ [])
 unfolding defs_after
 after-says b k d m long s e = ap subst_of e ∙ definitions-say b k m (d ∷ []) long (s, tt)
 
 -- one, and then the others
-pub leave-join : (b : List ℕ) (k : ℕ) (d : Definition) (ds : List Definition) (m m1 m2 c : List ℕ) {c1 c2 : List ℕ} (at n : ℕ) {r1 r2 : Place} →
-    length m ≡ SUBSTITUTION-WORDS → Storable d → DefsPut b k (d ∷ []) m m1 c c1 at n r1 → DefsPut b k ds m1 m2 c1 c2 r1.at r1.next r2 →
+pub leave-join : (b : List ℕ) (k : ℕ) (d : Definition) (ds : List Definition) (m m1 m2 : List (Maybe Term)) (c : List ℕ) {c1 c2 : List ℕ}
+    (at n : ℕ) {r1 r2 : Place} →
+    length m ≡ 65536 → Storable d → DefsPut b k (d ∷ []) m m1 c c1 at n r1 → DefsPut b k ds m1 m2 c1 c2 r1.at r1.next r2 →
     DefsPut b k (d ∷ ds) m m2 c c2 at n r2
 leave-join b k d ds m m1 m2 c at n {r1 = r1} long s l1 l2 =
     let C : Cuts = defs_cut b k (subst_of m) (d ∷ []) n in
@@ -150,38 +128,38 @@ leave-join b k d ds m m1 m2 c at n {r1 = r1} long s l1 l2 =
     let w : defs_cut b k (subst_of m) (d ∷ ds) n ≡ joined C.equalities D = defs-first b k (subst_of m) d ds n
     ∙ ap₂ (λ (x : Substitutions) (y : ℕ). joined C.equalities (defs_cut b k x ds y)) (sym a) (sym (place-next at C l1.1)) in
     let p = puts-join c at C D (l1.0, l1.1) (l2.0, l2.1) in
-    (rw w p.0, rw w p.1, l2.2 ∙ ap (λ (x : List ℕ). put_definitions k x (counted_of b ds)) l1.2 ∙ sym (put_first b k m d ds))
+    (rw w p.0, rw w p.1, l2.2 ∙ ap (λ (x : List (Maybe Term)). put_definitions k x (counted_of b ds)) l1.2 ∙ sym (put_first b k m d ds))
 
 -- the room that they leave
-pub room-defs : (b : List ℕ) (k : ℕ) (ds : List Definition) (m m' : List ℕ) {c c' : List ℕ} {at n : ℕ} {r : Place} (p : ℕ) →
+pub room-defs : (b : List ℕ) (k : ℕ) (ds : List Definition) (m m' : List (Maybe Term)) {c c' : List ℕ} {at n : ℕ} {r : Place} (p : ℕ) →
     DefsPut b k ds m m' c c' at n r → Room (definitions_nodes ds + p) at n c → Room p r.at r.next c'
 room-defs b k ds m m' {n = n} p l h = room-puts (defs_cut b k (subst_of m) ds n) (definitions_nodes ds) p (few-defs b k (subst_of m) ds n) (l.0, l.1) h
 
 -- ---- the ways through one definition
 
-module _ {b us ps : List ℕ} (c : Classified b us ps) (k : ℕ) (m body : List ℕ) (at n id : ℕ) (e : Flat) where
-  abbrev Leaving : List ℕ → List ℕ → Place → Type 0
+module _ {b : List ℕ} {us : List Usage} {ps : List Bool} (c : Classified b us ps) (k : ℕ) (m : List (Maybe Term)) (body : List ℕ) (at n id : ℕ) (e : Flat) where
+  abbrev Leaving : List (Maybe Term) → List ℕ → Place → Type 0
   Leaving m' body' r = DefsPut b k (record { id = id; right = e } ∷ []) m m' body body' at n r
 
   skipped : defs_cut b k (subst_of m) (record { id = id; right = e } ∷ []) n ≡ record { next = n; equalities = [] } →
       m ≡ put_definitions k m (counted_of b (record { id = id; right = e } ∷ [])) → Leaving m body (record { next = n; at = at })
   skipped q a = let p = puts_none body at n in (rw q p.0, rw q p.1, a)
 
-  pub way-unused : get_or us id 0 ≡ 0 → Leaving m body (record { next = n; at = at })
-  way-unused h = let u = is-unused c id h in skipped (cut-unused b k (subst_of m) id e n u) (put-unused b k m (record { id = id; right = e }) u)
+  pub way-unused : is_never (usage_of us id) ≡ true → Leaving m body (record { next = n; at = at })
+  way-unused h = let u = says-used c id h in skipped (cut-unused b k (subst_of m) id e n u) (put-unused b k m (record { id = id; right = e }) u)
 
-  pub way-prover : (get_or us id 0 ≡ 0 → ⊥) → (get_or ps id 0 ≡ 0 → ⊥) → Leaving m body (record { next = n; at = at })
+  pub way-prover : is_never (usage_of us id) ≡ false → marked ps id ≡ true → Leaving m body (record { next = n; at = at })
   way-prover h g =
-      let u = is-used c id h in
-      let p = is-prover c id g in
+      let u = says-used c id h in
+      let p = says-prover c id g in
       skipped (cut-prover b k (subst_of m) id e n u p) (put-prover b k m (record { id = id; right = e }) u p)
 
-  pub way-counted : (m' : List ℕ) {body' : List ℕ} {r : Cut} → (get_or us id 0 ≡ 0 → ⊥) → get_or ps id 0 ≡ 0 →
-      Leaves body body' at (tree_cut (Given (Term.Variable id)) k (subst_of m) e n) r → m' ≡ put_definition k m (record { id = id; right = e }) →
-      Leaving m' body' (record { next = r.next; at = r.at })
+  pub way-counted : (m' : List (Maybe Term)) {body' : List ℕ} {r : Cut} → is_never (usage_of us id) ≡ false → marked ps id ≡ false →
+      Leaves body body' at (tree_cut (Some (Term.Variable id)) k (subst_of m) e n) r → m' ≡ put_definition k m (record { id = id; right = e }) →
+      Leaving m' body' r.place
   way-counted m' h g l a =
-      let u = is-used c id h in
-      let p = is-counted c id g in
-      let w = puts-tree body at (tree_cut (Given (Term.Variable id)) k (subst_of m) e n) l in
+      let u = says-used c id h in
+      let p = says-prover c id g in
+      let w = puts-tree body at (tree_cut (Some (Term.Variable id)) k (subst_of m) e n) l in
       let q = cut-counted b k (subst_of m) id e n u p in
       (rw q w.0, rw q w.1, a ∙ put-counted b k m (record { id = id; right = e }) u p)

@@ -4,23 +4,21 @@ use mathlib.Core.List.{List, [], ◌∷◌}
 use mathlib.Core.Bool.{Bool, true, false}
 use Prim.Native.Nat.{ℕ, ◌+◌, ◌*◌, ◌≤◌, ◌<◌}
 use native.Mathlib.Omega.{arith}
-use lib.IntN.{ℤ}
 use lib.ListN.{length, length-append}
+use Rattle.std.specs.Prelude.{Option as Maybe, None, Some}
 use Rattle.flat.specs.Trees.{Flat, Equation, tree_nodes, equations_nodes}
 use Rattle.constraint.specs.declared.Term.{Term}
 use Rattle.constraint.specs.Record.{EQUALITY-WORDS}
 use Rattle.pass_trees.specs.Passes.{keep_if, Substitutions, copy_propagate_expr, copy_propagate_equations, dead, alive, Cut as Cutting}
 use Rattle.pass_trees.specs.Passes.{copied, Cuts, cuts_of, joined, Sides as SidesOf, into, both, sides, flatten_sides, flatten_equations}
 use Rattle.pass_trees.proofs.Loops.{copied-equations-append, alive-append, equations-append}
-use Rattle.pass_copies.specs.declared.Copied.{Copied}
-use Rattle.pass_copies.specs.Substituted.{copied_of, dead_roots}
+use Rattle.pass_copies.specs.Substituted.{option_of, copied_of, dead_roots}
 use Rattle.pass_copies.proofs.Shapes.{dead-by-roots}
-use Rattle.pass_3ac.specs.declared.Target.TheVariants.{New, Given}
 use Rattle.pass_3ac.specs.declared.Cut.{Cut}
 use Rattle.pass_3ac.specs.declared.Place.{Place}
 use Rattle.pass_3ac.specs.declared.Sides.{Sides}
 use Rattle.pass_3ac.specs.declared.Sides.TheVariants.{Left, Right, Neither}
-use Rattle.pass_3ac.specs.Cutting.{target_of, tree_cut, after, sides_of, equations_cut, Room}
+use Rattle.pass_3ac.specs.Cutting.{tree_cut, after, sides_of, equations_cut, Room}
 use Rattle.pass_3ac.proofs.Trees.{term-cut, cut-new-few, cut-few, cut-ids}
 use Rattle.pass_3ac.proofs.Placing.{length-put}
 use Rattle.pass_3ac.proofs.Ways.{Leaves, its-term, its-next, its-at}
@@ -53,33 +51,6 @@ sides-by (Flat.infixed o a c) (Flat.constant d) = refl
 sides-by (Flat.infixed o a c) (Flat.negate b) = refl
 sides-by (Flat.infixed o a c) (Flat.infixed q b d) = refl
 
--- as the code finds it, by the roots and their terms
-module _ {a c : Copied} where
-  pub side-neither : a ≡ Copied.Tree → c ≡ Copied.Tree → Neither ≡ sides_of a c
-  unfolding sides_of
-  side-neither p q = rw (p, q)
-
-  pub side_right : {y : Term} → a ≡ Copied.Tree → c ≡ Copied.Leaf y → Right y ≡ sides_of a c
-  unfolding sides_of
-  side_right p q = rw (p, q)
-
-  pub side_left : {x : Term} → a ≡ Copied.Leaf x → c ≡ Copied.Tree → Left x ≡ sides_of a c
-  unfolding sides_of
-  side_left p q = rw (p, q)
-
-  module _ {x y : Term} (p : a ≡ Copied.Leaf x) (q : c ≡ Copied.Leaf y) where
-    pub side-variable : {v : ℕ} → x ≡ Term.Variable v → Left x ≡ sides_of a c
-    unfolding sides_of
-    side-variable e = rw (p, q, e)
-
-    pub side-constants : {m n : ℤ} → x ≡ Term.Constant m → y ≡ Term.Constant n → Left x ≡ sides_of a c
-    unfolding sides_of
-    side-constants e f = rw (p, q, e, f)
-
-    pub side-other : {m : ℤ} {w : ℕ} → x ≡ Term.Constant m → y ≡ Term.Variable w → Right y ≡ sides_of a c
-    unfolding sides_of
-    side-other e f = rw (p, q, e, f)
-
 -- ---- one equation
 
 module _ (k : ℕ) (s : Substitutions) (l r : Flat) (n : ℕ) where
@@ -103,41 +74,42 @@ module _ (k : ℕ) (s : Substitutions) (l r : Flat) (n : ℕ) where
   cut_by : (q : Sides) → sides_of (copied_of x) (copied_of y) ≡ q → dead x y ≡ false → equations_cut k s (the ∷ []) n ≡ flatten_sides (sides_by q x y) n
   cut_by q e h = cut-alive h ∙ ap (λ (z : SidesOf). flatten_sides z n) (sides-by x y ∙ ap (λ (z : Sides). sides_by z x y) e)
 
-  cut_left : (t : Term) → flatten_sides (sides_by (Left t) x y) n ≡ cuts_of (tree_cut (Given t) k s r n)
-  unfolding sides_by flatten_sides tree_cut target_of
+  cut_left : (t : Term) → flatten_sides (sides_by (Left t) x y) n ≡ cuts_of (tree_cut (Some t) k s r n)
+  unfolding sides_by flatten_sides tree_cut option_of
   cut_left t = refl
 
-  cut_right : (t : Term) → flatten_sides (sides_by (Right t) x y) n ≡ cuts_of (tree_cut (Given t) k s l n)
-  unfolding sides_by flatten_sides tree_cut target_of
+  cut_right : (t : Term) → flatten_sides (sides_by (Right t) x y) n ≡ cuts_of (tree_cut (Some t) k s l n)
+  unfolding sides_by flatten_sides tree_cut option_of
   cut_right t = refl
 
   cut-neither : flatten_sides (sides_by Neither x y) n ≡ flatten_sides (both x y) n
   unfolding sides_by
   cut-neither = refl
 
-  cut-both : (a b : Cutting) → a ≡ tree_cut New k s l n → b ≡ tree_cut New k s r a.next
+  cut-both : (a b : Cutting) → a ≡ tree_cut None k s l n → b ≡ tree_cut None k s r a.next
       → flatten_sides (both x y) n
-      ≡ joined (cuts_of a).equalities (joined (cuts_of b).equalities (cuts_of (copied (target_of (Given a.term)) b.term b.next)))
-  unfolding flatten_sides tree_cut target_of cuts_of
+      ≡ joined (cuts_of a).equalities (joined (cuts_of b).equalities (cuts_of (copied (option_of (Some a.term)) b.term b.next)))
+  unfolding flatten_sides tree_cut option_of cuts_of
   cut-both a b p q = rw (q, p, term-cut)
 
   -- how much it takes
-  few-given : (t : Term) (e : Flat) → Few (cuts_of (tree_cut (Given t) k s e n)) (tree_nodes e) n
+  few-given : (t : Term) (e : Flat) → Few (cuts_of (tree_cut (Some t) k s e n)) (tree_nodes e) n
   unfolding cuts_of
   few-given t e = record { equalities = cut-few k s e n _; ids = cut-ids k s e n _ }
 
   few-both : Few (flatten_sides (both x y) n) (tree_nodes l + tree_nodes r) n
-  unfolding joined cuts_of copied target_of
+  unfolding joined cuts_of copied option_of
   few-both =
-      let a : Cutting = tree_cut New k s l n in
-      let b : Cutting = tree_cut New k s r a.next in
+      let a : Cutting = tree_cut None k s l n in
+      let b : Cutting = tree_cut None k s r a.next in
       let e : length a.equalities < tree_nodes l = cut-new-few k s l n in
       let f : length b.equalities < tree_nodes r = cut-new-few k s r a.next in
-      let g : a.next ≤ n + tree_nodes l = cut-ids k s l n New in
-      let h : b.next ≤ a.next + tree_nodes r = cut-ids k s r a.next New in
+      let g : a.next ≤ n + tree_nodes l = cut-ids k s l n None in
+      let h : b.next ≤ a.next + tree_nodes r = cut-ids k s r a.next None in
       rw (cut-both a b refl refl) (record { equalities = simp length-append (omega arith); ids = omega arith })
 
-  few-by : (q : Sides) (d : Bool) → sides_of (copied_of x) (copied_of y) ≡ q → dead x y ≡ d → Few (equations_cut k s (the ∷ []) n) (tree_nodes l + tree_nodes r) n
+  few-by : (q : Sides) (d : Bool) → sides_of (copied_of x) (copied_of y) ≡ q → dead x y ≡ d
+      → Few (equations_cut k s (the ∷ []) n) (tree_nodes l + tree_nodes r) n
   few-by q true e h = rw (cut-dead h) (few-less _ (few-none n) (omega arith))
   few-by (Left t) false e h = rw (cut_by (Left t) e h ∙ cut_left t) (few-less _ (few-given t r) (omega arith))
   few-by (Right t) false e h = rw (cut_by (Right t) e h ∙ cut_right t) (few-less _ (few-given t l) (omega arith))
@@ -147,7 +119,7 @@ module _ (k : ℕ) (s : Substitutions) (l r : Flat) (n : ℕ) where
   few-equation = few-by _ _ refl refl
 
   -- the ways, by the roots that the code has read: a and c, whether it found them dead, and the side that it took
-  module _ {a c : Copied} {d : Bool} (p : a ≡ copied_of x) (q : c ≡ copied_of y) (e : d ≡ dead_roots a c) where
+  module _ {a c : Maybe Term} {d : Bool} (p : a ≡ copied_of x) (q : c ≡ copied_of y) (e : d ≡ dead_roots a c) where
     dead-is : dead x y ≡ d
     dead-is = dead-by-roots x y ∙ sym (e ∙ ap₂ dead_roots p q)
 
@@ -158,11 +130,11 @@ module _ (k : ℕ) (s : Substitutions) (l r : Flat) (n : ℕ) where
       side-is : sides_of (copied_of x) (copied_of y) ≡ z
       side-is = sym (f ∙ ap₂ sides_of p q)
 
-      pub way-left : (b : List ℕ) {b' : List ℕ} (at : ℕ) {t : Term} {u : Place} → z ≡ Left t → Puts b b' at (cuts_of (tree_cut (Given t) k s r n)) u
+      pub way-left : (b : List ℕ) {b' : List ℕ} (at : ℕ) {t : Term} {u : Place} → z ≡ Left t → Puts b b' at (cuts_of (tree_cut (Some t) k s r n)) u
           → Puts b b' at (equations_cut k s (the ∷ []) n) u
       way-left b at {t} g w = rw (cut_by (Left t) (side-is ∙ g) (dead-is ∙ h) ∙ cut_left t) w
 
-      pub way-right : (b : List ℕ) {b' : List ℕ} (at : ℕ) {t : Term} {u : Place} → z ≡ Right t → Puts b b' at (cuts_of (tree_cut (Given t) k s l n)) u
+      pub way-right : (b : List ℕ) {b' : List ℕ} (at : ℕ) {t : Term} {u : Place} → z ≡ Right t → Puts b b' at (cuts_of (tree_cut (Some t) k s l n)) u
           → Puts b b' at (equations_cut k s (the ∷ []) n) u
       way-right b at {t} g w = rw (cut_by (Right t) (side-is ∙ g) (dead-is ∙ h) ∙ cut_right t) w
 
@@ -172,32 +144,32 @@ module _ (k : ℕ) (s : Substitutions) (l r : Flat) (n : ℕ) where
 
 -- ---- both sides cut
 
-module _ (k : ℕ) (s : Substitutions) (l r : Flat) (b : List ℕ) {c : List ℕ} (at n : ℕ) {r1 : Cut} (l1 : Leaves b c at (tree_cut New k s l n) r1) where
-  pub room-both : {d : List ℕ} {r2 : Cut} → Leaves c d r1.at (tree_cut New k s r r1.next) r2 → Room (tree_nodes l + tree_nodes r) at n b
-      → 4 * (r2.at + EQUALITY-WORDS) ≤ length d
+module _ (k : ℕ) (s : Substitutions) (l r : Flat) (b : List ℕ) {c : List ℕ} (at n : ℕ) {r1 : Cut} (l1 : Leaves b c at (tree_cut None k s l n) r1) where
+  pub room-both : {d : List ℕ} {r2 : Cut} → Leaves c d r1.place.at (tree_cut None k s r r1.place.next) r2 → Room (tree_nodes l + tree_nodes r) at n b
+      → 4 * (r2.place.at + EQUALITY-WORDS) ≤ length d
   unfolding after
   room-both {d} {r2} l2 h =
-      let a : Cutting = tree_cut New k s l n in
-      let y : Cutting = tree_cut New k s r r1.next in
-      let i : r1.at ≡ at + EQUALITY-WORDS * length a.equalities = its-at at a l1.1 in
-      let j : r2.at ≡ r1.at + EQUALITY-WORDS * length y.equalities = its-at r1.at y l2.1 in
+      let a : Cutting = tree_cut None k s l n in
+      let y : Cutting = tree_cut None k s r r1.place.next in
+      let i : r1.place.at ≡ at + EQUALITY-WORDS * length a.equalities = its-at at a l1.1 in
+      let j : r2.place.at ≡ r1.place.at + EQUALITY-WORDS * length y.equalities = its-at r1.place.at y l2.1 in
       let e : length a.equalities < tree_nodes l = cut-new-few k s l n in
-      let f : length y.equalities < tree_nodes r = cut-new-few k s r r1.next in
-      let g : length d ≡ length b = ap length l2.0 ∙ length-put c r1.at y.equalities ∙ ap length l1.0 ∙ length-put b at a.equalities in
+      let f : length y.equalities < tree_nodes r = cut-new-few k s r r1.place.next in
+      let g : length d ≡ length b = ap length l2.0 ∙ length-put c r1.place.at y.equalities ∙ ap length l1.0 ∙ length-put b at a.equalities in
       omega (arith, h.words)
 
-  pub way-both : {d f : List ℕ} {r2 r3 : Cut} → Leaves c d r1.at (tree_cut New k s r r1.next) r2
-      → Leaves d f r2.at (copied (target_of (Given r1.term)) r2.term r2.next) r3
-      → Puts b f at (flatten_sides (both (copy_propagate_expr k s l) (copy_propagate_expr k s r)) n) (record { next = r3.next; at = r3.at })
+  pub way-both : {d f : List ℕ} {r2 r3 : Cut} → Leaves c d r1.place.at (tree_cut None k s r r1.place.next) r2
+      → Leaves d f r2.place.at (copied (option_of (Some r1.term)) r2.term r2.place.next) r3
+      → Puts b f at (flatten_sides (both (copy_propagate_expr k s l) (copy_propagate_expr k s r)) n) r3.place
   way-both {d} {f} {r2} {r3} l2 l3 =
-      let a : Cutting = tree_cut New k s l n in
-      let y : Cutting = tree_cut New k s r r1.next in
-      let z : Cutting = copied (target_of (Given r1.term)) r2.term r2.next in
+      let a : Cutting = tree_cut None k s l n in
+      let y : Cutting = tree_cut None k s r r1.place.next in
+      let z : Cutting = copied (option_of (Some r1.term)) r2.term r2.place.next in
       let e : flatten_sides (both (copy_propagate_expr k s l) (copy_propagate_expr k s r)) n
-      ≡ joined (cuts_of a).equalities (joined (cuts_of y).equalities (cuts_of z)) = cut-both k s l r n a y refl (ap (tree_cut New k s r) (its-next at a l1.1))
-      ∙ rw (its-term at a l1.1, its-term r1.at y l2.1, its-next r1.at y l2.1) in
+      ≡ joined (cuts_of a).equalities (joined (cuts_of y).equalities (cuts_of z)) = cut-both k s l r n a y refl (ap (tree_cut None k s r) (its-next at a l1.1))
+      ∙ rw (its-term at a l1.1, its-term r1.place.at y l2.1, its-next r1.place.at y l2.1) in
       rw e (puts-join b at (cuts_of a) (joined (cuts_of y).equalities (cuts_of z)) (puts-tree b at a l1)
-      (puts-join c r1.at (cuts_of y) (cuts_of z) (puts-tree c r1.at y l2) (puts-tree d r2.at z l3)))
+      (puts-join c r1.place.at (cuts_of y) (cuts_of z) (puts-tree c r1.place.at y l2) (puts-tree d r2.place.at z l3)))
 
 -- ---- lists
 

@@ -8,9 +8,9 @@ use Rattle.constraint.specs.Trees.{Equality}
 use Rattle.pass_trees.specs.Passes.{Cut as Cutting, Cuts, cuts_of, joined}
 use Rattle.pass_3ac.specs.declared.Cut.{Cut}
 use Rattle.pass_3ac.specs.declared.Place.{Place}
-use Rattle.pass_3ac.specs.Cutting.{put_equalities, after, place_from, Room}
+use Rattle.pass_3ac.specs.Cutting.{put_equalities, after, cut_from, place_from, Room}
 use Rattle.pass_3ac.proofs.Placing.{put-none, after_none, put-append, after-append, length-put}
-use Rattle.pass_3ac.proofs.Ways.{Leaves, its-next, its-at}
+use Rattle.pass_3ac.proofs.Ways.{Leaves}
 
 -- what cuts from word `at` on leave: the body b' where it was b, and the answer r
 abbrev pub Puts : List ℕ → List ℕ → ℕ → Cuts → Place → Type 0
@@ -32,10 +32,9 @@ unfolding place_from
 puts_none b at n = (sym (put-none b at), ap (λ (m : ℕ). record { next = n; at = m }) (sym (after_none at)))
 
 -- a tree's
-pub puts-tree : (b : List ℕ) {b' : List ℕ} (at : ℕ) (c : Cutting) {r : Cut} → Leaves b b' at c r
-    → Puts b b' at (cuts_of c) (record { next = r.next; at = r.at })
-unfolding cuts_of place_from
-puts-tree b at c l = (l.0, ap₂ (λ (x y : ℕ). record { next = x; at = y }) (its-next at c l.1) (its-at at c l.1))
+pub puts-tree : (b : List ℕ) {b' : List ℕ} (at : ℕ) (c : Cutting) {r : Cut} → Leaves b b' at c r → Puts b b' at (cuts_of c) r.place
+unfolding cuts_of cut_from place_from
+puts-tree b at c l = (l.0, ap (λ (x : Cut). x.place) l.1)
 
 -- one after the other
 pub puts-join : (b : List ℕ) {b1 b2 : List ℕ} (at : ℕ) (c d : Cuts) {r1 r2 : Place} → Puts b b1 at c r1 → Puts b1 b2 r1.at d r2

@@ -4,6 +4,8 @@ use mathlib.Core.List.{List, [], ◌∷◌, ◌++◌, append-nil}
 use Prim.Native.Nat.{ℕ, ◌+◌}
 use native.Mathlib.Omega.{arith}
 use lib.ListN.{length, length-append}
+use Rattle.std.specs.Prelude.{unwrap_or, Option as Maybe, None, Some}
+use Rattle.pass_copies.specs.Substituted.{option_of}
 use Rattle.words.specs.Words.{set_words}
 use Rattle.words.proofs.Laws.{set_words-append, length-set_words}
 use Rattle.constraint.specs.declared.Term.{Term}
@@ -12,9 +14,7 @@ use Rattle.constraint.specs.Trees.{Side, Equality}
 use Rattle.constraint.specs.Record.{EQUALITY-WORDS, written_words, equality_words, equalities_words}
 use Rattle.constraint.proofs.Lengths.{length-equalities, equalities-append}
 use Rattle.pass_trees.specs.Passes.{or_variable, copied}
-use Rattle.pass_3ac.specs.declared.Target.{Target}
-use Rattle.pass_3ac.specs.declared.Target.TheVariants.{New, Given}
-use Rattle.pass_3ac.specs.Cutting.{equality_of, target_of, put_equalities, after, cut_from}
+use Rattle.pass_3ac.specs.Cutting.{equality_of, put_equalities, after, cut_from}
 
 -- ---- lists of equalities
 
@@ -52,26 +52,23 @@ after_one at q = omega arith
 
 -- ---- terms
 
-pub left-new : (t : Target) (n : ℕ) → t ≡ New → Term.Variable n ≡ or_variable (target_of t) n
-unfolding target_of or_variable
-left-new t n e = rw e
+pub left_is : (t : Maybe Term) (n : ℕ) → unwrap_or t (Term.Variable n) ≡ or_variable (option_of t) n
+unfolding option_of or_variable
+left_is None n = refl
+left_is (Some l) n = refl
 
-pub left-given : (t : Target) (n : ℕ) {l : Term} → t ≡ Given l → l ≡ or_variable (target_of t) n
-unfolding target_of or_variable
-left-given t n e = rw e
+module _ (b : List ℕ) (at n : ℕ) (target : Maybe Term) (t : Term) where
+  pub placed-new : target ≡ None
+      → (b ≡ put_equalities b at (copied (option_of target) t n).equalities)
+      × (record { term = t; place = record { next = n; at = at } } ≡ cut_from at (copied (option_of target) t n))
+  unfolding option_of copied cut_from
+  placed-new e = rw e (sym (put-none b at), ap (λ (m : ℕ). record { term = t; place = record { next = n; at = m } }) (sym (after_none at)))
 
-module _ (b : List ℕ) (at n : ℕ) (target : Target) (t : Term) where
-  pub placed-new : target ≡ New
-      → (b ≡ put_equalities b at (copied (target_of target) t n).equalities)
-      × (record { term = t; next = n; at = at } ≡ cut_from at (copied (target_of target) t n))
-  unfolding target_of copied cut_from
-  placed-new e = rw e (sym (put-none b at), ap (λ (m : ℕ). record { term = t; next = n; at = m }) (sym (after_none at)))
-
-  pub placed-given : {l : Term} {q : Written} {c : List ℕ} → target ≡ Given l → q ≡ equality_of l (Side.copy t) → c ≡ set_words b at (written_words q)
-      → (c ≡ put_equalities b at (copied (target_of target) t n).equalities)
-      × (record { term = l; next = n; at = at + EQUALITY-WORDS } ≡ cut_from at (copied (target_of target) t n))
-  unfolding target_of copied cut_from
+  pub placed-given : {l : Term} {q : Written} {c : List ℕ} → target ≡ Some l → q ≡ equality_of l (Side.copy t) → c ≡ set_words b at (written_words q)
+      → (c ≡ put_equalities b at (copied (option_of target) t n).equalities)
+      × (record { term = l; place = record { next = n; at = at + EQUALITY-WORDS } } ≡ cut_from at (copied (option_of target) t n))
+  unfolding option_of copied cut_from
   placed-given {l} e p q = rw e (
     q ∙ ap (λ (w : Written). set_words b at (written_words w)) p ∙ put_one b at l (Side.copy t),
-    ap (λ (m : ℕ). record { term = l; next = n; at = m }) (sym (after_one at _)),
+    ap (λ (m : ℕ). record { term = l; place = record { next = n; at = m } }) (sym (after_one at _)),
   )

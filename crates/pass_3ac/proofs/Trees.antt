@@ -1,32 +1,19 @@
 -- A tree with the substitutions made, cut: by its root; and how many equalities and ids the cut takes at most. Assumes nothing.
 use mathlib.Core.Path.{◌≡◌, refl}
-use mathlib.Core.List.{List, ◌++◌}
+use mathlib.Core.List.{◌++◌}
 use mathlib.Core.Option.{Option, none, some}
 use Prim.Native.Nat.{ℕ, ◌+◌, ◌≤◌, ◌<◌}
 use native.Mathlib.Omega.{arith}
 use lib.IntN.{ℤ}
 use lib.ListN.{length, length-append}
 use Rattle.field.specs.declared.InfixOp.{InfixOp}
-use Rattle.flat.specs.declared.Node.TheVariants.{Infix, Negate}
+use Rattle.std.specs.Prelude.{Option as Maybe, None}
+use Rattle.pass_copies.specs.Substituted.{option_of}
 use Rattle.flat.specs.Trees.{Flat, tree_nodes}
-use Rattle.flat.specs.Record.{node_of, tree}
-use Rattle.flat.specs.Readable.{Inside}
-use Rattle.flat.proofs.Nodes.{tree-infix, tree-negate}
-use Rattle.pass_classify.proofs.Walks.{left-inside, right-inside, child-inside}
 use Rattle.constraint.specs.declared.Term.{Term}
 use Rattle.constraint.specs.Trees.{Side}
 use Rattle.pass_trees.specs.Passes.{Substitutions, walk, to_expr, copy_propagate_expr, infix_op, Cut, push_constraint_def, copied, flatten_expr_to_3ac}
-use Rattle.pass_3ac.specs.declared.Target.{Target}
-use Rattle.pass_3ac.specs.declared.Target.TheVariants.{New}
-use Rattle.pass_3ac.specs.Cutting.{target_of, tree_cut}
-
--- a node's tree, by those of its children
-module _ {b : List ℕ} {at k : ℕ} (i : Inside b at k) where
-  pub node-infix : {o : InfixOp} {x y : ℕ} → node_of b at k ≡ Infix o x y → tree b at (k + 1) k ≡ Flat.infixed o (tree b at (x + 1) x) (tree b at (y + 1) y)
-  node-infix e = tree-infix b at k e (left-inside i e).0 (right-inside i e).0
-
-  pub node-negate : {x : ℕ} → node_of b at k ≡ Negate x → tree b at (k + 1) k ≡ Flat.negate (tree b at (x + 1) x)
-  node-negate e = tree-negate b at k e (child-inside i e).0
+use Rattle.pass_3ac.specs.Cutting.{tree_cut}
 
 -- a term draws no id
 pub term-cut : (out : Option Term) (t : Term) (n : ℕ) → flatten_expr_to_3ac out (to_expr t) n ≡ copied out t n
@@ -34,24 +21,24 @@ unfolding flatten_expr_to_3ac to_expr
 term-cut out (Term.Variable v) n = refl
 term-cut out (Term.Constant c) n = refl
 
-module _ (target : Target) (k : ℕ) (s : Substitutions) {e : Flat} (n : ℕ) where
-  pub cut-infix : {o : InfixOp} {a b : Flat} (x y : Cut) → e ≡ Flat.infixed o a b → x ≡ tree_cut New k s a n → y ≡ tree_cut New k s b x.next
-      → tree_cut target k s e n ≡ push_constraint_def (target_of target) (x.equalities ++ y.equalities) y.next (infix_op o x.term y.term)
-  unfolding tree_cut copy_propagate_expr flatten_expr_to_3ac target_of
+module _ (target : Maybe Term) (k : ℕ) (s : Substitutions) {e : Flat} (n : ℕ) where
+  pub cut-infix : {o : InfixOp} {a b : Flat} (x y : Cut) → e ≡ Flat.infixed o a b → x ≡ tree_cut None k s a n → y ≡ tree_cut None k s b x.next
+      → tree_cut target k s e n ≡ push_constraint_def (option_of target) (x.equalities ++ y.equalities) y.next (infix_op o x.term y.term)
+  unfolding tree_cut copy_propagate_expr flatten_expr_to_3ac option_of
   cut-infix x y p q r = rw (p, r, q)
 
-  pub cut-negate : {a : Flat} (x : Cut) → e ≡ Flat.negate a → x ≡ tree_cut New k s a n
-      → tree_cut target k s e n ≡ push_constraint_def (target_of target) x.equalities x.next (Side.negate x.term)
-  unfolding tree_cut copy_propagate_expr flatten_expr_to_3ac target_of
+  pub cut-negate : {a : Flat} (x : Cut) → e ≡ Flat.negate a → x ≡ tree_cut None k s a n
+      → tree_cut target k s e n ≡ push_constraint_def (option_of target) x.equalities x.next (Side.negate x.term)
+  unfolding tree_cut copy_propagate_expr flatten_expr_to_3ac option_of
   cut-negate x p q = rw (p, q)
 
-  pub cut-constant : {c : ℤ} → e ≡ Flat.constant c → tree_cut target k s e n ≡ copied (target_of target) (Term.Constant c) n
+  pub cut-constant : {c : ℤ} → e ≡ Flat.constant c → tree_cut target k s e n ≡ copied (option_of target) (Term.Constant c) n
   unfolding tree_cut copy_propagate_expr flatten_expr_to_3ac
   cut-constant p = rw p
 
-  pub cut-variable : {v : ℕ} → e ≡ Flat.variable v → tree_cut target k s e n ≡ copied (target_of target) (walk k s (Term.Variable v)) n
+  pub cut-variable : {v : ℕ} → e ≡ Flat.variable v → tree_cut target k s e n ≡ copied (option_of target) (walk k s (Term.Variable v)) n
   unfolding tree_cut copy_propagate_expr
-  cut-variable {v} p = rw p (term-cut (target_of target) (walk k s (Term.Variable v)) n)
+  cut-variable {v} p = rw p (term-cut (option_of target) (walk k s (Term.Variable v)) n)
 
 -- ---- sizes
 
@@ -129,14 +116,14 @@ ids (some t) (Flat.constant c) n = omega arith
 ids (some t) (Flat.variable v) n = omega arith
 
 module _ (k : ℕ) (s : Substitutions) (e : Flat) (n : ℕ) where
-  pub cut-new-few : length (tree_cut New k s e n).equalities < tree_nodes e
-  unfolding tree_cut target_of
+  pub cut-new-few : length (tree_cut None k s e n).equalities < tree_nodes e
+  unfolding tree_cut option_of
   cut-new-few = omega (arith, new-few (copy_propagate_expr k s e) n, copied-nodes k s e)
 
-  pub cut-few : (target : Target) → length (tree_cut target k s e n).equalities ≤ tree_nodes e
+  pub cut-few : (target : Maybe Term) → length (tree_cut target k s e n).equalities ≤ tree_nodes e
   unfolding tree_cut
-  cut-few target = omega (arith, few (target_of target) (copy_propagate_expr k s e) n, copied-nodes k s e)
+  cut-few target = omega (arith, few (option_of target) (copy_propagate_expr k s e) n, copied-nodes k s e)
 
-  pub cut-ids : (target : Target) → (tree_cut target k s e n).next ≤ n + tree_nodes e
+  pub cut-ids : (target : Maybe Term) → (tree_cut target k s e n).next ≤ n + tree_nodes e
   unfolding tree_cut
-  cut-ids target = omega (arith, ids (target_of target) (copy_propagate_expr k s e) n, copied-nodes k s e)
+  cut-ids target = omega (arith, ids (option_of target) (copy_propagate_expr k s e) n, copied-nodes k s e)

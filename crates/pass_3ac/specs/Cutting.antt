@@ -1,6 +1,5 @@
 -- What the code of the last pass answers, by the definitions of the passes.
-use Rattle.std.specs.Prelude.{◌≡◌, List, ℕ, ◌+◌, ◌*◌, ◌≤◌, length}
-use Rattle.std.proofs.Math.Option.{Option, none, some}
+use Rattle.std.specs.Prelude.{◌≡◌, List, ℕ, ◌+◌, ◌*◌, ◌≤◌, length, Option, None, Some}
 use Rattle.words.specs.Words.{set_words}
 use Rattle.flat.specs.Trees.{Flat, Definition, Equation}
 use Rattle.flat.specs.Record.{module_of}
@@ -11,10 +10,7 @@ use Rattle.constraint.specs.Record.{EQUALITY-WORDS, equalities_words}
 use Rattle.pass_trees.specs.Passes.{Substitutions, copy_propagate_expr, copy_propagate_defs, after_defs, copy_propagate_equations}
 use Rattle.pass_trees.specs.Passes.{alive, flatten_expr_to_3ac, flatten_defs, flatten_equations, Cut as Cutting, Cuts}
 use Rattle.pass_classify.specs.Arrays.{provers_of, used_of, counted_of}
-use Rattle.pass_copies.specs.declared.Copied.{Copied}
-use Rattle.pass_copies.specs.Substituted.{subst_of, put_definitions}
-use Rattle.pass_3ac.specs.declared.Target.{Target}
-use Rattle.pass_3ac.specs.declared.Target.TheVariants.{New, Given}
+use Rattle.pass_copies.specs.Substituted.{option_of, subst_of, put_definitions}
 use Rattle.pass_3ac.specs.declared.Cut.{Cut}
 use Rattle.pass_3ac.specs.declared.Place.{Place}
 use Rattle.pass_3ac.specs.declared.Sides.{Sides}
@@ -24,14 +20,9 @@ use Rattle.pass_3ac.specs.declared.Sides.TheVariants.{Left, Right, Neither}
 unfoldable pub equality_of : Term → Side → Written
 equality_of left right = written (record { left = left; right = right })
 
--- a left side that is given, or none
-unfoldable pub target_of : Target → Option Term
-target_of New = none
-target_of (Given t) = some t
-
--- a tree with the substitutions made, cut
-unfoldable pub tree_cut : Target → ℕ → Substitutions → Flat → ℕ → Cutting
-tree_cut target steps s e next = flatten_expr_to_3ac (target_of target) (copy_propagate_expr steps s e) next
+-- a tree with the substitutions made, cut: into the left side that is given, or into none
+unfoldable pub tree_cut : Option Term → ℕ → Substitutions → Flat → ℕ → Cutting
+tree_cut target steps s e next = flatten_expr_to_3ac (option_of target) (copy_propagate_expr steps s e) next
 
 -- the body with equalities from word `at` on, and the word after them
 unfoldable pub put_equalities : List ℕ → ℕ → List Equality → List ℕ
@@ -42,7 +33,7 @@ after at qs = at + EQUALITY-WORDS * length qs
 
 -- the code's answer for a cut whose equalities are written from word `at` on
 unfoldable pub cut_from : ℕ → Cutting → Cut
-cut_from at c = record { term = c.term; next = c.next; at = after at c.equalities }
+cut_from at c = record { term = c.term; place = record { next = c.next; at = after at c.equalities } }
 
 -- what the cut of a tree from word `at` on leaves: the body after it, and the answer
 abbrev pub CutPut : List ℕ → List ℕ → ℕ → Cutting → Cut → Type 0
@@ -75,7 +66,7 @@ unfoldable pub defs_after : List ℕ → ℕ → Substitutions → List Definiti
 defs_after b steps s ds = after_defs (provers_of b) steps s (used_of b ds)
 
 -- what cut definitions leave: the body after them, the answer, and the array of the substitutions, in which the counted ones have theirs
-abbrev pub DefsPut : List ℕ → ℕ → List Definition → List ℕ → List ℕ → List ℕ → List ℕ → ℕ → ℕ → Place → Type 0
+abbrev pub DefsPut : List ℕ → ℕ → List Definition → List (Option Term) → List (Option Term) → List ℕ → List ℕ → ℕ → ℕ → Place → Type 0
 DefsPut b steps ds subs subs' body body' at next r =
     (body' ≡ put_equalities body at (defs_cut b steps (subst_of subs) ds next).equalities)
     × (r ≡ place_from at (defs_cut b steps (subst_of subs) ds next))
@@ -86,17 +77,17 @@ unfoldable pub equations_cut : ℕ → Substitutions → List Equation → ℕ �
 equations_cut steps s es next = flatten_equations (alive (copy_propagate_equations steps s es)) next
 
 -- all definitions and all equations of the record with the bytes b, with the substitutions that an array has: cut
-abbrev pub record_defs : List ℕ → ℕ → List ℕ → ℕ → Cuts
+abbrev pub record_defs : List ℕ → ℕ → List (Option Term) → ℕ → Cuts
 record_defs b steps subs next = defs_cut b steps (subst_of subs) (module_of b).definitions next
 
-abbrev pub record_equations : List ℕ → ℕ → List ℕ → ℕ → Cuts
+abbrev pub record_equations : List ℕ → ℕ → List (Option Term) → ℕ → Cuts
 record_equations b steps subs next = equations_cut steps (subst_of subs) (module_of b).equations next
 
 -- which side of an equation is the left term, by the sides' roots: a left variable, else a right variable, else a left constant, else a right constant
-unfoldable pub sides_of : Copied → Copied → Sides
-sides_of Copied.Tree Copied.Tree = Neither
-sides_of Copied.Tree (Copied.Leaf y) = Right y
-sides_of (Copied.Leaf x) Copied.Tree = Left x
-sides_of (Copied.Leaf (Term.Variable v)) (Copied.Leaf y) = Left (Term.Variable v)
-sides_of (Copied.Leaf (Term.Constant c)) (Copied.Leaf (Term.Variable w)) = Right (Term.Variable w)
-sides_of (Copied.Leaf (Term.Constant c)) (Copied.Leaf (Term.Constant d)) = Left (Term.Constant c)
+unfoldable pub sides_of : Option Term → Option Term → Sides
+sides_of None None = Neither
+sides_of None (Some y) = Right y
+sides_of (Some x) None = Left x
+sides_of (Some (Term.Variable v)) (Some y) = Left (Term.Variable v)
+sides_of (Some (Term.Constant c)) (Some (Term.Variable w)) = Right (Term.Variable w)
+sides_of (Some (Term.Constant c)) (Some (Term.Constant d)) = Left (Term.Constant c)

@@ -12,16 +12,18 @@ use Rattle.flat.specs.Trees.{Flat, Definition, Equation}
 use Rattle.flat.specs.Meaning.{update}
 use Rattle.flat.specs.Rules.{All, Every}
 use Rattle.flat.specs.Layout.{next}
-use Rattle.flat.specs.Record.{rows, pick, module_of}
+use Rattle.flat.specs.Record.{rows, module_of}
 use Rattle.flat.specs.Readable.{Readable}
 use Rattle.std.proofs.lemmas.Bool.{cases_lt, cases_eq}
 use Rattle.flat.proofs.Rows.{length-rows, rows_at}
 use Rattle.flat.proofs.Wellformed.{readable-provers, readable-definitions, readable-equations}
-use Rattle.pass_trees.specs.Passes.{member, keep_if, those, Usage, Never, Constraint, is_never, is_witness, counted}
+use Rattle.pass_trees.specs.declared.Usage.{Usage}
+use Rattle.pass_trees.specs.declared.Usage.TheVariants.{Never, Constraint}
+use Rattle.pass_trees.specs.Passes.{member, keep_if, those, is_never, is_witness, counted}
 use Rattle.pass_trees.specs.Passes.{mark_used, override, classify_def, used_in, classified, usage, ids_from, classify_defs}
 use Rattle.pass_trees.proofs.Lists.{update_other}
-use Rattle.pass_classify.specs.Arrays.{usage_at, code_of, usage_of, marked, Codes, Uses, Marks, no_marks, provers_of, usages_of, marks_of, Classified}
-use Rattle.pass_classify.proofs.Arrays.{at_code, code_at, table_is, none-used, none-marked}
+use Rattle.pass_classify.specs.Arrays.{usage_of, marked, Uses, Marks, provers_of, usages_of, marks_of, Classified}
+use Rattle.pass_classify.proofs.Arrays.{table_is}
 
 -- ---- an id among those that pass a test
 
@@ -90,41 +92,28 @@ provers-after {b} r v =
     ∙ sym (ids-member (λ w. member w (module_of b).provers || is_witness (usage (module_of b) w)) v (next b))
 
 -- the prover ids that the record gives, marked in a clear array
-pub provers-marked : (b p : List ℕ) {p' : List ℕ} → marked p ≡ (λ _. false) → Marks p' (λ v. marked p v || member v (module_of b).provers)
+pub provers-marked : (b : List ℕ) (p : List Bool) {p' : List Bool} → marked p ≡ (λ _. false) → Marks p' (λ v. marked p v || member v (module_of b).provers)
     → marked p' ≡ (λ v. member v (module_of b).provers)
 provers-marked b p c x = x.says ∙ ap (λ (f : ℕ → Bool). λ (v : ℕ). f v || member v (module_of b).provers) c
 
-usages-whole : (b m : List ℕ) {m' m'' : List ℕ} → usage_of m ≡ (λ _. Never) → Uses m' (used_in (module_of b).equations (usage_of m))
+usages-whole : (b : List ℕ) (m : List Usage) {m' m'' : List Usage} → usage_of m ≡ (λ _. Never) → Uses m' (used_in (module_of b).equations (usage_of m))
     → Uses m'' (classified (module_of b).provers (module_of b).definitions (usage_of m')) → usage_of m'' ≡ usage (module_of b)
 unfolding usage
 usages-whole b m c y z = z.says ∙ ap (classified (module_of b).provers (module_of b).definitions) (y.says ∙ ap (used_in (module_of b).equations) c)
 
--- arrays of codes, by what is read from them
-usages-are : (b m : List ℕ) → Codes 2 m → usage_of m ≡ usage (module_of b) → m ≡ usages_of b
-unfolding usages_of usage_of
-usages-are b m c e =
-    table_is 65536 m (λ v. code_of (usage (module_of b) v)) c.long (λ v l. sym (code_at (get_or m v 0) (c.small v)) ∙ ap (λ (f : ℕ → Usage). code_of (f v)) e)
-
-mark-at : (x : ℕ) → x ≤ 1 → x ≡ pick (not (eqb x 0)) 1 0
-unfolding pick
-mark-at zero l = refl
-mark-at (suc zero) l = refl
-mark-at (suc (suc x)) l = absurd (omega arith)
-
-marks-are : (b p : List ℕ) → Codes 1 p → marked p ≡ (λ v. member v (provers_of b)) → p ≡ marks_of b
-unfolding marks_of marked
-marks-are b p c e =
-    table_is 65536 p (λ v. pick (member v (provers_of b)) 1 0) c.long (λ v l. mark-at (get_or p v 0) (c.small v) ∙ ap (λ (f : ℕ → Bool). pick (f v) 1 0) e)
-
-pub classified-whole : {b : List ℕ} (m p : List ℕ) {m' m'' p' p'' : List ℕ} {n : ℕ} → Readable b → m ≡ no_marks → p ≡ no_marks → n ≡ next b →
+pub classified-whole : {b : List ℕ} (m : List Usage) (p : List Bool) {m' m'' : List Usage} {p' p'' : List Bool} {n : ℕ} → Readable b →
+    usage_of m ≡ (λ _. Never) → marked p ≡ (λ _. false) → n ≡ next b →
     Marks p' (λ v. marked p v || member v (module_of b).provers) → Uses m' (used_in (module_of b).equations (usage_of m)) →
     Uses m'' (classified (module_of b).provers (module_of b).definitions (usage_of m')) →
-    Marks p'' (λ w. marked p' w || (ltb w n && is_witness (usage_of m'' w))) → (m'' ≡ usages_of b) × (p'' ≡ marks_of b)
-unfolding provers_of
+    Marks p'' (λ w. marked p' w || (ltb w n && is_witness (usage_of m'' w))) → Classified b m'' p''
 classified-whole {b} m p {m'' = m''} {p'' = p''} {n = n} r k o e x y z w =
-    let u = usages-whole b m (ap usage_of k ∙ none-used) y z in
-    let q = provers-marked b p (ap marked o ∙ none-marked) x in
-    (usages-are b m'' z.codes u, marks-are b p'' w.codes (w.says ∙ fun_ext (λ v. rw (q, u, e) (provers-after r v))))
+    let u = usages-whole b m k y z in
+    let q = provers-marked b p o x in
+    let proved = λ (v : ℕ).
+    ap (λ (f : ℕ → Bool). f v || (ltb v n && is_witness (usage_of m'' v))) q
+    ∙ ap (λ (f : ℕ → Usage). member v (module_of b).provers || (ltb v n && is_witness (f v))) u
+    ∙ rw e (provers-after r v) in
+    record { used = u; proved = w.says ∙ fun_ext proved; usages-long = z.long; provers-long = w.long }
 
 -- ---- no id from the next one on is used
 
@@ -164,36 +153,30 @@ prover-past b v l = ids-without _ v 0 (next b) (λ j h m q. omega arith)
 
 -- ---- what is read from the arrays after classify_defs
 
--- a table of so many numbers, at an index
-table_at : (n : ℕ) (f : ℕ → ℕ) (v : ℕ) → v < n → get_or (rows n 0 f) v 0 ≡ f v
-table_at n f v l = rows_at f n 0 v 0 l ∙ (let z : 0 + v ≡ v = omega arith in ap f z)
+-- a table of so many values, at an index
+table_at : {A : Type 0} (d : A) (n : ℕ) (f : ℕ → A) (v : ℕ) → v < n → get_or (rows n 0 f) v d ≡ f v
+table_at d n f v l = rows_at f n 0 v d l ∙ (let z : 0 + v ≡ v = omega arith in ap f z)
 
-table-past : (n : ℕ) (f : ℕ → ℕ) (v : ℕ) → n ≤ v → get_or (rows n 0 f) v 0 ≡ 0
-table-past n f v l = get_or-eq_default (rows n 0 f) 0 (omega (arith, length-rows f n 0))
-
-marked-pick : (x : Bool) → not (eqb (pick x 1 0) 0) ≡ x
-unfolding pick
-marked-pick true = refl
-marked-pick false = refl
+table-past : {A : Type 0} (d : A) (n : ℕ) (f : ℕ → A) (v : ℕ) → n ≤ v → get_or (rows n 0 f) v d ≡ d
+table-past d n f v l = get_or-eq_default (rows n 0 f) d {n = v} (omega (arith, length-rows f n 0))
 
 module _ {b : List ℕ} (r : Readable b) where
   usages-say : usage_of (usages_of b) ≡ usage (module_of b)
-  unfolding usages_of usage_of usage_at
+  unfolding usages_of
   usages-say = fun_ext (λ v. ⊎_elim
-      (λ (l : v < 65536). ap usage_at (table_at 65536 (λ w. code_of (usage (module_of b) w)) v l) ∙ at_code (usage (module_of b) v))
-      (λ (l : 65536 ≤ v). ap usage_at (table-past 65536 (λ w. code_of (usage (module_of b) w)) v l) ∙ sym (usage-past r v (omega (arith, r.next_small))))
+      (λ (l : v < 65536). table_at Never 65536 (usage (module_of b)) v l)
+      (λ (l : 65536 ≤ v). table-past Never 65536 (usage (module_of b)) v l ∙ sym (usage-past r v (omega (arith, r.next_small))))
       (cases_lt v 65536))
 
   marks-say : marked (marks_of b) ≡ (λ v. member v (classify_defs (module_of b)).provers)
-  unfolding marks_of marked provers_of
+  unfolding marks_of provers_of
   marks-say = fun_ext (λ v. ⊎_elim
-      (λ (l : v < 65536). ap (λ (x : ℕ). not (eqb x 0)) (table_at 65536 (λ w. pick (member w (provers_of b)) 1 0) v l) ∙ marked-pick _)
-      (λ (l : 65536 ≤ v). ap (λ (x : ℕ). not (eqb x 0)) (table-past 65536 (λ w. pick (member w (provers_of b)) 1 0) v l)
-      ∙ sym (prover-past b v (omega (arith, r.next_small))))
+      (λ (l : v < 65536). table_at false 65536 (λ w. member w (provers_of b)) v l)
+      (λ (l : 65536 ≤ v). table-past false 65536 (λ w. member w (provers_of b)) v l ∙ sym (prover-past b v (omega (arith, r.next_small))))
       (cases_lt v 65536))
 
-  -- what the next passes ask of the arrays
-  pub classified-of : {m p : List ℕ} → m ≡ usages_of b → p ≡ marks_of b → Classified b m p
+  -- what the passes know of the arrays
+  pub classified-of : {m : List Usage} {p : List Bool} → m ≡ usages_of b → p ≡ marks_of b → Classified b m p
   unfolding usages_of marks_of
   classified-of e q = record {
     used = ap usage_of e ∙ usages-say;
@@ -202,9 +185,20 @@ module _ {b : List ℕ} (r : Readable b) where
     provers-long = ap length q ∙ length-rows _ 65536 0;
   }
 
+-- ---- the arrays themselves
+
+module _ {b : List ℕ} {m : List Usage} {p : List Bool} (c : Classified b m p) where
+  pub usages-are : m ≡ usages_of b
+  unfolding usages_of
+  usages-are = table_is Never 65536 m (usage (module_of b)) c.usages-long (λ v l. ap (λ (f : ℕ → Usage). f v) c.used)
+
+  pub marks-are : p ≡ marks_of b
+  unfolding marks_of provers_of
+  marks-are = table_is false 65536 p (λ v. member v (provers_of b)) c.provers-long (λ v l. ap (λ (f : ℕ → Bool). f v) c.proved)
+
 -- ---- what the arrays say of the module after classify_defs
 
-module _ {b usages provers : List ℕ} (c : Classified b usages provers) where
+module _ {b : List ℕ} {usages : List Usage} {provers : List Bool} (c : Classified b usages provers) where
   -- its prover ids are the marked ones
   pub classified-provers : (classify_defs (module_of b)).provers ≡ ids_from (marked provers) 0 (next b)
   unfolding classify_defs module_of

@@ -1,175 +1,136 @@
-// classify_defs: how each id is used, and which ids are the prover's. Usages stand in an array by id: 0 never, 1 witness, 2 constraint;
-// prover ids are marked by 1 in another.
+// classify_defs: how each id is used, and which ids are the prover's, in arrays by id.
 #![tactic(auto)]
 
-ghost use Rattle.std.specs.Prelude.{◌≡◌, ◌&&◌, ◌||◌, ◌+◌, ◌<◌, ◌≤◌, eqb, ltb};
+pub mod record;
+
+ghost use Rattle.std.specs.Prelude.{◌≡◌, ◌&&◌, ◌||◌, ◌<◌, ◌≤◌, length, eqb, ltb};
 ghost use Rattle.flat.specs.Meaning.{update};
-ghost use Rattle.flat.specs.Record.{tree, module_of};
-ghost use Rattle.flat.specs.Readable.{Readable, Inside};
+ghost use Rattle.flat.specs.Layout.{nodes};
+ghost use Rattle.flat.specs.Record.{module_of};
 ghost use Rattle.pass_trees.specs.Passes.{member, most, is_never, is_witness, mark_used, used_in, override, classified};
 ghost use Rattle.pass_trees.specs.Passes.{cuttable, cuttable_expr, cuttable_defs, cuttable_equations, counted};
-ghost use Rattle.pass_classify.specs.Arrays.{usage_at, usage_of, code_of, marked, Codes, Uses, Marks, no_marks, usages_of, marks_of, Classified};
+ghost use Rattle.pass_classify.specs.Readable.{tree_of};
+ghost use Rattle.pass_classify.specs.Arrays.{usage_of, marked, Uses, Marks, usages_of, marks_of, Classified, Classified-prop};
 ghost use Rattle.records.specs.FlatRecord.{IDS};
 
 use field::InfixOp;
 use flat::Node;
-use flat::entries::{definition_at, equation_at, prover_at};
+use flat::entries::{DefinitionEntry, EquationEntry};
+pub use pass_trees::Usage;
+use record::Record;
 use records::flat_record::ID_COUNT;
 
-// How an id is used: Usage of the Rust.
-pub const NEVER: u8 = 0;
+type Usages = [Usage; ID_COUNT];
 
-pub const WITNESS: u8 = 1;
+type Provers = [bool; ID_COUNT];
 
-pub const CONSTRAINT: u8 = 2;
-
-pub type Usages = [u8; ID_COUNT];
-
-pub type Provers = [u8; ID_COUNT];
+// A readable record, and after classify_defs how each id is used and whether it is the prover's.
+#[derive(Drop)]
+pub struct Classes<'a> {
+    pub record: Record<'a>,
+    pub usage: Usages,
+    pub provers: Provers,
+    pub ghost classified: { Classified record.bytes.now usage provers } by { Classified-prop },
+}
 
 // Id v is used at least so.
-fn mark(usage: &mut Usages, v: u32, u: u8)
-    requires { (v < IDS) × (u ≤ 2) × Codes 2 usage.old }
-    ensures { Uses usage.new (update (usage_of usage.old) v (most (usage_of usage.old v) (usage_at u))) }
+fn mark(usage: &mut Usages, v: u32, u: Usage)
+    requires { v < IDS }
+    ensures { Uses usage.new (update (usage_of usage.old) v (most (usage_of usage.old v) u)) }
 {
     let i = v as usize;
-    if usage[i] < u {
-        usage[i] = u;
-    }
+    usage[i] = usage[i].max(u);
 }
 
 // Every variable of node k's tree is used at least so. The node index falls at each call.
-fn mark_used(s: &[u8], at: usize, k: usize, u: u8, usage: &mut Usages)
-    requires { Inside s.now at k × (u ≤ 2) × Codes 2 usage.old }
-    ensures { Uses usage.new (mark_used (usage_at u) (tree s.now at (k + 1) k) (usage_of usage.old)) }
+fn mark_used(record: &Record, k: usize, u: Usage, usage: &mut Usages)
+    requires { k < nodes record.now.bytes.now }
+    ensures { Uses usage.new (mark_used u (tree_of record.now.bytes.now k) (usage_of usage.old)) }
 {
-    let node = flat::node_at(s, at, k);
-    match node {
+    match record.node(k) {
         Node::Infix(_, x, y) => {
-            mark_used(s, at, x, u, usage);
-            mark_used(s, at, y, u, usage);
+            mark_used(record, x, u, usage);
+            mark_used(record, y, u, usage);
         }
-        Node::Negate(x) => {
-            mark_used(s, at, x, u, usage);
-        }
+        Node::Negate(x) => mark_used(record, x, u, usage),
         Node::Constant(_) => {}
-        Node::Variable(v) => {
-            mark(usage, v, u);
-        }
+        Node::Variable(v) => mark(usage, v, u),
     }
 }
 
 // The variables of the equations are used in constraints.
-fn mark_equations(s: &[u8], usage: &mut Usages)
-    requires { Readable s.now × Codes 2 usage.old }
-    ensures { Uses usage.new (used_in (module_of s.now).equations (usage_of usage.old)) }
+fn mark_equations(record: &Record, usage: &mut Usages)
+    ensures { Uses usage.new (used_in (module_of record.now.bytes.now).equations (usage_of usage.old)) }
 {
-    let layout = flat::layout_of(s);
-    let n = layout.equations;
-    let equations = layout.equations_at;
-    let at = layout.nodes_at;
-    let mut k = 0usize;
-    while k < n {
-        let e = equation_at(s, equations, k);
-        mark_used(s, at, e.left, CONSTRAINT, usage);
-        mark_used(s, at, e.right, CONSTRAINT, usage);
-        k += 1;
+    for k in 0..record.layout.equations {
+        let e = record.equation(k);
+        mark_used(record, e.left, Usage::Constraint, usage);
+        mark_used(record, e.right, Usage::Constraint, usage);
     }
 }
 
 // How a defined id is used: as a witness where it is used and the prover's.
-fn override_usage(usage: &mut Usages, provers: &Provers, id: usize) -> u8
-    requires { (id < IDS) × Codes 2 usage.old }
-    ensures value { result ≡ code_of (override (marked provers.now id) (usage_of usage.old id)) }
-    ensures uses { Uses usage.new (update (usage_of usage.old) id (usage_at result)) }
+fn override_usage(usage: &mut Usages, provers: &Provers, id: usize) -> Usage
+    requires { id < IDS }
+    ensures value { result ≡ override (marked provers.now id) (usage_of usage.old id) }
+    ensures uses { Uses usage.new (update (usage_of usage.old) id result) }
 {
-    let u = usage[id];
-    if u < CONSTRAINT {
-        return u;
+    if usage[id] == Usage::Constraint && provers[id] {
+        usage[id] = Usage::Witness;
     }
-    if provers[id] == 0 {
-        return CONSTRAINT;
-    }
-    usage[id] = WITNESS;
-    WITNESS
+    usage[id]
 }
 
 // The definitions from the last to the first: each hands its usage on to the variables of its right side.
-fn mark_definitions(s: &[u8], provers: &Provers, usage: &mut Usages)
-    requires { Readable s.now × (Codes 2 usage.old × (marked provers.now ≡ (λ v. member v (module_of s.now).provers))) }
-    ensures { Uses usage.new
-        (classified (module_of s.now).provers (module_of s.now).definitions (usage_of usage.old)) }
+fn mark_definitions(record: &Record, provers: &Provers, usage: &mut Usages)
+    requires { marked provers.now ≡ (λ v. member v (module_of record.now.bytes.now).provers) }
+    ensures { Uses usage.new (classified (module_of record.now.bytes.now).provers
+        (module_of record.now.bytes.now).definitions (usage_of usage.old)) }
 {
-    let layout = flat::layout_of(s);
-    let n = layout.definitions;
-    let definitions = layout.definitions_at;
-    let at = layout.nodes_at;
-    let mut done = 0usize;
-    while done < n {
-        done += 1;
-        let k = n - done;
-        let d = definition_at(s, definitions, k);
-        let id = d.id as usize;
-        let u = override_usage(usage, provers, id);
-        mark_used(s, at, d.node, u, usage);
+    for k in (0..record.layout.definitions).rev() {
+        let d = record.definition(k);
+        let u = override_usage(usage, provers, d.id as usize);
+        mark_used(record, d.node, u, usage);
     }
 }
 
 // The record's prover ids are marked.
-fn mark_provers(s: &[u8], provers: &mut Provers)
-    requires { Readable s.now × Codes 1 provers.old }
-    ensures { Marks provers.new (λ v. marked provers.old v || member v (module_of s.now).provers) }
+fn mark_provers(record: &Record, provers: &mut Provers)
+    ensures { Marks provers.new (λ v. marked provers.old v || member v (module_of record.now.bytes.now).provers) }
 {
-    let layout = flat::layout_of(s);
-    let n = layout.provers;
-    let at = layout.provers_at;
-    let mut k = 0usize;
-    while k < n {
-        let id = prover_at(s, at, k) as usize;
-        provers[id] = 1;
-        k += 1;
-    }
-}
-
-// Id v is the prover's where it is used as a witness.
-fn add_witness(usage: &Usages, provers: &mut Provers, v: usize)
-    requires { (v < IDS) × Codes 1 provers.old }
-    ensures { Marks provers.new (λ w. marked provers.old w || (eqb w v && is_witness (usage_of usage.now w))) }
-{
-    if usage[v] == WITNESS {
-        provers[v] = 1;
+    for k in 0..record.layout.provers {
+        let id = record.prover(k) as usize;
+        provers[id] = true;
     }
 }
 
 // The ids below the next id that are used as a witness are the prover's.
 fn add_witnesses(usage: &Usages, next: usize, provers: &mut Provers)
-    requires { (next ≤ IDS) × Codes 1 provers.old }
+    requires { next ≤ IDS }
     ensures { Marks provers.new (λ w. marked provers.old w || (ltb w next && is_witness (usage_of usage.now w))) }
 {
-    let mut v = 0usize;
-    while v < next {
-        add_witness(usage, provers, v);
-        v += 1;
+    for v in 0..next {
+        provers[v] |= usage[v] == Usage::Witness;
     }
 }
 
-// An array by id in which nothing is marked.
-pub fn no_marks() -> Provers
-    ensures { result ≡ no_marks }
+// Usages and prover ids of a readable record.
+pub fn classify_defs<'a>(record: Record<'a>) -> Classes<'a>
+    ensures { (result.record ≡ record.entry)
+        × (result.usage ≡ usages_of record.entry.bytes.now)
+        × (result.provers ≡ marks_of record.entry.bytes.now) }
 {
-    [0u8; ID_COUNT]
-}
-
-// Usages and prover ids of a readable record, in arrays that are clear at the call.
-pub fn classify_defs(s: &[u8], usage: &mut Usages, provers: &mut Provers)
-    requires { Readable s.now × (usage.old ≡ no_marks) × (provers.old ≡ no_marks) }
-    ensures { (usage.new ≡ usages_of s.now) × (provers.new ≡ marks_of s.now) }
-{
-    mark_provers(s, provers);
-    mark_equations(s, usage);
-    mark_definitions(s, provers, usage);
-    let layout = flat::layout_of(s);
-    add_witnesses(usage, layout.next, provers);
+    let mut usage = [Usage::Never; ID_COUNT];
+    let mut provers = [false; ID_COUNT];
+    mark_provers(&record, &mut provers);
+    mark_equations(&record, &mut usage);
+    mark_definitions(&record, &provers, &mut usage);
+    add_witnesses(&usage, record.layout.next, &mut provers);
+    Classes {
+        record,
+        usage,
+        provers,
+    }
 }
 
 // Neither `^` nor `=`.
@@ -190,99 +151,87 @@ fn cuttable_operator(op: InfixOp) -> bool
 }
 
 // Whether node k's tree has neither `^` nor `=`. The node index falls at each call.
-fn cuttable_expr(s: &[u8], at: usize, k: usize) -> bool
-    requires { Inside s.now at k }
-    ensures { result ≡ cuttable_expr (tree s.now at (k + 1) k) }
+fn cuttable_expr(record: &Record, k: usize) -> bool
+    requires { k < nodes record.now.bytes.now }
+    ensures { result ≡ cuttable_expr (tree_of record.now.bytes.now k) }
 {
-    let node = flat::node_at(s, at, k);
-    match node {
+    match record.node(k) {
         Node::Infix(op, x, y) => {
-            if !cuttable_operator(op) {
-                return false;
-            }
-            if !cuttable_expr(s, at, x) {
-                return false;
-            }
-            cuttable_expr(s, at, y)
+            cuttable_operator(op) && cuttable_expr(record, x) && cuttable_expr(record, y)
         }
-        Node::Negate(x) => cuttable_expr(s, at, x),
+        Node::Negate(x) => cuttable_expr(record, x),
         Node::Constant(_) => true,
         Node::Variable(_) => true,
     }
 }
 
-// Whether no equation has `^` or an inner `=`.
-fn cuttable_equations(s: &[u8]) -> bool
-    requires { Readable s.now }
-    ensures { result ≡ cuttable_equations (module_of s.now).equations }
+fn cuttable_equation(record: &Record, e: EquationEntry) -> bool
+    requires { (e.left < nodes record.now.bytes.now) × (e.right < nodes record.now.bytes.now) }
+    ensures { result ≡ (cuttable_expr (tree_of record.now.bytes.now e.left) && cuttable_expr (tree_of record.now.bytes.now e.right)) }
 {
-    let layout = flat::layout_of(s);
-    let n = layout.equations;
-    let equations = layout.equations_at;
-    let at = layout.nodes_at;
-    let mut k = 0usize;
-    while k < n {
-        let e = equation_at(s, equations, k);
-        if !cuttable_expr(s, at, e.left) {
+    cuttable_expr(record, e.left) && cuttable_expr(record, e.right)
+}
+
+// Whether no equation has `^` or an inner `=`.
+fn cuttable_equations(record: &Record) -> bool
+    ensures { result ≡ cuttable_equations (module_of record.now.bytes.now).equations }
+{
+    for k in 0..record.layout.equations {
+        let e = record.equation(k);
+        if !cuttable_equation(record, e) {
             return false;
         }
-        if !cuttable_expr(s, at, e.right) {
-            return false;
-        }
-        k += 1;
     }
     true
 }
 
+impl Classes<'_> {
+    // Id v is not used.
+    pub fn is_never(&self, v: usize) -> bool
+        requires { v < IDS }
+        ensures { result ≡ is_never (usage_of self.now.usage v) }
+    {
+        let u = self.usage[v];
+        u == Usage::Never
+    }
+
+    // Id v is the prover's.
+    pub fn is_prover(&self, v: usize) -> bool
+        requires { v < IDS }
+        ensures { result ≡ marked self.now.provers v }
+    {
+        self.provers[v]
+    }
+}
+
 // A definition that is not counted need not be cut.
-fn cuttable_def(
-    s: &[u8],
-    at: usize,
-    id: usize,
-    node: usize,
-    usage: &Usages,
-    provers: &Provers,
-) -> bool
-    requires { Inside s.now at node × (id < IDS) }
-    ensures { result ≡ (is_never (usage_of usage.now id) || (marked provers.now id || cuttable_expr (tree s.now at (node + 1) node))) }
+fn cuttable_def(classes: &Classes, d: DefinitionEntry) -> bool
+    requires { (d.id < IDS) × (d.node < nodes classes.now.record.bytes.now) }
+    ensures { result ≡ (is_never (usage_of classes.now.usage d.id) || (marked classes.now.provers d.id
+        || cuttable_expr (tree_of classes.now.record.bytes.now d.node))) }
 {
-    if usage[id] == NEVER {
-        return true;
-    }
-    if provers[id] != 0 {
-        return true;
-    }
-    cuttable_expr(s, at, node)
+    let id = d.id as usize;
+    classes.is_never(id) || classes.is_prover(id) || cuttable_expr(&classes.record, d.node)
 }
 
 // Whether no counted definition has `^` or `=`.
-fn cuttable_defs(s: &[u8], usage: &Usages, provers: &Provers) -> bool
-    requires { Readable s.now × Classified s.now usage.now provers.now }
-    ensures { result ≡ cuttable_defs (counted (module_of s.now)) }
+fn cuttable_defs(classes: &Classes) -> bool
+    ensures { result ≡ cuttable_defs (counted (module_of classes.now.record.bytes.now)) }
 {
-    let layout = flat::layout_of(s);
-    let n = layout.definitions;
-    let definitions = layout.definitions_at;
-    let at = layout.nodes_at;
-    let mut k = 0usize;
-    while k < n {
-        let d = definition_at(s, definitions, k);
-        let id = d.id as usize;
-        if !cuttable_def(s, at, id, d.node, usage, provers) {
+    let record = &classes.record;
+    for k in 0..record.layout.definitions {
+        let d = record.definition(k);
+        if !cuttable_def(classes, d) {
             return false;
         }
-        k += 1;
     }
     true
 }
 
 // Not 22.
-pub fn cuttable(s: &[u8], usage: &Usages, provers: &Provers) -> bool
-    requires { Readable s.now × Classified s.now usage.now provers.now }
-    ensures { result ≡ (cuttable_defs (counted (module_of s.now)) && cuttable_equations (module_of s.now).equations) }
+pub fn cuttable(classes: &Classes) -> bool
+    ensures { result ≡ (cuttable_defs (counted (module_of classes.now.record.bytes.now))
+        && cuttable_equations (module_of classes.now.record.bytes.now).equations) }
 {
-    if !cuttable_defs(s, usage, provers) {
-        return false;
-    }
-    cuttable_equations(s)
+    cuttable_defs(classes) && cuttable_equations(&classes.record)
 }

@@ -8,31 +8,33 @@ use lib.ListN.{length}
 use Rattle.flat.specs.Trees.{Definition}
 use Rattle.flat.specs.Rules.{All}
 use Rattle.flat.specs.Layout.{definitions}
-use Rattle.flat.specs.Record.{definition_at, tree, module_of}
+use Rattle.flat.specs.Record.{definition_at, module_of}
 use Rattle.flat.specs.Readable.{Readable}
 use Rattle.flat.proofs.Wellformed.{rows_all}
 use Rattle.flat.proofs.Reading.{definition-below}
 use Rattle.pass_trees.specs.Passes.{Substitutions, member, keep_if, those, is_never, usage, copy_propagate_expr, substituting, after_def, after_defs}
 use Rattle.pass_trees.proofs.Loops.{those-append}
 use Rattle.pass_classify.specs.Arrays.{provers_of, used_of, counted_of}
-use Rattle.pass_copies.specs.Substituted.{SUBSTITUTION-WORDS, subst_of, put_definition, put_definitions}
-use Rattle.pass_copies.proofs.Signed.{SignedRoot, tree-signed, copy-signed}
+use Rattle.pass_copies.specs.Substituted.{subst_of, put_definition, put_definitions}
+use Rattle.std.specs.Prelude.{Option}
+use Rattle.constraint.specs.declared.Term.{Term}
 use Rattle.pass_copies.proofs.Stored.{put-length, root-says}
 
 -- ---- the length
 
-pub definition-length : (steps : ℕ) (m : List ℕ) (d : Definition) → length (put_definition steps m d) ≡ length m
+pub definition-length : (steps : ℕ) (m : List (Option Term)) (d : Definition) → length (put_definition steps m d) ≡ length m
 unfolding put_definition
 definition-length steps m d = put-length m d.id _
 
-pub definitions-length : (steps : ℕ) (m : List ℕ) (ds : List Definition) → length (put_definitions steps m ds) ≡ length m
+pub definitions-length : (steps : ℕ) (m : List (Option Term)) (ds : List Definition) → length (put_definitions steps m ds) ≡ length m
 unfolding put_definitions
 definitions-length steps m [] = refl
 definitions-length steps m (d ∷ ds) = definitions-length steps (put_definition steps m d) ds ∙ definition-length steps m d
 
 -- ---- a list by its first
 
-pub put-append : (steps : ℕ) (xs ys : List Definition) (m : List ℕ) → put_definitions steps m (xs ++ ys) ≡ put_definitions steps (put_definitions steps m xs) ys
+pub put-append : (steps : ℕ) (xs ys : List Definition) (m : List (Option Term)) →
+    put_definitions steps m (xs ++ ys) ≡ put_definitions steps (put_definitions steps m xs) ys
 unfolding put_definitions
 put-append steps [] ys m = refl
 put-append steps (d ∷ xs) ys m = put-append steps xs ys (put_definition steps m d)
@@ -43,16 +45,16 @@ counted-first b d ds =
     ap (those (λ v. not (member v (provers_of b)))) (those-append (λ v. not (is_never (usage (module_of b) v))) (d ∷ []) ds)
     ∙ those-append (λ v. not (member v (provers_of b))) (those (λ v. not (is_never (usage (module_of b) v))) (d ∷ [])) _
 
-pub put_first : (b : List ℕ) (steps : ℕ) (m : List ℕ) (d : Definition) (ds : List Definition) →
+pub put_first : (b : List ℕ) (steps : ℕ) (m : List (Option Term)) (d : Definition) (ds : List Definition) →
     put_definitions steps m (counted_of b (d ∷ ds)) ≡ put_definitions steps (put_definitions steps m (counted_of b (d ∷ []))) (counted_of b ds)
 put_first b steps m d ds = ap (put_definitions steps m) (counted-first b d ds) ∙ put-append steps (counted_of b (d ∷ [])) (counted_of b ds) m
 
-pub put-none : (b : List ℕ) (steps : ℕ) (m : List ℕ) → put_definitions steps m (counted_of b []) ≡ m
+pub put-none : (b : List ℕ) (steps : ℕ) (m : List (Option Term)) → put_definitions steps m (counted_of b []) ≡ m
 unfolding counted_of used_of those put_definitions
 put-none b steps m = refl
 
 -- one: not used, the prover's, or counted
-module _ (b : List ℕ) (steps : ℕ) (m : List ℕ) (d : Definition) where
+module _ (b : List ℕ) (steps : ℕ) (m : List (Option Term)) (d : Definition) where
   pub put-unused : is_never (usage (module_of b) d.id) ≡ true → m ≡ put_definitions steps m (counted_of b (d ∷ []))
   unfolding counted_of used_of those keep_if put_definitions
   put-unused h = rw h
@@ -68,26 +70,22 @@ module _ (b : List ℕ) (steps : ℕ) (m : List ℕ) (d : Definition) where
 
 -- ---- what it says
 
--- a definition of an id that has its words in the array, as those of a record are
+-- a definition of an id that stands in the array, as those of a record do
 abbrev pub Storable : Definition → Type 0
-Storable d = (d.id < 65536) × SignedRoot d.right
-
-pub storable-tree : (b : List ℕ) (at n k : ℕ) {id : ℕ} → id < 65536 → Storable (record { id = id; right = tree b at n k })
-storable-tree b at n k l = (l, tree-signed b at n k)
+Storable d = d.id < 65536
 
 pub record-storable : {b : List ℕ} → Readable b → All Storable (module_of b).definitions
 unfolding module_of definition_at
-record-storable {b} r = rows_all Storable _ (definitions b) 0
-    (λ k l g. (omega (arith, (definition-below r k (omega arith)).0, r.next_small), tree-signed b _ _ _))
+record-storable {b} r = rows_all Storable _ (definitions b) 0 (λ k l g. omega (arith, (definition-below r k (omega arith)).0, r.next_small))
 
 -- THE ARRAY SAYS the substitutions after the definitions
 module _ (b : List ℕ) (steps : ℕ) where
-  definition-says : (m : List ℕ) (d : Definition) → length m ≡ SUBSTITUTION-WORDS → Storable d →
+  definition-says : (m : List (Option Term)) (d : Definition) → length m ≡ 65536 → Storable d →
       subst_of (put_definition steps m d) ≡ substituting false d.id (copy_propagate_expr steps (subst_of m) d.right) (subst_of m)
   unfolding put_definition
-  definition-says m d l s = root-says m d.id l s.0 _ (copy-signed m steps d.right s.1)
+  definition-says m d l s = root-says m d.id (omega (arith, l)) _
 
-  pub definitions-say : (m : List ℕ) (ds : List Definition) → length m ≡ SUBSTITUTION-WORDS → All Storable ds →
+  pub definitions-say : (m : List (Option Term)) (ds : List Definition) → length m ≡ 65536 → All Storable ds →
       subst_of (put_definitions steps m (counted_of b ds)) ≡ after_defs (provers_of b) steps (subst_of m) (used_of b ds)
   unfolding counted_of used_of those keep_if put_definitions after_defs after_def substituting
   definitions-say m [] l h = refl

@@ -1,98 +1,55 @@
--- What substitutions leave of an expression's shape: of a node by its kind, and what the root says of dead equalities.
--- Assumes nothing.
-use mathlib.Core.Path.{◌≡◌, refl, sym, ap, ◌∙◌}
-use mathlib.Core.List.{List}
+-- What substitutions leave of an expression's shape: what the root says of dead equalities. Assumes nothing.
+use mathlib.Core.Path.{◌≡◌, refl, sym, ap}
 use mathlib.Core.Bool.{Bool, true, false}
-use Prim.Native.Nat.{ℕ, ◌+◌}
+use Prim.Native.Nat.{ℕ}
 use native.Mathlib.Omega.{arith}
-use lib.Dec.{eqb}
-use lib.IntN.{ℤ, pos, negsuc}
-use mir.Val.{SFits, to_z, of_z}
-use mir.ValLaws.{to_z-of_z}
-use mir.Syntax.{w32}
-use mathlib.Core.Logic.{⊎_elim}
-use borrow.Author.Tests.{eq-eqb, ne_eqb}
-use Rattle.field.specs.declared.InfixOp.{InfixOp}
+use lib.IntN.{pos, negsuc}
+use borrow.Author.Tests.{eq-eqb, eqb-true}
+use Rattle.std.specs.Prelude.{Some}
 use Rattle.flat.specs.Trees.{Flat}
-use Rattle.flat.specs.Record.{node_of, tree}
-use Rattle.flat.specs.Readable.{Inside}
-use Rattle.flat.specs.declared.Node.TheVariants.{Infix, Negate, Constant, Variable}
-use Rattle.flat.proofs.Nodes.{tree-infix, tree-negate, tree-constant, tree-variable}
-use Rattle.pass_classify.proofs.Walks.{left-inside, right-inside, child-inside}
-use Rattle.std.proofs.lemmas.Bool.{cases_eq}
 use Rattle.pass_trees.proofs.Lists.{same_number_lem}
 use Rattle.constraint.specs.declared.Term.{Term}
-use Rattle.pass_trees.specs.Passes.{Substitutions, walk, to_expr, copy_propagate_expr, same_number, dead}
-use Rattle.pass_copies.specs.declared.Copied.{Copied}
+use Rattle.pass_trees.specs.Passes.{to_expr, same_number, dead}
 use Rattle.pass_copies.specs.Substituted.{copied_of, same_term, dead_roots}
-
--- ---- a node of a readable record with the substitutions made, by its kind
-
-module _ {b : List ℕ} {at k : ℕ} (i : Inside b at k) (n : ℕ) (s : Substitutions) where
-  pub copy-infix : {o : InfixOp} {x y : ℕ} → node_of b at k ≡ Infix o x y
-      → copy_propagate_expr n s (tree b at (k + 1) k)
-      ≡ Flat.infixed o (copy_propagate_expr n s (tree b at (x + 1) x)) (copy_propagate_expr n s (tree b at (y + 1) y))
-  unfolding copy_propagate_expr
-  copy-infix e = ap (copy_propagate_expr n s) (tree-infix b at k e (left-inside i e).0 (right-inside i e).0)
-
-  pub copy-negate : {x : ℕ} → node_of b at k ≡ Negate x
-      → copy_propagate_expr n s (tree b at (k + 1) k) ≡ Flat.negate (copy_propagate_expr n s (tree b at (x + 1) x))
-  unfolding copy_propagate_expr
-  copy-negate e = ap (copy_propagate_expr n s) (tree-negate b at k e (child-inside i e).0)
-
-  pub copy-constant : {c : ℤ} → node_of b at k ≡ Constant c → copy_propagate_expr n s (tree b at (k + 1) k) ≡ to_expr (Term.Constant c)
-  unfolding copy_propagate_expr to_expr
-  copy-constant e = ap (copy_propagate_expr n s) (tree-constant b at k e)
-
-  pub copy-variable : {v : ℕ} → node_of b at k ≡ Variable v → copy_propagate_expr n s (tree b at (k + 1) k) ≡ to_expr (walk n s (Term.Variable v))
-  unfolding copy_propagate_expr
-  copy-variable e = ap (copy_propagate_expr n s) (tree-variable b at k e)
 
 -- ---- roots
 
-pub root-term : (t : Term) → copied_of (to_expr t) ≡ Copied.Leaf t
+pub root-term : (t : Term) → copied_of (to_expr t) ≡ Some t
 unfolding copied_of to_expr
 root-term (Term.Variable v) = refl
 root-term (Term.Constant c) = refl
 
-pub root-infix : {o : InfixOp} {a c e : Flat} → e ≡ Flat.infixed o a c → copied_of e ≡ Copied.Tree
-unfolding copied_of
-root-infix q = ap copied_of q
-
-pub root-negate : {a e : Flat} → e ≡ Flat.negate a → copied_of e ≡ Copied.Tree
-unfolding copied_of
-root-negate q = ap copied_of q
-
-pub root-leaf : {e : Flat} (t : Term) → e ≡ to_expr t → copied_of e ≡ Copied.Leaf t
-root-leaf t q = ap copied_of q ∙ root-term t
-
--- a leaf is its term, and a tree is none
-pub leaf-is : (e : Flat) (t : Term) → copied_of e ≡ Copied.Leaf t → e ≡ to_expr t
+-- a root that is a term is the whole expression
+pub leaf-is : (e : Flat) (t : Term) → copied_of e ≡ Some t → e ≡ to_expr t
 unfolding copied_of to_expr
 leaf-is (Flat.infixed o a b) t q = let z : ◌≡◌ {A = ℕ} 0 1 = cc in absurd (omega arith)
 leaf-is (Flat.negate a) t q = let z : ◌≡◌ {A = ℕ} 0 1 = cc in absurd (omega arith)
 leaf-is (Flat.constant c) t q = let z : Term.Constant c ≡ t = cc in ap to_expr z
 leaf-is (Flat.variable v) t q = let z : Term.Variable v ≡ t = cc in ap to_expr z
 
-pub tree-is-none : (e : Flat) (t : Term) → copied_of e ≡ Copied.Tree → e ≡ to_expr t → ⊥
-tree-is-none e t q r = let p = root-leaf t r in let z : ◌≡◌ {A = ℕ} 0 1 = cc in omega arith
+-- ---- equal terms
 
--- equal numbers have equal bits
-same-itself : (c : ℤ) → same_number c c ≡ true
-unfolding same_number
-same-itself (pos m) = eq-eqb m m refl
-same-itself (negsuc m) = eq-eqb m m refl
+same-itself : (t : Term) → same_term t t ≡ true
+unfolding same_term same_number
+same-itself (Term.Variable v) = eq-eqb v v refl
+same-itself (Term.Constant (pos m)) = eq-eqb m m refl
+same-itself (Term.Constant (negsuc m)) = eq-eqb m m refl
 
-not_yes : (t : Bool) → (t ≡ true → ⊥) → t ≡ false
-not_yes true h = absurd (h refl)
-not_yes false h = refl
+same-only : (x y : Term) → same_term x y ≡ true → x ≡ y
+unfolding same_term
+same-only (Term.Variable v) (Term.Variable w) h = ap Term.Variable (eqb-true v w h)
+same-only (Term.Variable v) (Term.Constant d) h = cc
+same-only (Term.Constant c) (Term.Variable w) h = cc
+same-only (Term.Constant c) (Term.Constant d) h = ap Term.Constant (same_number_lem c d h)
 
-pub same_bits : (c d : ℤ) → SFits w32 c → SFits w32 d → eqb (of_z w32 c) (of_z w32 d) ≡ same_number c d
-same_bits c d f g = ⊎_elim
-    (λ (e : of_z w32 c ≡ of_z w32 d). let q : c ≡ d = sym (to_z-of_z w32 c f) ∙ ap (to_z w32) e ∙ to_z-of_z w32 d g in
-    eq-eqb _ _ e ∙ sym (same-itself c) ∙ ap (same_number c) q)
-    (λ (n : of_z w32 c ≡ of_z w32 d → ⊥). ne_eqb _ _ n ∙ sym (not_yes (same_number c d) (λ t. n (ap (of_z w32) (same_number_lem c d t)))))
-    (cases_eq (of_z w32 c) (of_z w32 d))
+-- a test that is true just at equal terms
+pub decided : (t : Bool) (x y : Term) → (t ≡ true → x ≡ y) → (t ≡ false → x ≡ y → ⊥) → t ≡ same_term x y
+decided true x y f g = sym (rw (f refl) (same-itself y))
+decided false x y f g = other (same_term x y) refl
+  where
+    other : (s : Bool) → same_term x y ≡ s → false ≡ same_term x y
+    other true e = absurd (g refl (same-only x y e))
+    other false e = sym e
 
 -- dead equalities, by the roots
 pub dead-by-roots : (x y : Flat) → dead x y ≡ dead_roots (copied_of x) (copied_of y)

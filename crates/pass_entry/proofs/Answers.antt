@@ -8,11 +8,11 @@ use native.Mathlib.Omega.{arith}
 use lib.ListN.{length, length-replicate}
 use lib.Dec.{leb}
 use borrow.Author.Tests.{le-leb, lt-leb}
-use Rattle.std.proofs.Common.{Ok, Err}
+use Rattle.std.specs.Prelude.{Result, Ok, Err}
 use Rattle.records.specs.declared.refusals.Refusal.{Refusal}
 use Rattle.records.specs.Refusals.{refusal_number}
 use Rattle.flat.specs.Trees.{FlatModule, module_nodes}
-use Rattle.flat.specs.Layout.{next, publics, definitions, equations, definitions_offset, equations_offset, nodes_offset, layout_of}
+use Rattle.flat.specs.Layout.{publics, layout_of}
 use Rattle.flat.specs.Record.{pick, module_of, flat_of, checked}
 use Rattle.flat.specs.declared.Layout.{Layout}
 use Rattle.flat.specs.Readable.{Readable}
@@ -26,8 +26,7 @@ use Rattle.pass_entry.specs.declared.Answer.{Answer}
 use Rattle.pass_entry.specs.declared.Answer.TheVariants.{Refused}
 use Rattle.pass_entry.specs.declared.Need.{Need}
 use Rattle.pass_entry.specs.declared.body.Built.{Built}
-use Rattle.pass_entry.specs.declared.body.Passed.{Passed}
-use Rattle.pass_entry.specs.Body.{BODY-BYTES, LIST-BYTES, no_body, no_list, built_of, put_body, put_list, passed_of, body_after, list_after}
+use Rattle.pass_entry.specs.Body.{BODY-BYTES, LIST-BYTES, no_body, no_list, built_of, put_body, put_list, numbered, passed_of, body_after, list_after}
 use Rattle.pass_entry.specs.Cut.{cut_read, cut_record, answer_for, output_for, need_of}
 
 -- an outcome that is known answers and leaves what it says
@@ -64,19 +63,28 @@ unfolding cut_of unless
 is-cuttable f t e h = rw (← e, h)
 
 -- what the passes left, by the tests of 22 and 32
-left-made : (t u : Bool) (c : ConstraintModule) {x : Built} → Passed.Made x ≡ passed_of (unless t 22 (unless u 32 (cut c))) →
+left-made : (t u : Bool) (c : ConstraintModule) {x : Built} → Ok x ≡ passed_of (unless t 22 (unless u 32 (cut c))) →
     (t ≡ true) × (unless t 22 (unless u 32 (cut c)) ≡ cut c) × (x ≡ built_of c)
 unfolding unless passed_of
 left-made true true c {x} e = let z : x ≡ built_of c = cc in (refl, refl, z)
 left-made true false c e = let z : ◌≡◌ {A = ℕ} 0 1 = cc in absurd (omega arith)
 left-made false u c e = let z : ◌≡◌ {A = ℕ} 0 1 = cc in absurd (omega arith)
 
-pub left-refused : (o : Outcome) {n : ℕ} → Passed.Refused n ≡ passed_of o → o ≡ refused n
+left-number : (o : Outcome) {n : ℕ} → Err n ≡ passed_of o → o ≡ refused n
 unfolding passed_of
-left-refused (cut c) e = let z : ◌≡◌ {A = ℕ} 0 1 = cc in absurd (omega arith)
-left-refused (refused m) {n} e = let z : m ≡ n = cc in ap (λ (k : ℕ). refused k) z
+left-number (cut c) e = let z : ◌≡◌ {A = ℕ} 0 1 = cc in absurd (omega arith)
+left-number (refused m) {n} e = let z : m ≡ n = cc in ap (λ (k : ℕ). refused k) z
 
-module _ (f : FlatModule) {x : Built} (e : Passed.Made x ≡ passed_of (cut_of f)) where
+-- an answer of the passes, by its case
+pub answer-made : {a : Result Built Refusal} (x : Built) → a ≡ Ok x → Ok x ≡ numbered a
+unfolding numbered
+answer-made x e = sym (ap numbered e)
+
+pub left-refused : (o : Outcome) {a : Result Built Refusal} (r : Refusal) → a ≡ Err r → numbered a ≡ passed_of o → o ≡ refused (refusal_number r)
+unfolding numbered
+left-refused o r e h = left-number o (sym (ap numbered e) ∙ h)
+
+module _ (f : FlatModule) {x : Built} (e : Ok x ≡ passed_of (cut_of f)) where
   left-all : (cuttable_defs (counted f) && cuttable_equations f.equations ≡ true) × (cut_of f ≡ cut (passes f)) × (x ≡ built_of (passes f))
   unfolding cut_of fitting
   left-all = left-made (cuttable_defs (counted f) && cuttable_equations f.equations) (leb (passes f).next 65536) (passes f) e
@@ -96,12 +104,12 @@ module _ (f : FlatModule) {x : Built} (e : Passed.Made x ≡ passed_of (cut_of f
   made_list list = rw left-all.0
 
 -- the answer of the passes and their lists
-abbrev Passes : FlatModule → List ℕ → List ℕ → List ℕ → List ℕ → Passed → Type 0
-Passes f body body' list list' r = (r ≡ passed_of (cut_of f)) × ((body' ≡ body_after body f) × (list' ≡ list_after list f))
+abbrev Passes : FlatModule → List ℕ → List ℕ → List ℕ → List ℕ → Result Built Refusal → Type 0
+Passes f body body' list list' r = (numbered r ≡ passed_of (cut_of f)) × ((body' ≡ body_after body f) × (list' ≡ list_after list f))
 
 module _ (f : FlatModule) (body list : List ℕ) {t : Bool} (e : t ≡ (cuttable_defs (counted f) && cuttable_equations f.equations)) where
-  pub passes-22 : t ≡ false → Passes f body body list list (Passed.Refused 22)
-  unfolding passed_of body_after list_after pick
+  pub passes-22 : t ≡ false → Passes f body body list list (Err Refusal.Uncuttable)
+  unfolding numbered passed_of body_after list_after pick
   passes-22 h = (ap passed_of (sym (not-cuttable f t e h)), (rw (← e, h), rw (← e, h)))
 
   module _ {body' list' : List ℕ} {x : Built} (h : t ≡ true) (n : x ≡ built_of (passes f)) (p : body' ≡ put_body body (passes f))
@@ -114,13 +122,13 @@ module _ (f : FlatModule) (body list : List ℕ) {t : Bool} (e : t ≡ (cuttable
     unfolding built_of
     next-is = ap (λ (y : Built). y.next) n
 
-    pub passes-32 : 65536 < x.next → Passes f body body' list list' (Passed.Refused 32)
-    unfolding passed_of
+    pub passes-32 : 65536 < x.next → Passes f body body' list list' (Err Refusal.Ids)
+    unfolding numbered passed_of
     passes-32 l = (ap passed_of (sym (is-cuttable f t e h ∙ past-ids (passes f) (omega (arith, next-is)))), lists-after)
 
-    pub passes-made : x.next ≤ 65536 → Passes f body body' list list' (Passed.Made x)
-    unfolding passed_of
-    passes-made l = (ap Passed.Made n ∙ ap passed_of (sym (is-cuttable f t e h ∙ within-ids (passes f) (omega (arith, next-is)))), lists-after)
+    pub passes-made : x.next ≤ 65536 → Passes f body body' list list' (Ok x)
+    unfolding numbered passed_of
+    passes-made l = (ap Ok n ∙ ap passed_of (sym (is-cuttable f t e h ∙ within-ids (passes f) (omega (arith, next-is)))), lists-after)
 
 -- 20 and 21
 pub record-refused : (b : List ℕ) (r : Refusal) → checked (flat_of b) ≡ Err r → cut_record b ≡ refused (refusal_number r)
@@ -142,36 +150,6 @@ record-passable b e = (checked-readable b e, record-small b e)
 pub passes-publics : (b : List ℕ) {l : Layout} → l ≡ layout_of b → l.publics ≡ length (passes (module_of b)).publics
 unfolding layout_of passes flatten_module_to_3ac eliminate_dead_equalities copy_propagate classify_defs module_of
 passes-publics b e = ap (λ (x : Layout). x.publics) e ∙ sym (length-rows _ (publics b) 0)
-
--- the layout's fields
-module _ (b : List ℕ) {l : Layout} (e : l ≡ layout_of b) where
-  pub layout-next : l.next ≡ next b
-  unfolding layout_of
-  layout-next = ap (λ (x : Layout). x.next) e
-
-  pub layout-publics : l.publics ≡ publics b
-  unfolding layout_of
-  layout-publics = ap (λ (x : Layout). x.publics) e
-
-  pub layout-definitions : l.definitions ≡ definitions b
-  unfolding layout_of
-  layout-definitions = ap (λ (x : Layout). x.definitions) e
-
-  pub layout-definitions-at : l.definitions_at ≡ definitions_offset b
-  unfolding layout_of
-  layout-definitions-at = ap (λ (x : Layout). x.definitions_at) e
-
-  pub layout-equations : l.equations ≡ equations b
-  unfolding layout_of
-  layout-equations = ap (λ (x : Layout). x.equations) e
-
-  pub layout-equations-at : l.equations_at ≡ equations_offset b
-  unfolding layout_of
-  layout-equations-at = ap (λ (x : Layout). x.equations_at) e
-
-  pub layout-nodes-at : l.nodes_at ≡ nodes_offset b
-  unfolding layout_of
-  layout-nodes-at = ap (λ (x : Layout). x.nodes_at) e
 
 -- the port's own lists
 pub body-size : {m : List ℕ} → m ≡ no_body → length m ≡ BODY-BYTES

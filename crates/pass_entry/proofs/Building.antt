@@ -6,7 +6,7 @@ use mathlib.Core.List.{List, [], ◌∷◌, ◌++◌, append_assoc}
 use mathlib.Core.Bool.{Bool, true, false, not}
 use mathlib.Core.Option.{none}
 use native.Mathlib.Omega.{arith}
-use lib.ListN.{length, replicate, length-replicate, length-append}
+use lib.ListN.{length, length-append}
 use Rattle.words.specs.Words.{set_words}
 use Rattle.words.proofs.Laws.{set_words-append, length-set_words}
 use Rattle.flat.specs.Trees.{Definition, tree_nodes, definitions_nodes, equations_nodes, module_nodes}
@@ -28,9 +28,12 @@ use Rattle.pass_3ac.proofs.Joining.{Puts, Few, place_at, place-next}
 use Rattle.pass_3ac.proofs.Definitions.{few-defs}
 use Rattle.pass_3ac.proofs.Equations.{few-equations}
 use Rattle.pass_3ac.proofs.Trees.{copied-nodes}
-use Rattle.pass_copies.specs.Substituted.{SUBSTITUTION-WORDS, subst_of, no_substitutions, put_definitions}
-use Rattle.pass_copies.proofs.Stored.{none_is, none-length, cleared-all}
-use Rattle.pass_copies.proofs.After.{definitions-length, record-storable, definitions-say}
+use Rattle.std.specs.Prelude.{Option}
+use Rattle.constraint.specs.declared.Term.{Term}
+use Rattle.pass_trees.specs.declared.Usage.{Usage}
+use Rattle.pass_copies.specs.Substituted.{subst_of, no_substitutions, put_definitions}
+use Rattle.pass_copies.proofs.Stored.{none_is, none-length}
+use Rattle.pass_copies.proofs.After.{record-storable, definitions-say}
 use Rattle.pass_keep.specs.declared.Kept.{Kept}
 use Rattle.pass_keep.specs.Keeping.{kept_of, put_kept, put_nodes, kept_from, NodeRoom, WordRoom}
 use Rattle.pass_entry.specs.declared.body.Built.{Built}
@@ -88,22 +91,22 @@ ids-few t a (suc n) = kept-few (t a) a (ids_from t (suc a) n) (ids-few t (suc a)
 -- ---- the pieces, in the order of the code
 
 -- what was written before the equalities
-pub record Lists (b provers body body2 : List ℕ) (start : ℕ) : Type 0 where
+pub record Lists (b : List ℕ) (provers : List Bool) (body body2 : List ℕ) (start : ℕ) : Type 0 where
   pub written : body2 ≡ set_words body 0 ((module_of b).publics ++ ids_from (marked provers) 0 (next b))
   pub place : start ≡ publics b + length (ids_from (marked provers) 0 (next b))
 
-pub lists-made : (b provers body : List ℕ) {body1 body2 : List ℕ} {n m start : ℕ}
-    → n ≡ publics b → m ≡ next b → body1 ≡ set_words body 0 (rows n 0 (public_at b))
-    → (body2 ≡ set_words body1 n (ids_from (marked provers) 0 m)) × (start ≡ n + length (ids_from (marked provers) 0 m)) → Lists b provers body body2 start
+pub lists-made : (b : List ℕ) (provers : List Bool) (body : List ℕ) {body1 body2 : List ℕ} {n start : ℕ} → n ≡ publics b →
+    body1 ≡ set_words body 0 (module_of b).publics →
+    (body2 ≡ set_words body1 n (ids_from (marked provers) 0 (next b))) × (start ≡ n + length (ids_from (marked provers) 0 (next b))) →
+    Lists b provers body body2 start
 unfolding module_of
-lists-made b provers body {body1 = body1} {n = n} {m = m} e f g h =
+lists-made b provers body {body1 = body1} e g h =
     record {
       written =
-          behind (rows (publics b) 0 (public_at b)) (ids_from (marked provers) 0 (next b)) body 0 (publics b)
-          (g ∙ ap (λ (x : ℕ). set_words body 0 (rows x 0 (public_at b))) e)
+          behind (rows (publics b) 0 (public_at b)) (ids_from (marked provers) 0 (next b)) body 0 (publics b) g
           (omega (arith, length-rows (public_at b) (publics b) 0))
-          (h.0 ∙ ap₂ (λ (x y : ℕ). set_words body1 x (ids_from (marked provers) 0 y)) e f);
-      place = h.1 ∙ ap₂ (λ (x y : ℕ). x + length (ids_from (marked provers) 0 y)) e f;
+          (h.0 ∙ ap (λ (x : ℕ). set_words body1 x (ids_from (marked provers) 0 (next b))) e);
+      place = h.1 ∙ ap (λ (x : ℕ). x + length (ids_from (marked provers) 0 (next b))) e;
     }
 
 -- ---- kept definitions are no more, and have no more nodes, than the record's
@@ -161,13 +164,13 @@ unfolding module_of
 definitions-count b = length-rows _ (definitions b) 0
 
 -- what flatten_defs leaves, in the order of its promises
-abbrev pub DefsLeave : List ℕ → ℕ → List ℕ → List ℕ → List ℕ → List ℕ → ℕ → ℕ → Place → Type 0
+abbrev pub DefsLeave : List ℕ → ℕ → List (Option Term) → List (Option Term) → List ℕ → List ℕ → ℕ → ℕ → Place → Type 0
 DefsLeave b k m m' c c' at n r =
     (c' ≡ put_equalities c at (defs_cut b k (subst_of m) (module_of b).definitions n).equalities)
     × ((r ≡ place_from at (defs_cut b k (subst_of m) (module_of b).definitions n)) × (m' ≡ put_definitions k m (counted (module_of b))))
 
 -- what keep_defs leaves of the body, of the list and as its answer
-abbrev pub KeptLeave : List ℕ → ℕ → ℕ → List ℕ → List ℕ → List ℕ → List ℕ → List ℕ → List ℕ → Kept → Type 0
+abbrev pub KeptLeave : List ℕ → ℕ → ℕ → List (Option Term) → List (Option Term) → List ℕ → List ℕ → List ℕ → List ℕ → Kept → Type 0
 KeptLeave b k at m m' body body' list list' o =
     (body' ≡ put_kept body at 0 (kept_of b k (subst_of m) (module_of b).definitions))
     × ((list' ≡ put_nodes list 0 (kept_of b k (subst_of m) (module_of b).definitions))
@@ -175,8 +178,8 @@ KeptLeave b k at m m' body body' list list' o =
 
 -- ---- the rooms that the calls ask for
 
-module _ {b us ps : List ℕ} (r : Readable b) (c : Classified b us ps) (few : module_nodes (module_of b) ≤ 16384) {body body2 : List ℕ}
-    (long : length body ≡ BODY-BYTES) {start : ℕ} (l : Lists b ps body body2 start) (k : ℕ) where
+module _ {b : List ℕ} {us : List Usage} {ps : List Bool} (r : Readable b) (c : Classified b us ps) (few : module_nodes (module_of b) ≤ 16384)
+    {body body2 : List ℕ} (long : length body ≡ BODY-BYTES) {start : ℕ} (l : Lists b ps body body2 start) (k : ℕ) where
   first-long : length body2 ≡ BODY-BYTES
   first-long = ap length l.written ∙ length-set_words ((module_of b).publics ++ ids_from (marked ps) 0 (next b)) body 0 ∙ long
 
@@ -191,7 +194,7 @@ module _ {b us ps : List ℕ} (r : Readable b) (c : Classified b us ps) (few : m
   room-definitions n e = record { words = omega (arith, first-long, start_small, nodes-few); ids = omega (arith, nodes-few, r.next_small) }
 
   -- after the definitions, which left the body body3 and the place p
-  module _ (n : ℕ) (en : n ≡ next b) (m0 m1 : List ℕ) (z : m0 ≡ no_substitutions) (body3 : List ℕ) (p : Place)
+  module _ (n : ℕ) (en : n ≡ next b) (m0 m1 : List (Option Term)) (z : m0 ≡ no_substitutions) (body3 : List ℕ) (p : Place)
       (d : DefsLeave b k m0 m1 body2 body3 start n p) where
     none-say : subst_of m0 ≡ none_yet b k
     none-say = ap subst_of z ∙ none_is
@@ -201,15 +204,8 @@ module _ {b us ps : List ℕ} (r : Readable b) (c : Classified b us ps) (few : m
     unfolding module_of
     definitions-are = ap₂ (λ (x : Substitutions) (y : ℕ). defs_cut b k x (module_of b).definitions y) none-say en
 
-    first-words : length m0 ≡ SUBSTITUTION-WORDS
+    first-words : length m0 ≡ 65536
     first-words = ap length z ∙ none-length
-
-    -- an array of substitutions still has its words
-    pub second-words : length m1 ≡ SUBSTITUTION-WORDS
-    second-words = ap length d.1.1 ∙ definitions-length k m0 (counted (module_of b)) ∙ first-words
-
-    pub cleared-words : (m2 : List ℕ) → m2 ≡ replicate (length m1) 0 → length m2 ≡ SUBSTITUTION-WORDS
-    cleared-words m2 e = ap length e ∙ length-replicate {A = ℕ} (length m1) 0 ∙ second-words
 
     substitutions-are : subst_of m1 ≡ defs_after b k (none_yet b k) (module_of b).definitions
     unfolding defs_after counted counted_of used_of provers_of classify_defs
@@ -268,16 +264,17 @@ module _ {b us ps : List ℕ} (r : Readable b) (c : Classified b us ps) (few : m
       third-small : q.at ≤ PUBLICS + IDS + EQUALITY-WORDS * NODES
       third-small = omega (arith, third-place, second-place, second-few.equalities, third-few.equalities, start_small, nodes-few)
 
-      pub room-of-kept : {count : ℕ} → count ≡ definitions b → WordRoom count q.at body4
-      room-of-kept f = record { long = omega (arith, third-long, third-small, r.definitions-few) }
+      pub room-of-kept : WordRoom (definitions b) q.at body4
+      room-of-kept = record { long = omega (arith, third-long, third-small, r.definitions-few) }
 
       pub room-of-nodes : {list : List ℕ} → length list ≡ LIST-BYTES → NodeRoom (definitions_nodes (module_of b).definitions) 0 list
       room-of-nodes g = record { long = omega (arith, nodes-few); few = omega (arith, nodes-few) }
 
       -- after the kept definitions, worked out again from no substitutions
-      module _ (body5 list list1 m2 m3 : List ℕ) (y : m2 ≡ replicate (length m1) 0) (o : Kept) (w : KeptLeave b k q.at m2 m3 body4 body5 list list1 o) where
+      module _ (body5 list list1 : List ℕ) (m2 m3 : List (Option Term)) (y : m2 ≡ no_substitutions) (o : Kept)
+          (w : KeptLeave b k q.at m2 m3 body4 body5 list list1 o) where
         kept-are : kept_of b k (subst_of m2) (module_of b).definitions ≡ kept_definitions b k
-        kept-are = ap (λ (x : Substitutions). kept_of b k x (module_of b).definitions) (ap subst_of (cleared-all m1 second-words y) ∙ none_is)
+        kept-are = ap (λ (x : Substitutions). kept_of b k x (module_of b).definitions) (ap subst_of y ∙ none_is)
 
         fourth-written : body5 ≡ set_words body4 q.at (definitions_words 0 (kept_definitions b k))
         unfolding put_kept
@@ -335,9 +332,6 @@ module _ {b us ps : List ℕ} (r : Readable b) (c : Classified b us ps) (few : m
             s3 ∙ ap (set_words body 0)
             (z1 ∙ ap (λ (x : List ℕ). P ++ (Q ++ (x ++ K))) (sym (equalities-append (cut_definitions b k).equalities (cut_equations b k).equalities)))
 
-        pub body_same : length body5 ≡ length body
-        body_same = ap length body-written ∙ length-set_words (body_words (parts b k)) body 0
-
         both_long : length ((cut_definitions b k).equalities ++ (cut_equations b k).equalities)
             ≡ length (cut_definitions b k).equalities + length (cut_equations b k).equalities
         both_long = length-append (cut_definitions b k).equalities (cut_equations b k).equalities
@@ -350,5 +344,6 @@ module _ {b us ps : List ℕ} (r : Readable b) (c : Classified b us ps) (few : m
             let e : q.at ≡ length (module_of b).publics + length (provers_of b) + EQUALITY-WORDS * length
             ((cut_definitions b k).equalities ++ (cut_equations b k).equalities) = omega (arith, third-place, second-place, start_is, both_long) in
             let f : o.at ≡ length (module_of b).publics + length (provers_of b) + EQUALITY-WORDS * length
-            ((cut_definitions b k).equalities ++ (cut_equations b k).equalities) + KEPT-WORDS * length (kept_definitions b k) = omega (arith, fourth-place, e) in
+            ((cut_definitions b k).equalities ++ (cut_equations b k).equalities) + KEPT-WORDS * length (kept_definitions b k) =
+            omega (arith, fourth-place, e) in
             (built-same third-next start_is e f list-place, (body-written, list_written))

@@ -5,8 +5,7 @@ use mathlib.Core.Path.{◌≡◌, refl, sym, ap, ◌∙◌}
 use mathlib.Core.List.{List, [], ◌∷◌, ◌++◌}
 use mathlib.Core.Bool.{Bool, true, false}
 use native.Mathlib.Omega.{arith}
-use lib.ListN.{length, length-append, get_or}
-use borrow.Author.Tests.{eq-eqb, ne_eqb}
+use lib.ListN.{length, length-append}
 use Rattle.words.specs.Words.{set_word, set_words}
 use Rattle.words.proofs.Laws.{set_words-append}
 use Rattle.flat.specs.Record.{rows}
@@ -30,7 +29,9 @@ rows_none n k f l = let z : n - k ≡ 0 = omega arith in ap (λ (m : ℕ). rows 
 pub row-turn : {r : List ℕ} (b : List ℕ) (n k : ℕ) (f : ℕ → ℕ) (w : ℕ) → k < n → w ≡ f k → set_words b k (rows (n - k) k f) ≡ r
     → set_words (set_word b k w) (k + 1) (rows (n - (k + 1)) (k + 1) f) ≡ r
 unfolding set_words
-row-turn b n k f w l e h = ap (λ (x : ℕ). set_words (set_word b k x) (k + 1) (rows (n - (k + 1)) (k + 1) f)) e ∙ sym (ap (set_words b k) (rows_next n k f l)) ∙ h
+row-turn b n k f w l e h =
+    ap (λ (x : ℕ). set_words (set_word b k x) (k + 1) (rows (n - (k + 1)) (k + 1) f)) e
+    ∙ sym (ap (set_words b k) (rows_next n k f l)) ∙ h
 
 pub row-end : {r : List ℕ} (b : List ℕ) (n k : ℕ) (f : ℕ → ℕ) → n ≤ k → set_words b k (rows (n - k) k f) ≡ r → b ≡ r
 unfolding set_words
@@ -47,13 +48,11 @@ one_left : (t : ℕ → Bool) (v : ℕ) → t v ≡ false → ids_from t v 1 ≡
 unfolding ids_from keep_if
 one_left t v e = rw e
 
-pub id-kept : (m : List ℕ) (v : ℕ) → (get_or m v 0 ≡ 0 → ⊥) → ids_from (marked m) v 1 ≡ v ∷ []
-unfolding marked
-id-kept m v h = one_kept (marked m) v (rw (ne_eqb (get_or m v 0) 0 h))
+pub id-kept : (m : List Bool) (v : ℕ) → marked m v ≡ true → ids_from (marked m) v 1 ≡ v ∷ []
+id-kept m v h = one_kept (marked m) v h
 
-pub id_left : (m : List ℕ) (v : ℕ) → get_or m v 0 ≡ 0 → ids_from (marked m) v 1 ≡ []
-unfolding marked
-id_left m v h = one_left (marked m) v (rw (eq-eqb (get_or m v 0) 0 h))
+pub id_left : (m : List Bool) (v : ℕ) → marked m v ≡ false → ids_from (marked m) v 1 ≡ []
+id_left m v h = one_left (marked m) v h
 
 pub left-written : (b : List ℕ) (at : ℕ) (ws : List ℕ) → ws ≡ [] → (b ≡ set_words b at ws) × (at ≡ at + length ws)
 unfolding set_words

@@ -1,5 +1,5 @@
 -- The port's own lists, in which a constraint record is made before its length is known: the body without the header and the nodes, and the nodes.
-use Rattle.std.specs.Prelude.{ℕ, ◌+◌, ◌*◌, ◌≤◌, ◌≡◌, List, ◌++◌, ◌&&◌, length, take, replicate}
+use Rattle.std.specs.Prelude.{ℕ, ◌+◌, ◌*◌, ◌≤◌, ◌≡◌, List, ◌++◌, ◌&&◌, length, take, replicate, Result, Ok, Err}
 use Rattle.words.specs.Words.{bytes_of, set_words}
 use Rattle.constraint.specs.Trees.{ConstraintModule}
 use Rattle.flat.specs.Trees.{FlatModule, definitions_nodes}
@@ -7,7 +7,8 @@ use Rattle.flat.specs.Record.{pick}
 use Rattle.pass_trees.specs.Passes.{Outcome, cut, refused, passes, counted, cuttable_defs, cuttable_equations}
 use Rattle.constraint.specs.Record.{EQUALITY-WORDS, KEPT-WORDS, equalities_words, definitions_words, definitions_trees}
 use Rattle.pass_entry.specs.declared.body.Built.{Built}
-use Rattle.pass_entry.specs.declared.body.Passed.{Passed}
+use Rattle.records.specs.declared.refusals.Refusal.{Refusal}
+use Rattle.records.specs.Refusals.{refusal_number}
 use Rattle.records.specs.FlatRecord.{HEADER, IDS, LISTED, NODES, PUBLICS}
 use Rattle.records.specs.Kinds.{NODE-WORDS}
 
@@ -50,10 +51,15 @@ put_body body c = set_words body 0 (body_words c)
 unfoldable pub put_list : List ℕ → ConstraintModule → List ℕ
 put_list list c = set_words list 0 (definitions_trees 0 c.kept)
 
--- what the passes leave of a flat module: the numbers where it is cut, else the refusal; and the lists, which stay untouched at 22
-unfoldable pub passed_of : Outcome → Passed
-passed_of (cut c) = Passed.Made (built_of c)
-passed_of (refused n) = Passed.Refused n
+-- an answer with its refusal's number
+unfoldable pub numbered : Result Built Refusal → Result Built ℕ
+numbered (Ok x) = Ok x
+numbered (Err r) = Err (refusal_number r)
+
+-- what the passes leave of a flat module: the numbers where it is cut, else the refusal's; and the lists, which stay untouched at 22
+unfoldable pub passed_of : Outcome → Result Built ℕ
+passed_of (cut c) = Ok (built_of c)
+passed_of (refused n) = Err n
 
 unfoldable pub body_after : List ℕ → FlatModule → List ℕ
 body_after body f = pick (cuttable_defs (counted f) && cuttable_equations f.equations) (put_body body (passes f)) body

@@ -16,12 +16,13 @@ ghost use Rattle.pass_entry.specs.Body.{BODY-WORDS, Made, Fitting};
 ghost use Rattle.pass_entry.specs.Cut.{cut_record, answer_for, output_for, need_of};
 ghost use Rattle.records.specs.FlatRecord.{NODES};
 
-use body::{Built, Passed, run_passes};
+use body::{Built, run_passes};
 use constraint::{EQUALITY_WORDS, HEADER, KEPT_WORDS};
 use flat::entries::put_header;
 pub use lists::OUTPUT_BYTES;
 use lists::{copy_to, no_body, no_list};
 use records::NODE_WORDS;
+use records::refusals::Refusal;
 
 const HEADER_BYTES: usize = 4 * HEADER;
 
@@ -69,7 +70,7 @@ fn deliver(built: Built, publics: usize, body: &[u8], list: &[u8], out: &mut [u8
     let nodes = built.nodes;
     let size = bytes_of(built);
     if out.len() < size {
-        return Answer::Refused(33);
+        return Answer::Refused(Refusal::Output.number());
     }
     put_header(
         out,
@@ -96,8 +97,8 @@ pub fn passes(s: &[u8], out: &mut [u8]) -> Answer
     let mut body = no_body();
     let mut list = no_list();
     match run_passes(s, &mut body, &mut list) {
-        Passed::Refused(n) => Answer::Refused(n),
-        Passed::Made(built) => deliver(built, publics, &body, &list, out),
+        Err(r) => Answer::Refused(r.number()),
+        Ok(built) => deliver(built, publics, &body, &list, out),
     }
 }
 
@@ -109,8 +110,8 @@ fn measure_readable(s: &[u8]) -> Need
     let mut body = no_body();
     let mut list = no_list();
     match run_passes(s, &mut body, &mut list) {
-        Passed::Refused(n) => Need::Refused(n),
-        Passed::Made(built) => {
+        Err(r) => Need::Refused(r.number()),
+        Ok(built) => {
             let equalities = equalities_of(built);
             let bytes = bytes_of(built);
             Need::Fits(equalities, bytes)

@@ -1,17 +1,19 @@
 -- One definition: it is not used, or its id is not the prover's, or it is kept. Assumes nothing.
 use mathlib.Core.Path.{◌≡◌, refl, sym, ap, ap₂, ◌∙◌}
 use mathlib.Core.List.{List, [], ◌∷◌, ◌++◌, append-nil}
-use mathlib.Core.Bool.{Bool, true, false, not}
-use Prim.Native.Nat.{ℕ, zero, suc, ◌+◌, ◌-◌, ◌*◌, ◌≤◌, ◌<◌}
+use mathlib.Core.Bool.{Bool, true, false}
+use Prim.Native.Nat.{ℕ, ◌+◌, ◌-◌, ◌*◌, ◌≤◌, ◌<◌}
 use native.Mathlib.Omega.{arith}
-use lib.ListN.{length, get_or}
-use borrow.Author.Tests.{eq-eqb, ne_eqb}
+use lib.ListN.{length}
 use Rattle.words.specs.Words.{set_words}
 use Rattle.flat.specs.Trees.{Flat, Definition, tree_nodes, definitions_nodes}
 use Rattle.flat.specs.Record.{module_of}
 use Rattle.constraint.specs.Record.{KEPT-WORDS, root_from, next_from, definition_words, definitions_words, definitions_trees, nodes_from}
 use Rattle.pass_trees.specs.Passes.{member, keep_if, those, is_never, usage, Substitutions, copy_propagate_expr, copy_propagate_def, copy_propagate_defs}
-use Rattle.pass_classify.specs.Arrays.{usage_at, usage_of, marked, Classified}
+use Rattle.std.specs.Prelude.{Option}
+use Rattle.constraint.specs.declared.Term.{Term}
+use Rattle.pass_trees.specs.declared.Usage.{Usage}
+use Rattle.pass_classify.specs.Arrays.{usage_of, marked, Classified}
 use Rattle.pass_copies.specs.Substituted.{subst_of, put_definition, put_definitions}
 use Rattle.pass_copies.proofs.After.{put-unused, put-prover, put-counted}
 use Rattle.pass_keep.specs.declared.Kept.{Kept}
@@ -20,32 +22,13 @@ use Rattle.pass_keep.specs.Keeping.{kept_of, put_tree, put_kept, put_nodes, kept
 use Rattle.pass_keep.proofs.Nodes.{copied-nodes, next-is}
 
 -- what the arrays say of an id
-never-at : (x : ℕ) → x ≡ 0 → is_never (usage_at x) ≡ true
-unfolding is_never usage_at
-never-at x e = rw e
+module _ {b : List ℕ} {u : List Usage} {p : List Bool} (c : Classified b u p) (id : ℕ) where
+  says-used : {t : Bool} → is_never (usage_of u id) ≡ t → is_never (usage (module_of b) id) ≡ t
+  says-used e = sym (ap (λ (f : ℕ → Usage). is_never (f id)) c.used) ∙ e
 
-ever-at : (x : ℕ) → (x ≡ 0 → ⊥) → is_never (usage_at x) ≡ false
-unfolding is_never usage_at
-ever-at zero n = absurd (n refl)
-ever-at (suc zero) n = refl
-ever-at (suc (suc x)) n = refl
-
-module _ {b u p : List ℕ} (c : Classified b u p) (id : ℕ) where
-  unused-id : get_or u id 0 ≡ 0 → is_never (usage (module_of b) id) ≡ true
-  unfolding usage_of
-  unused-id e = ap (λ f. is_never (f id)) (sym c.used) ∙ never-at _ e
-
-  used-id : (get_or u id 0 ≡ 0 → ⊥) → is_never (usage (module_of b) id) ≡ false
-  unfolding usage_of
-  used-id n = ap (λ f. is_never (f id)) (sym c.used) ∙ ever-at _ n
-
-  other-id : get_or p id 0 ≡ 0 → member id (provers_of b) ≡ false
-  unfolding provers_of marked
-  other-id e = ap (λ f. f id) (sym c.proved) ∙ ap not (eq-eqb _ 0 e)
-
-  prover-id : (get_or p id 0 ≡ 0 → ⊥) → member id (provers_of b) ≡ true
-  unfolding provers_of marked
-  prover-id n = ap (λ f. f id) (sym c.proved) ∙ ap not (ne_eqb _ 0 n)
+  says-prover : {t : Bool} → marked p id ≡ t → member id (provers_of b) ≡ t
+  unfolding provers_of
+  says-prover e = sym (ap (λ (f : ℕ → Bool). f id) c.proved) ∙ e
 
 -- what is kept of it
 module _ (b : List ℕ) (steps : ℕ) (s : Substitutions) (d : Definition) where
@@ -96,9 +79,9 @@ after_plus : (base : ℕ) (e : Flat) (after : ℕ) → after ≡ next_from base 
 unfolding next_from root_from
 after_plus base e after q = omega arith
 
-module _ (b : List ℕ) (steps : ℕ) (ds : List Definition) (at base : ℕ) (m body list : List ℕ) where
+module _ (b : List ℕ) (steps : ℕ) (ds : List Definition) (at base : ℕ) (m : List (Option Term)) (body list : List ℕ) where
   -- nothing is kept
-  pub keeps-none : (m' : List ℕ) → kept_of b steps (subst_of m) ds ≡ [] → m' ≡ put_definitions steps m (counted_of b ds) →
+  pub keeps-none : (m' : List (Option Term)) → kept_of b steps (subst_of m) ds ≡ [] → m' ≡ put_definitions steps m (counted_of b ds) →
       Keeps b steps ds at base m body list m' body list (record { at = at; nodes = base })
   unfolding put_kept put_nodes kept_from definitions_words definitions_trees definitions_nodes set_words
   keeps-none m' e f =
@@ -112,7 +95,7 @@ module _ (b : List ℕ) (steps : ℕ) (ds : List Definition) (at base : ℕ) (m 
       }
 
   -- one definition is kept
-  pub keeps-one : (m' : List ℕ) {body' list' : List ℕ} {after : ℕ} (d : Definition) → kept_of b steps (subst_of m) ds ≡ d ∷ [] →
+  pub keeps-one : (m' : List (Option Term)) {body' list' : List ℕ} {after : ℕ} (d : Definition) → kept_of b steps (subst_of m) ds ≡ d ∷ [] →
       list' ≡ put_tree list base d.right → after ≡ next_from base d.right → body' ≡ set_words body at (definition_words d.id (after - 1)) →
       m' ≡ put_definitions steps m (counted_of b ds) → Keeps b steps ds at base m body list m' body' list' (record { at = at + KEPT-WORDS; nodes = after })
   unfolding put_kept put_nodes put_tree kept_from definitions_words definitions_trees definitions_nodes next_from root_from
@@ -131,37 +114,39 @@ module _ (b : List ℕ) (steps : ℕ) (ds : List Definition) (at base : ℕ) (m 
         subs-are = f;
       }
 
-module _ {b u p : List ℕ} (c : Classified b u p) (steps id : ℕ) (right : Flat) (at base : ℕ) (m body list : List ℕ) where
+module _ {b : List ℕ} {u : List Usage} {p : List Bool} (c : Classified b u p) (steps id : ℕ) (right : Flat) (at base : ℕ) (m : List (Option Term))
+    (body list : List ℕ) where
   abbrev definition : Definition
   definition = record { id = id; right = right }
 
-  abbrev Way : List ℕ → List ℕ → List ℕ → Kept → Type 0
+  abbrev Way : List (Option Term) → List ℕ → List ℕ → Kept → Type 0
   Way = Keeps b steps (definition ∷ []) at base m body list
 
-  pub way-unused : get_or u id 0 ≡ 0 → Way m body list (record { at = at; nodes = base })
+  pub way-unused : is_never (usage_of u id) ≡ true → Way m body list (record { at = at; nodes = base })
   way-unused e =
-      let n = unused-id c id e in
+      let n = says-used c id e in
       keeps-none b steps (definition ∷ []) at base m body list m (unused-kept b steps (subst_of m) definition n) (put-unused b steps m definition n)
 
-  module _ (e : get_or u id 0 ≡ 0 → ⊥) where
-    pub way-other : (m' : List ℕ) → get_or p id 0 ≡ 0 → m' ≡ put_definition steps m definition → Way m' body list (record { at = at; nodes = base })
+  module _ (e : is_never (usage_of u id) ≡ false) where
+    pub way-other : (m' : List (Option Term)) → marked p id ≡ false → m' ≡ put_definition steps m definition →
+        Way m' body list (record { at = at; nodes = base })
     way-other m' f w =
-        let n = used-id c id e in
-        let o = other-id c id f in
+        let n = says-used c id e in
+        let o = says-prover c id f in
         keeps-none b steps (definition ∷ []) at base m body list m' (other-kept b steps (subst_of m) definition n o) (w ∙ put-counted b steps m definition n o)
 
-    pub way-kept : {body' list' : List ℕ} {after : ℕ} → (get_or p id 0 ≡ 0 → ⊥) → list' ≡ put_tree list base (copy_propagate_expr steps (subst_of m) right) →
+    pub way-kept : {body' list' : List ℕ} {after : ℕ} → marked p id ≡ true → list' ≡ put_tree list base (copy_propagate_expr steps (subst_of m) right) →
         after ≡ next_from base (copy_propagate_expr steps (subst_of m) right) → body' ≡ set_words body at (definition_words id (after - 1)) →
         Way m body' list' (record { at = at + KEPT-WORDS; nodes = after })
     unfolding copy_propagate_def
     way-kept f x y z =
-        let n = used-id c id e in
-        let o = prover-id c id f in
+        let n = says-used c id e in
+        let o = says-prover c id f in
         keeps-one b steps (definition ∷ []) at base m body list m (copy_propagate_def steps (subst_of m) definition)
         (prover-kept b steps (subst_of m) definition n o) x y z (put-prover b steps m definition n o)
 
 -- the index after the root, of a tree that there is room for
-pub kept-root : (base steps : ℕ) (m : List ℕ) (right : Flat) (list : List ℕ) {after : ℕ} → NodeRoom (tree_nodes right) base list
+pub kept-root : (base steps : ℕ) (m : List (Option Term)) (right : Flat) (list : List ℕ) {after : ℕ} → NodeRoom (tree_nodes right) base list
     → after ≡ next_from base (copy_propagate_expr steps (subst_of m) right) → (0 < after) × (after ≤ 65536)
 kept-root base steps m right list r q =
     let e = q ∙ next-is base steps (subst_of m) right in

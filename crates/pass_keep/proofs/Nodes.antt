@@ -14,15 +14,10 @@ use Rattle.field.specs.declared.InfixOp.{InfixOp}
 use Rattle.field.specs.Operators.{operator_number}
 use Rattle.records.specs.Kinds.{NODE-WORDS}
 use Rattle.flat.specs.Trees.{Flat, tree_nodes}
-use Rattle.flat.specs.Record.{node_of, tree}
-use Rattle.flat.specs.Readable.{Inside}
-use Rattle.flat.specs.declared.Node.TheVariants.{Infix, Negate}
-use Rattle.flat.proofs.Nodes.{tree-infix, tree-negate}
 use Rattle.constraint.specs.declared.Term.{Term}
 use Rattle.constraint.specs.Record.{number_word, root_from, next_from, node_words, nodes_from}
 use Rattle.constraint.proofs.Lengths.{length-nodes, tree-positive}
 use Rattle.pass_trees.specs.Passes.{Substitutions, walk, to_expr, copy_propagate_expr}
-use Rattle.pass_classify.proofs.Walks.{left-inside, right-inside, child-inside}
 use Rattle.pass_keep.specs.Keeping.{put_tree, NodeRoom}
 
 -- ---- sizes
@@ -55,7 +50,8 @@ tree-length l base e = length-set_words (nodes_from base e) l (4 * base)
 -- ---- one node after the other
 
 module _ (l : List ℕ) (base : ℕ) where
-  pub leaf-variable : {l' : List ℕ} {t : Term} (v : ℕ) → t ≡ Term.Variable v → l' ≡ set_words l (4 * base) (node_words 8 v 0 0) → l' ≡ put_tree l base (to_expr t)
+  pub leaf-variable : {l' : List ℕ} {t : Term} (v : ℕ) → t ≡ Term.Variable v → l' ≡ set_words l (4 * base) (node_words 8 v 0 0)
+      → l' ≡ put_tree l base (to_expr t)
   unfolding put_tree nodes_from to_expr
   leaf-variable v e p = p ∙ sym (ap (λ (u : Term). put_tree l base (to_expr u)) e)
 
@@ -63,7 +59,8 @@ module _ (l : List ℕ) (base : ℕ) where
       → l' ≡ set_words l (4 * base) (node_words 7 n 0 0) → l' ≡ put_tree l base (to_expr t)
   unfolding put_tree nodes_from to_expr number_word
   leaf-constant c n e f q p =
-      p ∙ ap (λ (w : ℕ). set_words l (4 * base) (node_words 7 w 0 0)) (q ∙ ap (of_z w32) (to_z-of_z w32 c f)) ∙ sym (ap (λ (u : Term). put_tree l base (to_expr u)) e)
+      p ∙ ap (λ (w : ℕ). set_words l (4 * base) (node_words 7 w 0 0)) (q ∙ ap (of_z w32) (to_z-of_z w32 c f))
+      ∙ sym (ap (λ (u : Term). put_tree l base (to_expr u)) e)
 
   -- after the nodes of a first child
   after_first : (ws : List ℕ) {l₁ : List ℕ} {a : ℕ} (x : Flat) → l₁ ≡ put_tree l base x → a ≡ next_from base x
@@ -119,35 +116,32 @@ put-term l base {e = e} {t = t} {u = u} q r p =
 
 -- ---- room
 
-module _ {b : List ℕ} {at k : ℕ} (i : Inside b at k) (base n : ℕ) (s : Substitutions) (l : List ℕ)
-    (room : NodeRoom (tree_nodes (tree b at (k + 1) k)) base l) where
-  module _ {o : InfixOp} {x y : ℕ} (e : node_of b at k ≡ Infix o x y) where
-    size : tree_nodes (tree b at (k + 1) k) ≡ suc (tree_nodes (tree b at (x + 1) x) + tree_nodes (tree b at (y + 1) y))
+module _ (t : Flat) (base n : ℕ) (s : Substitutions) (l : List ℕ) (room : NodeRoom (tree_nodes t) base l) where
+  module _ {o : InfixOp} {x y : Flat} (e : t ≡ Flat.infixed o x y) where
+    size : tree_nodes t ≡ suc (tree_nodes x + tree_nodes y)
     unfolding tree_nodes
-    size = ap tree_nodes (tree-infix b at k e (left-inside i e).0 (right-inside i e).0)
+    size = ap tree_nodes e
 
-    pub room-left : NodeRoom (tree_nodes (tree b at (x + 1) x)) base l
+    pub room-left : NodeRoom (tree_nodes x) base l
     room-left = record { long = omega (arith, size, room.long); few = omega (arith, size, room.few) }
 
-    module _ {a : ℕ} {l₁ : List ℕ} (p₁ : l₁ ≡ put_tree l base (copy_propagate_expr n s (tree b at (x + 1) x)))
-        (qa : a ≡ next_from base (copy_propagate_expr n s (tree b at (x + 1) x))) where
-      first-is : a ≡ base + tree_nodes (tree b at (x + 1) x)
-      first-is = qa ∙ next-is base n s (tree b at (x + 1) x)
+    module _ {a : ℕ} {l₁ : List ℕ} (p₁ : l₁ ≡ put_tree l base (copy_propagate_expr n s x)) (qa : a ≡ next_from base (copy_propagate_expr n s x)) where
+      first-is : a ≡ base + tree_nodes x
+      first-is = qa ∙ next-is base n s x
 
       first-length : length l₁ ≡ length l
       first-length = ap length p₁ ∙ tree-length l base _
 
-      pub room-right : NodeRoom (tree_nodes (tree b at (y + 1) y)) a l₁
+      pub room-right : NodeRoom (tree_nodes y) a l₁
       room-right = record { long = omega (arith, size, room.long, first-is, first-length); few = omega (arith, size, room.few, first-is) }
 
-      pub room-root : {c : ℕ} {l₂ : List ℕ} → l₂ ≡ put_tree l₁ a (copy_propagate_expr n s (tree b at (y + 1) y))
-          → c ≡ next_from a (copy_propagate_expr n s (tree b at (y + 1) y))
+      pub room-root : {c : ℕ} {l₂ : List ℕ} → l₂ ≡ put_tree l₁ a (copy_propagate_expr n s y) → c ≡ next_from a (copy_propagate_expr n s y)
           → (4 * (NODE-WORDS * c + NODE-WORDS) ≤ length l₂) × (c < 65536) × (0 < a) × (0 < c) × (a < 65536)
       room-root {c} {l₂} p₂ qc =
-          let u : c ≡ a + tree_nodes (tree b at (y + 1) y) = qc ∙ next-is a n s (tree b at (y + 1) y) in
+          let u : c ≡ a + tree_nodes y = qc ∙ next-is a n s y in
           let v : length l₂ ≡ length l₁ = ap length p₂ ∙ tree-length l₁ a _ in
-          let f = copied-nodes n s (tree b at (x + 1) x) in
-          let g = copied-nodes n s (tree b at (y + 1) y) in (
+          let f = copied-nodes n s x in
+          let g = copied-nodes n s y in (
             omega (arith, size, room.long, first-is, first-length),
             omega (arith, size, room.few, first-is),
             omega (arith, first-is),
@@ -155,21 +149,21 @@ module _ {b : List ℕ} {at k : ℕ} (i : Inside b at k) (base n : ℕ) (s : Sub
             omega (arith, size, room.few, first-is),
           )
 
-  module _ {x : ℕ} (e : node_of b at k ≡ Negate x) where
-    size-negate : tree_nodes (tree b at (k + 1) k) ≡ suc (tree_nodes (tree b at (x + 1) x))
+  module _ {x : Flat} (e : t ≡ Flat.negate x) where
+    size-negate : tree_nodes t ≡ suc (tree_nodes x)
     unfolding tree_nodes
-    size-negate = ap tree_nodes (tree-negate b at k e (child-inside i e).0)
+    size-negate = ap tree_nodes e
 
-    pub room-child : NodeRoom (tree_nodes (tree b at (x + 1) x)) base l
+    pub room-child : NodeRoom (tree_nodes x) base l
     room-child = record { long = omega (arith, size-negate, room.long); few = omega (arith, size-negate, room.few) }
 
-    pub room-above : {a : ℕ} {l₁ : List ℕ} → l₁ ≡ put_tree l base (copy_propagate_expr n s (tree b at (x + 1) x))
-        → a ≡ next_from base (copy_propagate_expr n s (tree b at (x + 1) x)) → (4 * (NODE-WORDS * a + NODE-WORDS) ≤ length l₁) × (a < 65536) × (0 < a)
+    pub room-above : {a : ℕ} {l₁ : List ℕ} → l₁ ≡ put_tree l base (copy_propagate_expr n s x) → a ≡ next_from base (copy_propagate_expr n s x)
+        → (4 * (NODE-WORDS * a + NODE-WORDS) ≤ length l₁) × (a < 65536) × (0 < a)
     room-above {a} {l₁} p₁ qa =
-        let u : a ≡ base + tree_nodes (tree b at (x + 1) x) = qa ∙ next-is base n s (tree b at (x + 1) x) in
+        let u : a ≡ base + tree_nodes x = qa ∙ next-is base n s x in
         let v : length l₁ ≡ length l = ap length p₁ ∙ tree-length l base _ in
-        let f = copied-nodes n s (tree b at (x + 1) x) in
+        let f = copied-nodes n s x in
         (omega (arith, size-negate, room.long), omega (arith, size-negate, room.few), omega arith)
 
   pub room-leaf : NodeRoom 1 base l
-  room-leaf = let f = copied-nodes n s (tree b at (k + 1) k) in record { long = omega (arith, room.long); few = omega (arith, room.few) }
+  room-leaf = let f = copied-nodes n s t in record { long = omega (arith, room.long); few = omega (arith, room.few) }

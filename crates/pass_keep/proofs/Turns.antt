@@ -8,18 +8,20 @@ use lib.ListN.{length, length-append}
 use Rattle.words.specs.Words.{set_words}
 use Rattle.words.proofs.Laws.{length-set_words, set_words-append}
 use Rattle.flat.specs.Trees.{Definition, tree_nodes, definitions_nodes}
-use Rattle.flat.specs.Layout.{definitions, definition_entry}
-use Rattle.flat.specs.Record.{tree, module_of}
-use Rattle.flat.specs.Readable.{Readable}
+use Rattle.flat.specs.Layout.{definitions, nodes as count_nodes, definitions_offset, definition_entry}
+use Rattle.flat.specs.Record.{module_of}
+use Rattle.std.specs.Prelude.{Option}
+use Rattle.constraint.specs.declared.Term.{Term}
 use Rattle.flat.specs.declared.entries.DefinitionEntry.{DefinitionEntry}
 use Rattle.constraint.specs.Record.{KEPT-WORDS, definitions_words, definitions_trees}
 use Rattle.constraint.proofs.Lengths.{length-definitions, length-definitions-trees, count-append, definitions-append, definitions-trees-append}
 use Rattle.pass_trees.specs.Passes.{member, those, classify_defs, copy_propagate, eliminate_dead_equalities}
 use Rattle.pass_trees.specs.Passes.{flatten_module_to_3ac, passes, Substitutions, copy_propagate_defs, after_defs}
 use Rattle.pass_trees.proofs.Loops.{those-append, copies-append}
-use Rattle.pass_classify.proofs.Lists.{definitions_from, definitions-none, definitions-whole, OverDefinitions, definition-small, definitions-more}
-use Rattle.pass_copies.specs.Substituted.{SUBSTITUTION-WORDS, subst_of, put_definitions}
-use Rattle.pass_copies.proofs.After.{definitions-length, put-none, put_first, storable-tree, Storable, definitions-say}
+use Rattle.pass_classify.proofs.Lists.{definitions_from, definitions-none, definitions-whole, definitions-more}
+use Rattle.pass_classify.specs.Readable.{tree_of}
+use Rattle.pass_copies.specs.Substituted.{subst_of, put_definitions}
+use Rattle.pass_copies.proofs.After.{put-none, put_first, Storable, definitions-say}
 use Rattle.pass_keep.specs.declared.Kept.{Kept}
 use Rattle.pass_classify.specs.Arrays.{provers_of, used_of, counted_of}
 use Rattle.pass_keep.specs.Keeping.{kept_of, put_kept, put_nodes, kept_from, Keeps, NodeRoom, WordRoom}
@@ -44,7 +46,8 @@ module _ (b : List ℕ) (steps : ℕ) where
       ∙ ap (those (λ v. member v (provers_of b))) (copies-append (provers_of b) steps (used_of b (d ∷ [])) (used_of b ds) s)
       ∙ those-append (λ v. member v (provers_of b)) (copy_propagate_defs (provers_of b) steps s (used_of b (d ∷ []))) _
 
-  after-says : (m : List ℕ) (d : Definition) {m1 : List ℕ} → length m ≡ SUBSTITUTION-WORDS → Storable d → m1 ≡ put_definitions steps m (counted_of b (d ∷ [])) →
+  after-says : (m : List (Option Term)) (d : Definition) {m1 : List (Option Term)} → length m ≡ 65536 → Storable d →
+      m1 ≡ put_definitions steps m (counted_of b (d ∷ [])) →
       subst_of m1 ≡ after (subst_of m) (d ∷ [])
   after-says m d long h q = ap subst_of q ∙ definitions-say b steps m (d ∷ []) long (h, tt)
 
@@ -89,33 +92,31 @@ kept-nil b steps s = refl
 
 -- ---- the loop
 
-module _ (b : List ℕ) (steps n at : ℕ) (m₀ body₀ list₀ : List ℕ) where
+module _ (b : List ℕ) (steps n at : ℕ) (m₀ : List (Option Term)) (body₀ list₀ : List ℕ) where
   abbrev kept : List Definition
   kept = kept_of b steps (subst_of m₀) (module_of b).definitions
 
   -- what is left from a state on, with room for it
-  pub record Going (to base k : ℕ) (m body list : List ℕ) : Type 0 where
+  pub record Going (to base k : ℕ) (m : List (Option Term)) (body list : List ℕ) : Type 0 where
     pub words : put_kept body to base (kept_of b steps (subst_of m) (definitions_from b k)) ≡ put_kept body₀ at 0 kept
     pub nodes : put_nodes list base (kept_of b steps (subst_of m) (definitions_from b k)) ≡ put_nodes list₀ 0 kept
     pub answer : kept_from to base (kept_of b steps (subst_of m) (definitions_from b k)) ≡ kept_from at 0 kept
     pub after : put_definitions steps m (counted_of b (definitions_from b k)) ≡ put_definitions steps m₀ (counted_of b (module_of b).definitions)
-    pub subs-long : length m ≡ SUBSTITUTION-WORDS
     pub body-long : length body ≡ length body₀
     pub list-long : length list ≡ length list₀
     pub word_room : WordRoom (n - k) to body
     pub node-room : NodeRoom (definitions_nodes (definitions_from b k)) base list
     pub within : k ≤ n
 
-  pub going_start : length m₀ ≡ SUBSTITUTION-WORDS → WordRoom n at body₀ → NodeRoom (definitions_nodes (module_of b).definitions) 0 list₀
+  pub going_start : WordRoom n at body₀ → NodeRoom (definitions_nodes (module_of b).definitions) 0 list₀
       → Going at 0 0 m₀ body₀ list₀
-  going_start l w r =
+  going_start w r =
       let e : definitions_from b 0 ≡ (module_of b).definitions = sym (definitions-whole b) in
       record {
         words = ap (λ (ds : List Definition). put_kept body₀ at 0 (kept_of b steps (subst_of m₀) ds)) e;
         nodes = ap (λ (ds : List Definition). put_nodes list₀ 0 (kept_of b steps (subst_of m₀) ds)) e;
         answer = ap (λ (ds : List Definition). kept_from at 0 (kept_of b steps (subst_of m₀) ds)) e;
         after = ap (λ (ds : List Definition). put_definitions steps m₀ (counted_of b ds)) e;
-        subs-long = l;
         body-long = refl;
         list-long = refl;
         word_room = record { long = omega (arith, w.long) };
@@ -123,7 +124,7 @@ module _ (b : List ℕ) (steps n at : ℕ) (m₀ body₀ list₀ : List ℕ) whe
         within = omega arith;
       }
 
-  module _ {to base k : ℕ} {m body list : List ℕ} (g : Going to base k m body list) where
+  module _ {to base k : ℕ} {m : List (Option Term)} {body list : List ℕ} (g : Going to base k m body list) where
     pub going_end : n ≡ definitions b → n ≤ k → Keeps b steps (module_of b).definitions at 0 m₀ body₀ list₀ m body list (record { at = to; nodes = base })
     going_end e l =
         let z : definitions_from b k ≡ [] = definitions-none b k (omega arith) in
@@ -139,13 +140,13 @@ module _ (b : List ℕ) (steps n at : ℕ) (m₀ body₀ list₀ : List ℕ) whe
         }
 
     -- the definition at index k
-    module _ {d nodes_offset : ℕ} {entry : DefinitionEntry} (r : Readable b) (o : OverDefinitions b n d nodes_offset k) (h : k < n)
-        (read : entry ≡ definition_entry b d k) where
+    module _ {entry : DefinitionEntry} (count : n ≡ definitions b) (h : k < n) (read : entry ≡ definition_entry b (definitions_offset b) k)
+        (inside : (entry.id < 65536) × (entry.node < count_nodes b)) where
       abbrev first : Definition
-      first = record { id = entry.id; right = tree b nodes_offset (entry.node + 1) entry.node }
+      first = record { id = entry.id; right = tree_of b entry.node }
 
       from_is : definitions_from b k ≡ first ∷ definitions_from b (k + 1)
-      from_is = definitions-more r o h read
+      from_is = definitions-more b (omega (arith, count)) read inside
 
       size : definitions_nodes (definitions_from b k) ≡ tree_nodes first.right + definitions_nodes (definitions_from b (k + 1))
       unfolding definitions_nodes
@@ -157,12 +158,12 @@ module _ (b : List ℕ) (steps n at : ℕ) (m₀ body₀ list₀ : List ℕ) whe
         record { long = omega (arith, size, g.node-room.long); few = omega (arith, size, g.node-room.few) },
       )
 
-      pub going-turn : {m' body' list' : List ℕ} {a : Kept} → Keeps b steps (first ∷ []) to base m body list m' body' list' a
+      pub going-turn : {m' : List (Option Term)} {body' list' : List ℕ} {a : Kept} → length m ≡ 65536
+          → Keeps b steps (first ∷ []) to base m body list m' body' list' a
           → Going a.at a.nodes (k + 1) m' body' list'
       unfolding kept_from
-      going-turn {m'} {body'} {list'} {a} w =
-          let says =
-          after-says b steps m first g.subs-long (storable-tree b nodes_offset (entry.node + 1) entry.node (definition-small r o h read)) w.subs-are in
+      going-turn {m'} {body'} {list'} {a} long w =
+          let says = after-says b steps m first long inside.0 w.subs-are in
           let K₁ : List Definition = kept_of b steps (subst_of m) (first ∷ []) in
           let K₂ : List Definition = kept_of b steps (subst_of m') (definitions_from b (k + 1)) in
           let both : kept_of b steps (subst_of m) (definitions_from b k) ≡ K₁ ++ K₂ = ap (kept_of b steps (subst_of m)) from_is
@@ -182,10 +183,9 @@ module _ (b : List ℕ) (steps n at : ℕ) (m₀ body₀ list₀ : List ℕ) whe
             words = pw ∙ sym (ap (put_kept body to base) both ∙ put-kept-append K₁ K₂ body to base) ∙ g.words;
             nodes = pn ∙ sym (ap (put_nodes list base) both ∙ put-nodes-append K₁ K₂ list base) ∙ g.nodes;
             answer = pa ∙ sym (ap (kept_from to base) both ∙ kept-from-append K₁ K₂ to base) ∙ g.answer;
-            after = ap (λ (x : List ℕ). put_definitions steps x (counted_of b (definitions_from b (k + 1)))) w.subs-are
+            after = ap (λ (x : List (Option Term)). put_definitions steps x (counted_of b (definitions_from b (k + 1)))) w.subs-are
                 ∙ sym (ap (λ (ds : List Definition). put_definitions steps m (counted_of b ds)) from_is
                 ∙ put_first b steps m first (definitions_from b (k + 1))) ∙ g.after;
-            subs-long = ap length w.subs-are ∙ definitions-length steps m _ ∙ g.subs-long;
             body-long = bl ∙ g.body-long;
             list-long = ll ∙ g.list-long;
             word_room = record { long = omega (arith, few.0, g.word_room.long) };

@@ -1,23 +1,23 @@
 // The definitions of prover variables, kept uncut with the substitutions made: pairs of id and node in the body, nodes in a list of their own.
 #![tactic(auto)]
 
-ghost use Rattle.std.specs.Prelude.{◌≡◌, [], ◌∷◌, ◌+◌, ◌<◌, length};
+ghost use Rattle.std.specs.Prelude.{◌≡◌, [], ◌∷◌, ◌<◌};
 ghost use Rattle.flat.specs.Trees.{tree_nodes, definitions_nodes};
-ghost use Rattle.flat.specs.Layout.{definitions as definitionCount, definitions_offset, nodes_offset};
-ghost use Rattle.flat.specs.Record.{tree, module_of};
-ghost use Rattle.flat.specs.Readable.{Readable, Inside};
+ghost use Rattle.flat.specs.Layout.{definitions, nodes};
+ghost use Rattle.flat.specs.Record.{module_of};
 ghost use Rattle.constraint.specs.Record.{next_from};
 ghost use Rattle.pass_trees.specs.Passes.{to_expr, counted, copy_propagate_expr};
-ghost use Rattle.pass_classify.specs.Arrays.{Classified};
-ghost use Rattle.pass_copies.specs.Substituted.{subst_of, put_definitions, SUBSTITUTION-WORDS};
+ghost use Rattle.pass_classify.specs.Readable.{tree_of};
+ghost use Rattle.pass_copies.specs.Substituted.{subst_of, put_definitions};
 ghost use Rattle.pass_keep.specs.Keeping.{record_kept, put_tree, put_kept, put_nodes, kept_from, Keeps, NodeRoom, WordRoom};
 ghost use Rattle.records.specs.FlatRecord.{IDS};
 
 use constraint::{KEPT_WORDS, Term};
 use flat::Node;
-use flat::entries::{definition_at, put_definition, put_node};
-use pass_classify::{NEVER, Provers, Usages};
-use pass_copies::{Substitutions, resolve, substitute};
+use flat::entries::{DefinitionEntry, put_definition, put_node};
+use pass_classify::Classes;
+use pass_classify::record::Record;
+use pass_copies::Substitutions;
 use records::NODE_WORDS;
 use records::kinds::{CONSTANT, INFIX, NEGATE, VARIABLE};
 use words::unsigned;
@@ -38,24 +38,15 @@ fn put_leaf(list: &mut [u8], index: usize, term: Term)
 }
 
 // The nodes of node k's tree, children first, from index `base` on; answers the index after its root. The node index falls at each call.
-fn put_tree(
-    s: &[u8],
-    nodes: usize,
-    k: usize,
-    subs: &Substitutions,
-    steps: usize,
-    list: &mut [u8],
-    base: usize,
-) -> usize
-    requires { Inside s.now nodes k × NodeRoom (tree_nodes (tree s.now nodes (k + 1) k)) base list.old }
-    ensures { (list.new ≡ put_tree list.old base (copy_propagate_expr steps (subst_of subs.now) (tree s.now nodes (k + 1) k)))
-        × (result ≡ next_from base (copy_propagate_expr steps (subst_of subs.now) (tree s.now nodes (k + 1) k))) }
+fn put_tree(record: &Record, k: usize, subs: &Substitutions, list: &mut [u8], base: usize) -> usize
+    requires { (k < nodes record.now.bytes.now) × NodeRoom (tree_nodes (tree_of record.now.bytes.now k)) base list.old }
+    ensures { (list.new ≡ put_tree list.old base (copy_propagate_expr subs.now.steps (subst_of subs.now.terms) (tree_of record.now.bytes.now k)))
+        × (result ≡ next_from base (copy_propagate_expr subs.now.steps (subst_of subs.now.terms) (tree_of record.now.bytes.now k))) }
 {
-    let node = flat::node_at(s, nodes, k);
-    match node {
+    match record.node(k) {
         Node::Infix(op, x, y) => {
-            let a = put_tree(s, nodes, x, subs, steps, list, base);
-            let b = put_tree(s, nodes, y, subs, steps, list, a);
+            let a = put_tree(record, x, subs, list, base);
+            let b = put_tree(record, y, subs, list, a);
             let o = u32::from(op);
             put_node(
                 list,
@@ -68,7 +59,7 @@ fn put_tree(
             b + 1
         }
         Node::Negate(x) => {
-            let a = put_tree(s, nodes, x, subs, steps, list, base);
+            let a = put_tree(record, x, subs, list, base);
             put_node(list, NODE_WORDS * a, NEGATE, (a - 1) as u32, 0, 0);
             a + 1
         }
@@ -77,7 +68,7 @@ fn put_tree(
             base + 1
         }
         Node::Variable(v) => {
-            put_leaf(list, base, resolve(subs, v, steps));
+            put_leaf(list, base, subs.resolve(v));
             base + 1
         }
     }
@@ -92,81 +83,56 @@ pub struct Kept {
 
 // One definition: nothing where it is not used, its substitution where its id is not the prover's, else it is kept.
 fn keep_def(
-    s: &[u8],
-    nodes: usize,
-    id: u32,
-    k: usize,
-    usage: &Usages,
-    provers: &Provers,
+    classes: &Classes,
+    d: DefinitionEntry,
     subs: &mut Substitutions,
-    steps: usize,
     body: &mut [u8],
-    at: usize,
     list: &mut [u8],
-    base: usize,
+    place: Kept,
 ) -> Kept
-    requires inside { Inside s.now nodes k × Classified s.now usage.now provers.now × (id < IDS) × (length subs.old ≡ SUBSTITUTION-WORDS) }
-    requires word_room { WordRoom 1 at body.old × NodeRoom (tree_nodes (tree s.now nodes (k + 1) k)) base list.old }
-    ensures { Keeps s.now steps (record { id = id; right = tree s.now nodes (k + 1) k } ∷ []) at base subs.old
-        body.old list.old subs.new body.new list.new result }
+    requires inside { (d.id < IDS) × (d.node < nodes classes.now.record.bytes.now) }
+    requires word_room { WordRoom 1 place.at body.old × NodeRoom (tree_nodes (tree_of classes.now.record.bytes.now d.node)) place.nodes list.old }
+    ensures keeps { Keeps classes.now.record.bytes.now subs.old.steps
+        (record { id = d.id; right = tree_of classes.now.record.bytes.now d.node } ∷ []) place.at place.nodes subs.old.terms
+        body.old list.old subs.new.terms body.new list.new result }
+    ensures steps { subs.new.steps ≡ subs.old.steps }
 {
-    let i = id as usize;
-    if usage[i] == NEVER {
-        return Kept { at, nodes: base };
+    let id = d.id as usize;
+    let record = &classes.record;
+    if classes.is_never(id) {
+        return place;
     }
-    if provers[i] == 0 {
-        substitute(s, nodes, id, k, subs, steps);
-        return Kept { at, nodes: base };
+    if !classes.is_prover(id) {
+        subs.substitute(record, d);
+        return place;
     }
-    let after = put_tree(s, nodes, k, subs, steps, list, base);
-    put_definition(body, at, id, (after - 1) as u32);
+    let after = put_tree(record, d.node, subs, list, place.nodes);
+    put_definition(body, place.at, d.id, (after - 1) as u32);
     Kept {
-        at: at + KEPT_WORDS,
+        at: place.at + KEPT_WORDS,
         nodes: after,
     }
 }
 
 // The definitions of a readable record that are kept, in their order: from word `at` of the body and from the first node of the list on.
 pub fn keep_defs(
-    s: &[u8],
-    definitions: usize,
-    n: usize,
-    nodes: usize,
-    usage: &Usages,
-    provers: &Provers,
+    classes: &Classes,
     subs: &mut Substitutions,
-    steps: usize,
     body: &mut [u8],
     at: usize,
     list: &mut [u8],
 ) -> Kept
-    requires readable { Readable s.now
-        × Classified s.now usage.now provers.now
-        × (definitions ≡ definitions_offset s.now)
-        × (n ≡ definitionCount s.now)
-        × (nodes ≡ nodes_offset s.now) }
-    requires subs_len { (length subs.old ≡ SUBSTITUTION-WORDS)
-        × WordRoom n at body.old
-        × NodeRoom (definitions_nodes (module_of s.now).definitions) 0 list.old }
-    ensures body_after { body.new ≡ put_kept body.old at 0 (record_kept s.now steps subs.old) }
-    ensures list_after { list.new ≡ put_nodes list.old 0 (record_kept s.now steps subs.old) }
-    ensures value { result ≡ kept_from at 0 (record_kept s.now steps subs.old) }
-    ensures subs_after { subs.new ≡ put_definitions steps subs.old (counted (module_of s.now)) }
+    requires { WordRoom (definitions classes.now.record.bytes.now) at body.old
+        × NodeRoom (definitions_nodes (module_of classes.now.record.bytes.now).definitions) 0 list.old }
+    ensures body_after { body.new ≡ put_kept body.old at 0 (record_kept classes.now.record.bytes.now subs.old.steps subs.old.terms) }
+    ensures list_after { list.new ≡ put_nodes list.old 0 (record_kept classes.now.record.bytes.now subs.old.steps subs.old.terms) }
+    ensures value { result ≡ kept_from at 0 (record_kept classes.now.record.bytes.now subs.old.steps subs.old.terms) }
+    ensures subs_after { subs.new.terms ≡ put_definitions subs.old.steps subs.old.terms (counted (module_of classes.now.record.bytes.now)) }
 {
-    let mut to = at;
-    let mut base = 0usize;
-    let mut k = 0usize;
-    while k < n {
-        let d = definition_at(s, definitions, k);
-        let p = keep_def(
-            s, nodes, d.id, d.node, usage, provers, subs, steps, body, to, list, base,
-        );
-        to = p.at;
-        base = p.nodes;
-        k += 1;
+    let record = &classes.record;
+    let mut place = Kept { at, nodes: 0 };
+    for k in 0..record.layout.definitions {
+        place = keep_def(classes, record.definition(k), subs, body, list, place);
     }
-    Kept {
-        at: to,
-        nodes: base,
-    }
+    place
 }

@@ -5,7 +5,9 @@ use borrow.Author.Tests.{not-true}
 use Rattle.flat.specs.Trees.{Flat, Definition, Equation, FlatModule, defines}
 use Rattle.flat.specs.Meaning.{update}
 use Rattle.flat.specs.Rules.{All, Every, Ordered, WellFormed}
-use Rattle.pass_trees.specs.Passes.{member, keep_if, those, Usage, Never, Witness, Constraint, most, is_never, is_witness}
+use Rattle.pass_trees.specs.declared.Usage.{Usage}
+use Rattle.pass_trees.specs.declared.Usage.TheVariants.{Never, Witness, Constraint}
+use Rattle.pass_trees.specs.Passes.{member, keep_if, those, most, is_never, is_witness}
 use Rattle.pass_trees.specs.Passes.{mark_used, used_in, override, classify_def, classified, usage, ids_from, classify_defs, counted}
 use Rattle.pass_trees.specs.Meaning.{Known, Inputs, Given}
 use Rattle.pass_trees.proofs.Lists.{bool-not, update_all, update_same, update_other, all_map}

@@ -5,7 +5,9 @@ use borrow.Author.Tests.{not-true}
 use Rattle.flat.specs.Trees.{Flat, Definition, Equation, FlatModule, defines}
 use Rattle.flat.specs.Meaning.{update}
 use Rattle.flat.specs.Rules.{All, Every}
-use Rattle.pass_trees.specs.Passes.{member, those, Usage, Never, Witness, Constraint, most, is_never, mark_used}
+use Rattle.pass_trees.specs.declared.Usage.{Usage}
+use Rattle.pass_trees.specs.declared.Usage.TheVariants.{Never, Witness, Constraint}
+use Rattle.pass_trees.specs.Passes.{member, those, most, is_never, mark_used}
 use Rattle.pass_trees.specs.Passes.{used_in, override, classify_def, classified, usage, classify_defs, counted}
 use Rattle.pass_trees.specs.Meaning.{Given}
 use Rattle.pass_trees.specs.Statements.{CountedIsLeast, IfDefinedCounted, CountedIsClosed}

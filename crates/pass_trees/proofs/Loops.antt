@@ -5,7 +5,8 @@ use Rattle.flat.specs.Trees.{Flat, Definition, Equation}
 use Rattle.flat.specs.Rules.{All, Rising}
 use Rattle.constraint.specs.declared.Term.{Term}
 use Rattle.constraint.specs.Trees.{Equality}
-use Rattle.pass_trees.specs.Passes.{member, keep_if, those, Usage, used_in, classify_def, classified, ids_from, Substitutions, follow}
+use Rattle.pass_trees.specs.declared.Usage.{Usage}
+use Rattle.pass_trees.specs.Passes.{member, keep_if, those, used_in, classify_def, classified, ids_from, Substitutions, follow}
 use Rattle.pass_trees.specs.Passes.{walk, copy_propagate_expr, copy_propagate_def, after_def, copy_propagate_defs, after_defs}
 use Rattle.pass_trees.specs.Passes.{copy_propagate_equations, alive, push_constraint_def, copied, flatten_expr_to_3ac, Cuts, cuts_of}
 use Rattle.pass_trees.specs.Passes.{joined, flatten_def_to_3ac, flatten_defs, Sides, into, both, sides, flatten_sides, flatten_equations}

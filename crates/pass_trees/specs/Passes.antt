@@ -7,6 +7,8 @@ use Rattle.flat.specs.Meaning.{update}
 use Rattle.constraint.specs.declared.Term.{Term}
 use Rattle.constraint.specs.Trees.{Side, Equality, ConstraintModule}
 use Rattle.records.specs.FlatRecord.{IDS}
+use Rattle.pass_trees.specs.declared.Usage.{Usage}
+use Rattle.pass_trees.specs.declared.Usage.TheVariants.{Never, Witness, Constraint}
 
 -- `prover_defs.contains`
 unfoldable pub member : ℕ → List ℕ → Bool
@@ -26,9 +28,6 @@ those t (d ∷ ds) = keep_if (t d.id) d (those t ds)
 -- classify_defs: "classify definitions according to whether they define a constraint, are a witness, or are unused"
 
 -- `Usage` in its order, and `std::cmp::max`
-pub data Usage : Type 0 where
-  Never Witness Constraint : Usage
-
 unfoldable pub most : Usage → Usage → Usage
 most Never u = u
 most Witness Never = Witness

@@ -3,7 +3,6 @@ pub mod Names
 mod Header
 pub mod Links
 pub mod Publics
-pub mod Sorts
 pub mod Nodes
 pub mod Accepted
 mod Worked

@@ -15,7 +15,7 @@ use Rattle.source.specs.Names.{offset_of, length_of, end_of, printed, name_fits,
 use Rattle.source.specs.Layout.{name_entry}
 use Rattle.std.proofs.lemmas.Bool.{both_ways}
 use Rattle.std.proofs.lemmas.Bool.{cases_lt}
-use Rattle.marks.proofs.Indices.{and_no, and_left, and_right, every-fails, every_more, every-all, every-at, every-none}
+use Rattle.marks.proofs.Indices.{and_no, and_left, and_right, every-fails, every-all, every-at}
 
 eqb-sym-at : (t : Bool) (a b : ℕ) → eqb a b ≡ t → t ≡ eqb b a
 eqb-sym-at true a b e = sym (eq-eqb b a (sym (eqb-true a b e)))
@@ -30,14 +30,6 @@ abbrev printable : List ℕ → ℕ → ℕ → Bool
 printable b from i = leb 33 (get_or b (from + i) 0) && leb (get_or b (from + i) 0) 126
 
 module _ (b : List ℕ) (from : ℕ) where
-  pub printed-none : printed b from 0 ≡ true
-  unfolding printed
-  printed-none = every-none _
-
-  pub printed-more : (i : ℕ) → printed b from i ≡ true → (leb 33 (get_or b (from + i) 0) && leb (get_or b (from + i) 0) 126) ≡ true → printed b from (i + 1) ≡ true
-  unfolding printed
-  printed-more i h e = every_more i _ h e
-
   pub printed-fails : (n i : ℕ) → i < n → (leb 33 (get_or b (from + i) 0) && leb (get_or b (from + i) 0) 126) ≡ false → false ≡ printed b from n
   unfolding printed
   printed-fails n i l e = every-fails n i (printable b from) l e
@@ -122,36 +114,6 @@ unfolding names_fit
 names-end b text n k {end} h e q = rw (← q, ← e, h) (eqb-sym (length b) (text + end))
 
 -- ---- equal names
-
-module _ (b : List ℕ) (from to : ℕ) where
-  pub same_none : same_bytes b from to 0 ≡ true
-  unfolding same_bytes
-  same_none = every-none _
-
-  pub same_more : (i : ℕ) → same_bytes b from to i ≡ true → get_or b (from + i) 0 ≡ get_or b (to + i) 0 → same_bytes b from to (i + 1) ≡ true
-  unfolding same_bytes
-  same_more i h e = every_more i _ h (eq-eqb (get_or b (from + i) 0) (get_or b (to + i) 0) e)
-
-  pub same-fails : (n i : ℕ) → i < n → (get_or b (from + i) 0 ≡ get_or b (to + i) 0 → ⊥) → false ≡ same_bytes b from to n
-  unfolding same_bytes
-  same-fails n i l e = every-fails n i (λ j. eqb (get_or b (from + j) 0) (get_or b (to + j) 0)) l (ne_eqb (get_or b (from + i) 0) (get_or b (to + i) 0) e)
-
-module _ (b : List ℕ) (text j k : ℕ) {x y : ℕ} (e1 : x ≡ (name_entry b j).size) (e2 : y ≡ (name_entry b k).size) where
-  pub same-length-no : (x ≡ y → ⊥) → false ≡ same_name b text j k
-  unfolding same_name length_of
-  same-length-no f = rw (← e1, ← e2, ne_eqb x y f)
-
-  pub same-length-on : {r : Bool} {from to : ℕ} → x ≡ y → from ≡ (name_entry b j).offset → to ≡ (name_entry b k).offset →
-      r ≡ same_bytes b (text + from) (text + to) x → r ≡ same_name b text j k
-  unfolding same_name length_of offset_of
-  same-length-on q p1 p2 e = rw (← e1, ← e2, ← p1, ← p2, eq-eqb x y q) e
-
-pub new_none : (b : List ℕ) (text k : ℕ) → every 0 (λ j. not (same_name b text j k)) ≡ true
-new_none b text k = every-none _
-
-pub new-more : (b : List ℕ) (text k j : ℕ) {r : Bool} → every j (λ i. not (same_name b text i k)) ≡ true → r ≡ same_name b text j k → r ≡ false
-    → every (j + 1) (λ i. not (same_name b text i k)) ≡ true
-new-more b text k j h e f = every_more j _ h (ap not (sym e ∙ f))
 
 pub new-fails : (b : List ℕ) (text k j : ℕ) {r : Bool} → j < k → r ≡ same_name b text j k → r ≡ true → false ≡ name_new b text k
 unfolding name_new

@@ -4,11 +4,10 @@ use mathlib.Core.Path.{◌≡◌, refl, sym, ◌∙◌}
 use mathlib.Core.List.{List}
 use mathlib.Core.Bool.{Bool, true, false, ◌&&◌, ◌||◌}
 use native.Mathlib.Omega.{arith}
-use lib.ListN.{length, get_or}
+use lib.ListN.{length}
 use lib.Dec.{leb, ltb, eqb}
 use borrow.Author.Tests.{leb-true, le-leb, lt-leb}
 use Rattle.source.specs.declared.Layout.{Layout}
-use Rattle.marks.specs.Indices.{every}
 use Rattle.source.specs.Layout.{layout_of, counted, listed, names, text_offset, NAME-WORDS, DEFINITION-WORDS}
 use Rattle.source.specs.Names.{names_fit, names_differ}
 use Rattle.source.specs.Nodes.{nodes_fit, publics_fit, definitions_fit, expressions_fit}
@@ -54,7 +53,8 @@ module _ (b : List ℕ) {l : Layout} (e : l ≡ layout_of b) where
   shaped-is = rw e refl
 
   -- the exit of a `?`
-  pub trees-stop : (t : Bool) {r v : Checked} {n : Refusal} → v ≡ verdict Refusal.Entry t → v ≡ Err n → IsErrAnd r (λ x. x ≡ n) → (t ≡ false → shaped b ≡ false)
+  pub trees-stop : (t : Bool) {r v : Checked} {n : Refusal} → v ≡ verdict Refusal.Entry t → v ≡ Err n → IsErrAnd r (λ x. x ≡ n) → (t ≡ false
+      → shaped b ≡ false)
       → r ≡ outcome (shaped b) (used_once b)
   unfolding outcome
   trees-stop t p q h w = passes-on Refusal.Entry t p q h ∙ rw (w (refused Refusal.Entry t p q).0)

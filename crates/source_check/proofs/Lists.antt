@@ -1,8 +1,8 @@
 -- What a node's words use, and the loops over nodes, definitions and expressions. Assumes nothing.
 use Prim.Native.Nat.{ℕ, ◌+◌, ◌<◌}
-use mathlib.Core.Path.{◌≡◌, refl, sym, ap, ◌∙◌}
+use mathlib.Core.Path.{◌≡◌, refl, sym}
 use mathlib.Core.List.{List}
-use mathlib.Core.Bool.{Bool, true, false, ◌&&◌, and-true, and-false}
+use mathlib.Core.Bool.{Bool, true, and-true, and-false}
 use native.Mathlib.Omega.{arith}
 use Rattle.std.specs.Prelude.{Ok, Err}
 use Rattle.std.specs.Result.{IsErrAnd}
@@ -16,7 +16,7 @@ use Rattle.source.specs.Children.{Child, Children}
 use Rattle.source.specs.Nodes.{three, child_fits, children_fit}
 use Rattle.source.specs.Uses.{child_uses, children_use}
 use Rattle.source_check.specs.Answer.{Checked}
-use Rattle.source_check.specs.Marks.{verdict, Judged}
+use Rattle.source_check.specs.Marks.{Judged}
 use Rattle.source_check.proofs.Marks.{accepted, judged-yes, judged-as, judged-stop, judged-then}
 
 -- ---- the words of a node
@@ -32,7 +32,8 @@ module _ (b : List ℕ) (at names k : ℕ) where
   unfolding children_fit children_use child_fits child_uses
   uses-none {m = m} e = rw e (judged-yes _ refl (adds_none m _ (λ j. refl)))
 
-  pub uses-one : {c : Children} (x : Child) {r : Checked} {m m' : List Uses} → c ≡ three x Child.Nothing Child.Nothing → Uses-child r x m m' → Uses-children r c m m'
+  pub uses-one : {c : Children} (x : Child) {r : Checked} {m m' : List Uses} → c ≡ three x Child.Nothing Child.Nothing → Uses-child r x m m'
+      → Uses-children r c m m'
   unfolding children_fit children_use child_fits child_uses
   uses-one x e i = rw e (judged-as _ (sym (and-true _)) (λ j. omega arith) i)
 

@@ -75,7 +75,8 @@ module _ {m m' : List Uses} {g : ℕ → ℕ} where
   judged-as t e q j = (j.0 ∙ ap (verdict Refusal.Entry) e, λ a. adds_same g (j.1 a) q)
 
   -- the exit of a `?` whose callee's test is the first, or the second after one that holds
-  pub judged-stop : (t : Bool) {m₁ m₂ : List Uses} {f : ℕ → ℕ} {r v : Checked} {n : Refusal} (u : Bool) → Judged v t m₁ m₂ f → v ≡ Err n → IsErrAnd r (λ x. x ≡ n)
+  pub judged-stop : (t : Bool) {m₁ m₂ : List Uses} {f : ℕ → ℕ} {r v : Checked} {n : Refusal} (u : Bool) → Judged v t m₁ m₂ f → v ≡ Err n
+      → IsErrAnd r (λ x. x ≡ n)
       → (t ≡ false → u ≡ false) → Judged r u m m' g
   judged-stop t u j q h w = judged-no u (passes-on Refusal.Entry t j.0 q h) (w (refused Refusal.Entry t j.0 q).0)
 

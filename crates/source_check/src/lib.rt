@@ -9,7 +9,7 @@ ghost use Rattle.std.specs.Prelude.{◌≡◌};
 ghost use Rattle.source.specs.Record.{source_of};
 ghost use Rattle.source_check.specs.Answer.{checked};
 
-use naming::{names_differ, names_fit};
+use naming::{Names, names_fit};
 use reading::read_trees;
 use records::refusals::Refusal;
 use records::source_record::{DEFINITIONS, EXPRESSIONS, HEADER, NAMES, NODES, PUBLICS};
@@ -33,16 +33,19 @@ pub fn check_source(s: &[u8]) -> Result<(), Refusal>
     if !counted {
         return Err(Refusal::Count);
     }
-    let text = l.text_at;
-    let names = l.names;
-    let listed = (text <= size) & ((0 < names) | (size == text));
+    let listed = (l.text_at <= size) & ((0 < l.names) | (size == l.text_at));
     if !listed {
         return Err(Refusal::Length);
     }
-    if !names_fit(s, text, names) {
+    if !names_fit(s, l.text_at, l.names) {
         return Err(Refusal::Name);
     }
-    if !names_differ(s, text, names) {
+    let names = Names {
+        bytes: s,
+        text: l.text_at,
+        count: l.names,
+    };
+    if !names.differ() {
         return Err(Refusal::EqualNames);
     }
     read_trees(s, l)

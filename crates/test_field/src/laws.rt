@@ -1,10 +1,10 @@
 // The laws of field/specs/Desk.antt tried with the operations of the code: both sides of each on numbers at the edges, and on rows of
 // numbers with the value that another program made.
-ghost use Rattle.std.specs.Prelude.{◌≡◌, ◌≤◌, length};
+ghost use Rattle.std.specs.Prelude.{◌≡◌, ◌≤◌};
 ghost use Rattle.field.specs.Prime.{P};
 ghost use Rattle.field.specs.Desk.{chained};
 
-use crate::differs;
+use crate::given;
 use field::InfixOp;
 
 // The fields of `DeskLaws`, in their order.
@@ -32,7 +32,29 @@ enum Law {
     CanonicalProduct,
 }
 
-const LAWS: u64 = 20;
+// All, by their numbers.
+const LAWS: [Law; 20] = [
+    Law::SumsCommute,
+    Law::ProductsCommute,
+    Law::SumsRegroup,
+    Law::ProductsRegroup,
+    Law::ProductsDistribute,
+    Law::ProductsDistributeRight,
+    Law::OppositeElement,
+    Law::OppositeSum,
+    Law::OppositeOnly,
+    Law::DifferenceSum,
+    Law::DivideBySecond,
+    Law::DivideByFirst,
+    Law::DivideZBySecond,
+    Law::DivideZByFirst,
+    Law::DivideElement,
+    Law::DivideZElement,
+    Law::DivideByZero,
+    Law::DivideZByZero,
+    Law::CanonicalSum,
+    Law::CanonicalProduct,
+];
 
 // Numbers at the edges: of the elements, of i64, and multiples of the prime, which stand for 0.
 const EDGES: [i64; 9] = [
@@ -53,8 +75,6 @@ const PAIRS: usize = 81;
 
 const TRIPLES: usize = 729;
 
-const LAW_ROW: usize = 6;
-
 // The two sides of a law.
 #[derive(Clone, Copy)]
 struct Sides {
@@ -69,42 +89,11 @@ pub struct Tried {
     pub differ: u64,
 }
 
-fn law_of(number: i64) -> Law {
-    match number {
-        0 => Law::SumsCommute,
-        1 => Law::ProductsCommute,
-        2 => Law::SumsRegroup,
-        3 => Law::ProductsRegroup,
-        4 => Law::ProductsDistribute,
-        5 => Law::ProductsDistributeRight,
-        6 => Law::OppositeElement,
-        7 => Law::OppositeSum,
-        8 => Law::OppositeOnly,
-        9 => Law::DifferenceSum,
-        10 => Law::DivideBySecond,
-        11 => Law::DivideByFirst,
-        12 => Law::DivideZBySecond,
-        13 => Law::DivideZByFirst,
-        14 => Law::DivideElement,
-        15 => Law::DivideZElement,
-        16 => Law::DivideByZero,
-        17 => Law::DivideZByZero,
-        18 => Law::CanonicalSum,
-        _ => Law::CanonicalProduct,
-    }
-}
-
 // An operation on two answers.
 fn chained(op: InfixOp, x: Option<i64>, y: Option<i64>) -> Option<i64>
     ensures { result ≡ chained P op x y }
 {
-    match x {
-        Some(a) => match y {
-            Some(b) => field::infix(op, a, b),
-            None => None,
-        },
-        None => None,
-    }
+    field::infix(op, x?, y?)
 }
 
 fn add(x: Option<i64>, y: Option<i64>) -> Option<i64> {
@@ -116,20 +105,15 @@ fn multiply(x: Option<i64>, y: Option<i64>) -> Option<i64> {
 }
 
 fn canonical(a: i64) -> Option<i64> {
-    let c = field::canonical(a);
-    Some(c)
+    Some(field::canonical(a))
 }
 
 fn negate(a: i64) -> Option<i64> {
-    let n = field::negate(a);
-    Some(n)
+    Some(field::negate(a))
 }
 
 fn both(left: Option<i64>, right: Option<i64>) -> Sides {
-    Sides {
-        left: left,
-        right: right,
-    }
+    Sides { left, right }
 }
 
 fn commuted(op: InfixOp, x: Option<i64>, y: Option<i64>) -> Sides {
@@ -220,44 +204,24 @@ fn sides_of(law: Law, a: i64, b: i64, c: i64) -> Sides {
     }
 }
 
-// 0 where two answers are one, else 1.
-fn unlike(x: Option<i64>, y: Option<i64>) -> u64
-    ensures { result ≤ 1 }
-{
-    match x {
-        Some(a) => differs(y, 1, a),
-        None => differs(y, 0, 0),
-    }
-}
-
 // 1 where two answers are one, else 0.
 fn alike(x: Option<i64>, y: Option<i64>) -> Option<i64> {
-    if unlike(x, y) == 0 {
-        return Some(1);
-    }
-    Some(0)
+    Some(if x == y { 1 } else { 0 })
 }
 
-fn law_broken(number: i64, a: i64, b: i64, c: i64) -> u64
-    ensures { result ≤ 1 }
-{
-    let s = sides_of(law_of(number), a, b, c);
-    let left = s.left;
-    let right = s.right;
-    unlike(left, right)
+// Whether the sides of a law differ.
+fn is_broken(law: Law, a: i64, b: i64, c: i64) -> bool {
+    let sides = sides_of(law, a, b, c);
+    sides.left != sides.right
 }
 
-// 0 where both sides of a law have the value given, else 1.
-fn row_broken(law: Law, a: i64, b: i64, c: i64, there: i64, value: i64) -> u64
-    ensures { result ≤ 1 }
-{
-    let s = sides_of(law, a, b, c);
-    let left = s.left;
-    let right = s.right;
-    if differs(left, there, value) == 0 {
-        return differs(right, there, value);
-    }
-    1
+// Whether both sides of the law with a number have the value given.
+fn row_holds(number: i64, a: i64, b: i64, c: i64, value: Option<i64>) -> bool {
+    let Some(law) = usize::try_from(number).ok().and_then(|n| LAWS.get(n)) else {
+        return false;
+    };
+    let sides = sides_of(*law, a, b, c);
+    sides.left == value && sides.right == value
 }
 
 // On how many numbers, pairs or triples of the edges a law is tried. The last two have rows only, in which the sum or product stands.
@@ -279,21 +243,17 @@ fn edge_cases(law: Law) -> usize
 
 // A law on the first of the triples (729 at most, `TRIPLES`): the first number moves fastest and the third slowest, so that the first 9 are the numbers and
 // the first 81 the pairs.
-fn differing_edges(number: i64, cases: usize) -> u64
+fn differing_edges(law: Law, cases: usize) -> u64
     requires { cases ≤ 729 }
     ensures { result ≤ cases }
 {
-    let edges = EDGES;
     let mut wrong: u64 = 0;
-    let mut k: usize = 0;
-    while k < cases {
-        wrong += law_broken(
-            number,
-            edges[k % SINGLES],
-            edges[k / SINGLES % SINGLES],
-            edges[k / PAIRS],
-        );
-        k += 1;
+    for k in 0..cases {
+        let a = EDGES[k % SINGLES];
+        let b = EDGES[k / SINGLES % SINGLES];
+        if is_broken(law, a, b, EDGES[k / PAIRS]) {
+            wrong += 1;
+        }
     }
     wrong
 }
@@ -302,39 +262,24 @@ fn differing_edges(number: i64, cases: usize) -> u64
 pub fn laws_at_edges() -> Tried
     ensures { result.differ ≤ result.cases }
 {
-    let mut cases: u64 = 0;
-    let mut wrong: u64 = 0;
-    let mut number: u64 = 0;
-    while number < LAWS {
-        let law = number as i64;
-        let tries = edge_cases(law_of(law));
-        cases += tries as u64;
-        wrong += differing_edges(law, tries);
-        number += 1;
+    let mut tried = Tried {
+        cases: 0,
+        differ: 0,
+    };
+    for law in LAWS {
+        let cases = edge_cases(law);
+        tried.cases += cases as u64;
+        tried.differ += differing_edges(law, cases);
     }
-    Tried {
-        cases: cases,
-        differ: wrong,
-    }
+    tried
 }
 
 // Rows of six numbers: a law, three operands, whether there is a value, the value.
-pub fn differing_laws(rows: &[i64]) -> u64
-    ensures { result ≤ length rows.now }
-{
-    let mut wrong: u64 = 0;
-    let mut row: usize = 0;
-    while row + LAW_ROW <= rows.len() {
-        let law = law_of(rows[row]);
-        wrong += row_broken(
-            law,
-            rows[row + 1],
-            rows[row + 2],
-            rows[row + 3],
-            rows[row + 4],
-            rows[row + 5],
-        );
-        row += LAW_ROW;
-    }
-    wrong
+pub fn differing_laws(rows: &[i64]) -> usize {
+    rows.chunks_exact(6)
+        .filter(|row| match row {
+            [law, a, b, c, there, value] => !row_holds(*law, *a, *b, *c, given(*there, *value)),
+            _ => true,
+        })
+        .count()
 }

@@ -6,8 +6,6 @@ mod law_vectors;
 mod laws;
 mod vectors;
 
-ghost use Rattle.std.specs.Prelude.{◌≤◌};
-
 use field::InfixOp;
 use law_vectors::{LAW_ROWS, LAW_VECTORS};
 use laws::{differing_laws, laws_at_edges};
@@ -16,117 +14,69 @@ use streams::{Failed, open_standard};
 use test_report::{tell, tell_last};
 use vectors::{COUNTS, FIRST, FIRST_COUNTS, POWERS, ROWS, VECTORS};
 
-fn operation(number: i64) -> InfixOp {
-    match number {
-        0 => InfixOp::Divide,
-        1 => InfixOp::DivideZ,
-        2 => InfixOp::Multiply,
-        3 => InfixOp::Add,
-        4 => InfixOp::Subtract,
-        5 => InfixOp::Equal,
-        6 => InfixOp::Exponentiate,
-        7 => InfixOp::IntDivide,
-        _ => InfixOp::Modulo,
-    }
-}
-
+// What the operation with a number answers: those of `InfixOp`, then three on one operand.
 fn worked(number: i64, a: i64, b: i64) -> Option<i64> {
-    if number == 9 {
-        let c = field::canonical(a);
-        return Some(c);
-    }
-    if number == 10 {
-        let n = field::negate(a);
-        return Some(n);
-    }
-    if number == 11 {
-        return field::inverse(a);
-    }
-    field::infix(operation(number), a, b)
-}
-
-// 0 where an answer is the one given, else 1.
-fn differs(answer: Option<i64>, there: i64, value: i64) -> u64
-    ensures { result ≤ 1 }
-{
-    match answer {
-        Some(z) => {
-            if there == 1 {
-                if z == value {
-                    return 0;
-                }
-            }
-            1
-        }
-        None => {
-            if there == 0 {
-                return 0;
-            }
-            1
+    match number {
+        9 => Some(field::canonical(a)),
+        10 => Some(field::negate(a)),
+        11 => field::inverse(a),
+        _ => {
+            let op = InfixOp::try_from(u32::try_from(number).ok()?).ok()?;
+            field::infix(op, a, b)
         }
     }
 }
 
-fn unequal(a: u64, b: u64) -> u64
-    ensures { result ≤ 1 }
-{
-    if a == b {
-        return 0;
-    }
-    1
+// The answer that a row gives: whether there is a value, and the value.
+fn given(there: i64, value: i64) -> Option<i64> {
+    if there == 1 { Some(value) } else { None }
 }
 
-// Rows of five numbers.
-fn differing_vectors(rows: &[i64]) -> u64 {
-    let mut wrong: u64 = 0;
-    let mut row: usize = 0;
-    while row + 5 <= rows.len() {
-        let answer = worked(rows[row], rows[row + 1], rows[row + 2]);
-        wrong += differs(answer, rows[row + 3], rows[row + 4]);
-        row += 5;
-    }
-    wrong
+// Rows of five numbers: an operation, two operands, whether there is a value, the value.
+fn differing_vectors(rows: &[i64]) -> usize {
+    rows.chunks_exact(5)
+        .filter(|row| match row {
+            [number, a, b, there, value] => worked(*number, *a, *b) != given(*there, *value),
+            _ => true,
+        })
+        .count()
 }
 
 // The counts of the exponents from 1 on.
-fn differing_first(counts: &[u64]) -> u64 {
-    let mut wrong: u64 = 0;
-    let mut at: usize = 0;
-    while at < counts.len() {
-        let exponent = at + 1;
-        wrong += unequal(field::counts::power_count(exponent as u64), counts[at]);
-        at += 1;
-    }
-    wrong
+fn differing_first(counts: &[u64]) -> usize {
+    counts
+        .iter()
+        .zip(1..u64::MAX)
+        .filter(|(count, exponent)| **count != field::counts::power_count(*exponent))
+        .count()
 }
 
 // Rows of an exponent and its count.
-fn differing_counts(rows: &[u64]) -> u64 {
-    let mut wrong: u64 = 0;
-    let mut row: usize = 0;
-    while row + 2 <= rows.len() {
-        wrong += unequal(field::counts::power_count(rows[row]), rows[row + 1]);
-        row += 2;
-    }
-    wrong
+fn differing_counts(rows: &[u64]) -> usize {
+    rows.chunks_exact(2)
+        .filter(|row| match row {
+            [exponent, count] => field::counts::power_count(*exponent) != *count,
+            _ => true,
+        })
+        .count()
 }
 
 fn run(rt: &(impl Env + Print + Eprint)) -> Result<usize, Failed> {
     open_standard(rt, "usage: test_field\n")?;
     let vectors = VECTORS;
-    let of_vectors = [ROWS as u64, differing_vectors(&vectors)];
+    let of_vectors = [ROWS as u64, differing_vectors(&vectors) as u64];
     tell(rt, b"# vectors, # differ\n", &of_vectors)?;
     let first = FIRST_COUNTS;
-    let of_first = [FIRST as u64, differing_first(&first)];
+    let of_first = [FIRST as u64, differing_first(&first) as u64];
     tell(rt, b"# power counts from 1 on, # differ\n", &of_first)?;
     let powers = POWERS;
-    let of_powers = [COUNTS as u64, differing_counts(&powers)];
+    let of_powers = [COUNTS as u64, differing_counts(&powers) as u64];
     tell(rt, b"# more power counts, # differ\n", &of_powers)?;
     let edges = laws_at_edges();
     let of_edges = [edges.cases, edges.differ];
     tell(rt, b"# law cases at the edges, # differ\n", &of_edges)?;
     let law_vectors = LAW_VECTORS;
-    let of_laws = [LAW_ROWS as u64, differing_laws(&law_vectors)];
+    let of_laws = [LAW_ROWS as u64, differing_laws(&law_vectors) as u64];
     tell_last(rt, b"# law vectors, # differ\n", &of_laws)
 }
 

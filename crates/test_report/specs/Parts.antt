@@ -1,5 +1,5 @@
 -- What the answers about parts of the input say, and the counts.
-use Rattle.std.specs.Prelude.{ℕ, ◌+◌, ◌-◌, ◌<◌, ◌≡◌, Bool, true, false, cond, List, ltb, get_or, set, Result, Ok, Err, IsErr}
+use Rattle.std.specs.Prelude.{ℕ, ◌+◌, ◌-◌, ◌<◌, Bool, true, false, cond, List, ltb, get_or, set, Result, Ok, Err, IsErr}
 use Rattle.streams.specs.declared.Failed.{Failed}
 use Rattle.test_report.specs.declared.Stop.{Stop}
 use Rattle.test_report.specs.declared.Verdict.{Verdict}

@@ -1,14 +1,20 @@
 -- `pass_3ac::flatten_def_to_3ac` meets its contract. Assumes nothing.
+use mathlib.Core.Path.{refl, sym, ◌∙◌}
 use Rattle.pass_3ac.proofs.Definitions.{way-unused, way-prover, way-counted}
 use Rattle.pass_3ac.proofs.flatten_def_to_3ac.Goals as goal
 
-pub returns-then-usage-i-eq-NEVER : goal.returns-then-usage-i-eq-NEVER
-returns-then-usage-i-eq-NEVER c = way-unused c.requires.1 _ _ _ _ _ _ _ c.if-usage-i-eq-NEVER.true
+pub returns-then-is_never : goal.returns-then-is_never
+returns-then-is_never c =
+    record { defs_put = way-unused c.args.classes.now.classified _ _ _ _ _ _ _ (sym c.is_never.ensures ∙ c.if-is_never.true); steps = refl }
 
-pub returns-then-provers-i-ne0 : goal.returns-then-provers-i-ne0
-returns-then-provers-i-ne0 c = way-prover c.requires.1 _ _ _ _ _ _ _ c.if-usage-i-eq-NEVER.false c.if-provers-i-ne0.true
+pub returns-then-is_prover : goal.returns-then-is_prover
+returns-then-is_prover c =
+    let used = sym c.is_never.ensures ∙ c.if-is_never.false in
+    record { defs_put = way-prover c.args.classes.now.classified _ _ _ _ _ _ _ used (sym c.is_prover.ensures ∙ c.if-is_prover.true); steps = refl }
 
 pub returns : goal.returns
 returns c =
-    way-counted c.requires.1 _ _ _ _ _ _ _ _ c.if-usage-i-eq-NEVER.false c.if-provers-i-ne0.false c.flatten_expr_to_3ac-c.ensures
-    c.substitute.ensures
+    let used = sym c.is_never.ensures ∙ c.if-is_never.false in
+    let counted = sym c.is_prover.ensures ∙ c.if-is_prover.false in
+    let cut = c.flatten_expr_to_3ac-c.ensures in
+    record { defs_put = way-counted c.args.classes.now.classified _ _ _ _ _ _ _ _ used counted cut c.substitute.ensures.0; steps = c.substitute.ensures.1 }

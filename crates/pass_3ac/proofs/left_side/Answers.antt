@@ -1,21 +1,27 @@
 -- `pass_3ac::left_side` meets its contract. Assumes nothing.
-use Rattle.pass_3ac.proofs.Equations.{side-neither, side_right, side_left, side-variable, side-constants, side-other}
+use Rattle.pass_3ac.specs.Cutting.{sides_of}
 use Rattle.pass_3ac.proofs.left_side.Goals as goal
 
-pub returns-in_default-b : goal.returns-in_default-b
-returns-in_default-b c = side-neither c.in_default.is c.in_default-b.is
+pub returns-in-None-None : goal.returns-in-None-None
+unfolding sides_of
+returns-in-None-None c = rw (c.in-None-None.is-0, c.in-None-None.is-1)
+
+pub returns-in-None-Some : goal.returns-in-None-Some
+unfolding sides_of
+returns-in-None-Some c = rw (c.in-None-Some.is-0, c.in-None-Some.is-1)
+
+pub returns-in-Some-None : goal.returns-in-Some-None
+unfolding sides_of
+returns-in-Some-None c = rw (c.in-Some-None.is-0, c.in-Some-None.is-1)
+
+pub returns-in-Constant-Variable : goal.returns-in-Constant-Variable
+unfolding sides_of
+returns-in-Constant-Variable c = rw (c.in-Some-Some.is-0, c.in-Some-Some.is-1, c.in-Constant-Variable.is-0, c.in-Constant-Variable.is-1)
 
 pub returns-in_default : goal.returns-in_default
-returns-in_default c = side_right c.in_default.is c.in-Leaf-b.is
+unfolding sides_of
+returns-in_default c = rw (c.in-Some-Some.is-0, c.in-Some-Some.is-1, c.in_default.is-0, c.in_default.is-1)
 
-pub returns-in_default-b-2 : goal.returns-in_default-b-2
-returns-in_default-b-2 c = side_left c.in-Leaf.is c.in_default-b-2.is
-
-pub returns-in_default-x : goal.returns-in_default-x
-returns-in_default-x c = side-variable c.in-Leaf.is c.in-Leaf-b-2.is c.in_default-x.is
-
-pub returns-in_default-y : goal.returns-in_default-y
-returns-in_default-y c = side-constants c.in-Leaf.is c.in-Leaf-b-2.is c.in-Constant.is c.in_default-y.is
-
-pub returns : goal.returns
-returns c = side-other c.in-Leaf.is c.in-Leaf-b-2.is c.in-Constant.is c.in-Variable.is
+pub returns-in_default-2 : goal.returns-in_default-2
+unfolding sides_of
+returns-in_default-2 c = rw (c.in-Some-Some.is-0, c.in-Some-Some.is-1, c.in_default.is-0)

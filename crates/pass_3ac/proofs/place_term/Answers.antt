@@ -6,4 +6,4 @@ pub returns-in_default : goal.returns-in_default
 returns-in_default c = placed-new _ _ _ _ _ c.in_default.is
 
 pub returns : goal.returns
-returns c = placed-given _ _ _ _ _ c.in-Given.is c.copy.ensures c.put_equality.ensures
+returns c = placed-given _ _ _ _ _ c.in-Some.is c.copy.ensures c.put_equality.ensures

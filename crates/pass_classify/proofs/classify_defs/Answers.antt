@@ -1,32 +1,30 @@
 -- `pass_classify::classify_defs` meets its contract. Assumes nothing.
 use native.Mathlib.Omega.{arith}
-use mathlib.Core.Path.{ap, ◌∙◌}
-use Rattle.pass_classify.specs.Arrays.{marked}
-use Rattle.pass_classify.proofs.Arrays.{none-codes, none-marked}
-use Rattle.pass_classify.proofs.Lists.{layout-next}
-use Rattle.pass_classify.proofs.Whole.{provers-marked, classified-whole}
+use mathlib.Core.Path.{refl}
+use mathlib.Core.Bool.{false}
+use lib.ListN.{replicate}
+use Rattle.pass_trees.specs.declared.Usage.TheVariants.{Never}
+use Rattle.pass_classify.specs.Arrays.{Classified}
+use Rattle.pass_classify.proofs.Arrays.{none-used, none-marked}
+use Rattle.pass_classify.proofs.Laid.{next-laid}
+use Rattle.pass_classify.proofs.Whole.{provers-marked, classified-whole, usages-are, marks-are}
 use Rattle.pass_classify.proofs.classify_defs.Goals as goal
-
-pub mark_provers-requires : goal.mark_provers-requires
-mark_provers-requires c = (c.requires.0, none-codes 1 c.requires.2)
-
-pub mark_equations-requires : goal.mark_equations-requires
-mark_equations-requires c = (c.requires.0, none-codes 2 c.requires.1)
+use Rattle.pass_classify.proofs.classify_defs.Goals.{After-add_witnesses}
 
 pub mark_definitions-requires : goal.mark_definitions-requires
-mark_definitions-requires c = (
-  c.requires.0,
-  (
-    c.mark_equations.ensures.codes,
-    provers-marked _ _ (ap marked c.requires.2 ∙ none-marked) c.mark_provers.ensures,
-  ),
-)
+mark_definitions-requires c = provers-marked _ (replicate 65536 false) none-marked c.mark_provers.ensures
 
 pub add_witnesses-requires : goal.add_witnesses-requires
-add_witnesses-requires c = (omega (arith, layout-next _ c.layout_of-layout.ensures, c.requires.0.next_small), c.mark_provers.ensures.codes)
+add_witnesses-requires c = omega (arith, next-laid _ c.args.record.laid, c.args.record.readable.next_small)
+
+classes : (c : After-add_witnesses) → Classified c.args.record.bytes.now c.mark_definitions.new.usage c.add_witnesses.new.provers
+classes c =
+    classified-whole (replicate 65536 Never) (replicate 65536 false) c.args.record.readable none-used none-marked
+    (next-laid _ c.args.record.laid) c.mark_provers.ensures c.mark_equations.ensures c.mark_definitions.ensures
+    c.add_witnesses.ensures
+
+pub invariant_of-result : goal.invariant_of-result
+invariant_of-result c = record { classified = classes (goal.at.invariant_of-result c).After-add_witnesses }
 
 pub returns : goal.returns
-returns c =
-    classified-whole _ _ c.requires.0 c.requires.1 c.requires.2 (layout-next _ c.layout_of-layout.ensures)
-    c.mark_provers.ensures c.mark_equations.ensures c.mark_definitions.ensures
-    c.add_witnesses.ensures
+returns c = let k = classes (goal.at.returns c).After-add_witnesses in (refl, usages-are k, marks-are k)

@@ -1,29 +1,26 @@
 -- `pass_classify::cuttable_defs` meets its contract. Assumes nothing.
 use native.Mathlib.Omega.{arith}
-use Rattle.pass_classify.proofs.Lists.{over-definitions, definition-small, definition-inside}
-use Rattle.pass_classify.proofs.Turns.{counted_start, counted-fails, counted-turn, counted-end}
+use Rattle.pass_classify.proofs.Laid.{definitions-laid}
+use Rattle.pass_classify.proofs.Turns.{counted_start, counted-turn, counted-end, fails, holds}
 use Rattle.pass_classify.proofs.cuttable_defs.Goals as goal
 
 pub loop-k-init : goal.loop-k-init
-loop-k-init c = (over-definitions c.layout_of-layout.ensures, counted_start _)
-
-pub cuttable_def-requires : goal.cuttable_def-requires
-cuttable_def-requires c = (
-  definition-inside c.requires.0 c.loop-k.invariant.0 c.loop-k-test.true c.definition_at-d.ensures,
-  definition-small c.requires.0 c.loop-k.invariant.0 c.loop-k-test.true c.definition_at-d.ensures,
-)
+loop-k-init c = record { end = definitions-laid _ c.args.classes.now.record.laid; rest = counted_start _ }
 
 pub returns-then-not-cuttable_def : goal.returns-then-not-cuttable_def
 returns-then-not-cuttable_def c =
-    counted-fails c.requires.0 c.requires.1 c.loop-k.invariant.0 c.loop-k-test.true c.definition_at-d.ensures
-    c.cuttable_def.ensures c.loop-k.invariant.1 c.if-not-cuttable_def.true
+    let i = c.loop-k.invariant in
+    let d = c.definition-d.ensures in
+    let w = c.args.classes.now.classified in
+    fails _ c.if-not-cuttable_def.true (counted-turn _ w (omega (arith, i.end, c.loop-k-test.true)) d.value d.within c.cuttable_def.ensures i.rest)
 
 pub loop-k-preserved : goal.loop-k-preserved
-loop-k-preserved c = (
-  record { count = c.loop-k.invariant.0.count; place = c.loop-k.invariant.0.place; trees = c.loop-k.invariant.0.trees; within = omega arith },
-  counted-turn c.requires.0 c.requires.1 c.loop-k.invariant.0 c.loop-k-test.true c.definition_at-d.ensures
-      c.cuttable_def.ensures c.loop-k.invariant.1 c.if-not-cuttable_def.false,
-)
+loop-k-preserved c =
+    let i = c.loop-k.invariant in
+    let d = c.definition-d.ensures in
+    let w = c.args.classes.now.classified in
+    let turn = counted-turn _ w (omega (arith, i.end, c.loop-k-test.true)) d.value d.within c.cuttable_def.ensures i.rest in
+    record { end = i.end; rest = holds _ c.if-not-cuttable_def.false turn }
 
 pub returns : goal.returns
-returns c = counted-end c.loop-k.invariant.0 c.loop-k-test.false c.loop-k.invariant.1
+returns c = let i = c.loop-k.invariant in counted-end _ (omega (arith, i.end, c.loop-k-test.false)) i.rest

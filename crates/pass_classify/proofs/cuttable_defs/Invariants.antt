@@ -1,10 +1,7 @@
-use Prim.Native.Nat.{◌-◌}
-use Rattle.pass_classify.proofs.Lists.{OverDefinitions}
+use mathlib.Core.Path.{◌≡◌}
+use Rattle.flat.specs.Layout.{definitions}
 use Rattle.pass_classify.proofs.Turns.{CountedFrom}
 use Rattle.pass_classify.proofs.cuttable_defs.Given as goal
 
 abbrev pub invariant-loop-k : goal.invariant-loop-k
-invariant-loop-k l = OverDefinitions l.s l.n l.definitions l.at l.k × CountedFrom l.s l.k
-
-abbrev pub decreases-loop-k : goal.decreases-loop-k
-decreases-loop-k l = l.n - l.k
+invariant-loop-k l = record { end : l.k-end ≡ definitions l.record.bytes.now; rest : CountedFrom l.record.bytes.now l.k }

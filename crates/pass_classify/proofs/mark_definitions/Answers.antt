@@ -1,37 +1,30 @@
 -- `pass_classify::mark_definitions` meets its contract. Assumes nothing.
 use native.Mathlib.Omega.{arith}
-use Rattle.pass_classify.proofs.Arrays.{code-small}
-use Rattle.pass_classify.proofs.Lists.{over-from-last, over-definitions, definition-small, definition-inside}
+use mathlib.Core.Path.{◌≡◌}
+use Prim.Native.Nat.{◌+◌, ◌-◌}
+use Rattle.pass_classify.proofs.Laid.{definitions-laid}
 use Rattle.pass_classify.proofs.Turns.{classified-start, classified-turn, classified-end}
 use Rattle.pass_classify.proofs.mark_definitions.Goals as goal
 
-pub loop-done-init : goal.loop-done-init
-loop-done-init c = (over-definitions c.layout_of-layout.ensures, (c.requires.1.0, classified-start _ (over-definitions c.layout_of-layout.ensures)))
+pub loop-k-init : goal.loop-k-init
+loop-k-init c =
+    let n = definitions-laid _ c.args.record.now.laid in
+    record { most = omega (arith, n); marks = classified-start _ _ (omega (arith, n)); long = c.told-usage }
 
-pub override_usage-u-requires : goal.override_usage-u-requires
-override_usage-u-requires c = (
-  definition-small c.requires.0 (over-from-last c.loop-done.invariant.0 c.loop-done-test.true) (omega arith)
-      c.definition_at-d.ensures,
-  c.loop-done.invariant.1.0,
-)
-
-pub mark_used-requires : goal.mark_used-requires
-mark_used-requires c = (
-  definition-inside c.requires.0 (over-from-last c.loop-done.invariant.0 c.loop-done-test.true) (omega arith)
-      c.definition_at-d.ensures,
-  rw c.override_usage-u.ensures.value (code-small _),
-  c.override_usage-u.ensures.uses.codes,
-)
-
-pub loop-done-preserved : goal.loop-done-preserved
-loop-done-preserved c = (
-  record { count = c.loop-done.invariant.0.count; place = c.loop-done.invariant.0.place; trees = c.loop-done.invariant.0.trees; within = omega arith },
-  (
-    c.mark_used.ensures.codes,
-    classified-turn _ _ _ _ c.requires.0 c.loop-done.invariant.0 c.loop-done-test.true c.definition_at-d.ensures
-        c.requires.1.1 c.loop-done.invariant.1.1 (c.override_usage-u.ensures.value, c.override_usage-u.ensures.uses) c.mark_used.ensures,
-  ),
-)
+pub loop-k-preserved : goal.loop-k-preserved
+loop-k-preserved c =
+    let i = c.loop-k.invariant in
+    let d = c.definition-d.ensures in
+    let u = c.override_usage-u.ensures in
+    let back : c.loop-k.k - 1 + 1 ≡ c.loop-k.k = omega arith in
+    record {
+      most = omega arith;
+      marks = classified-turn _ _ _ _ _ (omega (arith, i.most)) d.value d.within c.requires (rw back i.marks) u.value u.uses c.mark_used.ensures;
+      long = c.mark_used.ensures.long;
+    }
 
 pub returns : goal.returns
-returns c = classified-end _ _ c.loop-done.invariant.0 c.loop-done-test.false c.loop-done.invariant.1.1 c.loop-done.invariant.1.0
+returns c =
+    let i = c.loop-k.invariant in
+    let none : c.loop-k.k ≡ 0 = omega arith in
+    classified-end _ _ _ (rw none at i.marks) i.long

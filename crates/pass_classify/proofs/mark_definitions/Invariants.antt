@@ -1,11 +1,13 @@
-use Prim.Native.Nat.{◌-◌}
-use Rattle.pass_classify.specs.Arrays.{Codes}
-use Rattle.pass_classify.proofs.Lists.{OverDefinitions}
+use mathlib.Core.Path.{◌≡◌}
+use lib.ListN.{length}
+use Prim.Native.Nat.{◌≤◌}
+use Rattle.flat.specs.Layout.{definitions}
 use Rattle.pass_classify.proofs.Turns.{ClassifiedFrom}
 use Rattle.pass_classify.proofs.mark_definitions.Given as goal
 
-abbrev pub invariant-loop-done : goal.invariant-loop-done
-invariant-loop-done l = OverDefinitions l.s l.n l.definitions l.at l.done × (Codes 2 l.usage × ClassifiedFrom l.s l.initial.usage l.usage (l.n - l.done))
-
-abbrev pub decreases-loop-done : goal.decreases-loop-done
-decreases-loop-done l = l.n - l.done
+abbrev pub invariant-loop-k : goal.invariant-loop-k
+invariant-loop-k l = record {
+  most : l.k ≤ definitions l.record.bytes.now;
+  marks : ClassifiedFrom l.record.bytes.now l.initial.usage l.usage l.k;
+  long : length l.usage ≡ 65536;
+}

@@ -1,16 +1,17 @@
 -- `pass_copies::is_dead` meets its contract. Assumes nothing.
-use mathlib.Core.Path.{refl, ◌∙◌, ap₂, sym}
+use borrow.Author.Rules.{rules}
 use Rattle.pass_copies.specs.Substituted.{dead_roots}
+use Rattle.pass_copies.proofs.Shapes.{decided}
 use Rattle.pass_copies.proofs.is_dead.Goals as goal
+
+pub returns-in-Some-Some : goal.returns-in-Some-Some
+unfolding dead_roots
+returns-in-Some-Some c = rw (c.in-Some-Some.is-0, c.in-Some-Some.is-1) (decided _ _ _ (search rules) (search rules))
 
 pub returns-in_default : goal.returns-in_default
 unfolding dead_roots
-returns-in_default c = sym (ap₂ dead_roots c.in_default.is refl)
+returns-in_default c = rw (c.in_default.is-0, c.in_default.is-1)
 
-pub returns-in_default-b : goal.returns-in_default-b
+pub returns-in_default-2 : goal.returns-in_default-2
 unfolding dead_roots
-returns-in_default-b c = sym (ap₂ dead_roots c.in-Leaf.is c.in_default-b.is)
-
-pub returns : goal.returns
-unfolding dead_roots
-returns c = c.same_term.ensures ∙ sym (ap₂ dead_roots c.in-Leaf.is c.in-Leaf-b.is)
+returns-in_default-2 c = rw c.in_default.is-0

@@ -1,10 +1,15 @@
-use Prim.Native.Nat.{◌-◌, ◌+◌, ◌≤◌}
+use Prim.Native.Nat.{◌+◌, ◌≤◌}
 use mathlib.Core.Path.{◌≡◌}
+use Rattle.flat.specs.Layout.{definitions}
 use Rattle.pass_copies.proofs.Used.{used_from, used_all}
 use Rattle.pass_copies.proofs.used_definitions.Given as goal
 
 abbrev pub invariant-loop-k : goal.invariant-loop-k
-invariant-loop-k l = ((l.count + used_from l.s l.usage l.k ≡ used_all l.s l.usage) × (l.count ≤ l.k)) × (l.k ≤ l.n)
-
-abbrev pub decreases-loop-k : goal.decreases-loop-k
-decreases-loop-k l = l.n - l.k
+invariant-loop-k l =
+    let b = l.record.bytes.now in
+    let m = l.classes.usage in
+    record {
+      end : l.k-end ≡ definitions b;
+      sum : l.count + used_from b m l.k ≡ used_all b m;
+      few : l.count ≤ l.k;
+    }

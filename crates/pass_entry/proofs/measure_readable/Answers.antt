@@ -3,7 +3,7 @@ use mathlib.Core.Path.{sym, ap, ◌∙◌}
 use Rattle.pass_trees.specs.Passes.{passes}
 use Rattle.flat.specs.Record.{module_of}
 use Rattle.pass_entry.specs.Cut.{need_of}
-use Rattle.pass_entry.proofs.Answers.{needs-refused, left-refused, made-cut, made-numbers, made-body, made_list, body-size, list-size}
+use Rattle.pass_entry.proofs.Answers.{needs-refused, left-refused, answer-made, made-cut, made-numbers, made-body, made_list, body-size, list-size}
 use Rattle.pass_entry.proofs.Fits.{passes-small, fitting-of}
 use Rattle.pass_entry.proofs.Delivered.{needs-numbers}
 use Rattle.pass_entry.proofs.measure_readable.Goals as goal
@@ -11,7 +11,7 @@ use Rattle.pass_entry.proofs.measure_readable.Goals as goal
 pub equalities_of-equalities-requires : goal.equalities_of-equalities-requires
 equalities_of-equalities-requires c =
     let f = module_of c.args.s.now in
-    let left = sym c.in-Made.is ∙ c.run_passes.ensures.value in
+    let left = answer-made _ c.in-Ok.is ∙ c.run_passes.ensures.value in
     let body = c.run_passes.ensures.body_after ∙ made-body f left _ in
     let list = c.run_passes.ensures.list_after ∙ made_list f left _ in
     let body-long = body-size c.no_body-body.ensures in
@@ -22,7 +22,7 @@ equalities_of-equalities-requires c =
 pub bytes_of-bytes-requires : goal.bytes_of-bytes-requires
 bytes_of-bytes-requires c =
     let f = module_of c.args.s.now in
-    let left = sym c.in-Made.is ∙ c.run_passes.ensures.value in
+    let left = answer-made _ c.in-Ok.is ∙ c.run_passes.ensures.value in
     let body = c.run_passes.ensures.body_after ∙ made-body f left _ in
     let list = c.run_passes.ensures.list_after ∙ made_list f left _ in
     let body-long = body-size c.no_body-body.ensures in
@@ -30,11 +30,11 @@ bytes_of-bytes-requires c =
     let fits = fitting-of (passes-small c.requires.0 c.requires.1) _ _ (made-numbers f left) body list body-long list-long in
     (fits.kept_small, fits.nodes-small)
 
-pub returns-in-Refused : goal.returns-in-Refused
-returns-in-Refused c = needs-refused _ (left-refused _ (sym c.in-Refused.is ∙ c.run_passes.ensures.value))
+pub returns-in-Err : goal.returns-in-Err
+returns-in-Err c = rw c.number.ensures (needs-refused _ (left-refused _ _ c.in-Err.is c.run_passes.ensures.value))
 
-pub returns-in-Made : goal.returns-in-Made
-returns-in-Made c =
+pub returns-in-Ok : goal.returns-in-Ok
+returns-in-Ok c =
     let f = module_of c.args.s.now in
-    let left = sym c.in-Made.is ∙ c.run_passes.ensures.value in
+    let left = answer-made _ c.in-Ok.is ∙ c.run_passes.ensures.value in
     needs-numbers (passes f) (made-numbers f left) c.equalities_of-equalities.ensures c.bytes_of-bytes.ensures ∙ sym (ap need_of (made-cut f left))

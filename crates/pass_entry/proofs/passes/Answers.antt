@@ -1,32 +1,33 @@
 -- `pass_entry::passes` meets its contract. Assumes nothing.
-use mathlib.Core.Path.{sym, ◌∙◌}
+use mathlib.Core.Path.{◌∙◌}
 use Rattle.pass_trees.specs.Passes.{passes}
 use Rattle.flat.specs.Record.{module_of}
 use Rattle.pass_entry.proofs.Answers.{gives_as, gives-refused, left-refused, made-cut, made-numbers, made-body}
-use Rattle.pass_entry.proofs.Answers.{made_list, passes-publics, layout-publics, body-size, list-size}
+use Rattle.pass_entry.proofs.Answers.{made_list, answer-made, passes-publics, body-size, list-size}
+use Rattle.pass_classify.proofs.Laid.{publics-laid}
 use Rattle.pass_entry.proofs.Fits.{passes-small, fitting-of, made_of}
 use Rattle.pass_entry.proofs.passes.Goals as goal
 
 pub deliver-requires : goal.deliver-requires
 deliver-requires c =
     let f = module_of c.args.s.now in
-    let left = sym c.in-Made.is ∙ c.run_passes.ensures.value in
+    let left = answer-made _ c.in-Ok.is ∙ c.run_passes.ensures.value in
     let small = passes-small c.requires.0 c.requires.1 in
     let body = c.run_passes.ensures.body_after ∙ made-body f left _ in
     let list = c.run_passes.ensures.list_after ∙ made_list f left _ in
     let body-long = body-size c.no_body-body.ensures in
     let list-long = list-size c.no_list-list.ensures in
-    rw (layout-publics c.args.s.now c.layout_of-layout.ensures) (fitting-of small _ _ (made-numbers f left) body list body-long list-long)
+    rw (publics-laid c.args.s.now c.layout_of-layout.ensures) (fitting-of small _ _ (made-numbers f left) body list body-long list-long)
 
-pub returns-in-Refused : goal.returns-in-Refused
-returns-in-Refused c =
-    let o = left-refused _ (sym c.in-Refused.is ∙ c.run_passes.ensures.value) in
-    gives_as c.args.out.now _ _ o (gives-refused c.args.out.now _)
+pub returns-in-Err : goal.returns-in-Err
+returns-in-Err c =
+    let o = left-refused _ _ c.in-Err.is c.run_passes.ensures.value in
+    rw c.number.ensures (gives_as c.args.out.now _ _ o (gives-refused c.args.out.now _))
 
-pub returns-in-Made : goal.returns-in-Made
-returns-in-Made c =
+pub returns-in-Ok : goal.returns-in-Ok
+returns-in-Ok c =
     let f = module_of c.args.s.now in
-    let left = sym c.in-Made.is ∙ c.run_passes.ensures.value in
+    let left = answer-made _ c.in-Ok.is ∙ c.run_passes.ensures.value in
     let small = passes-small c.requires.0 c.requires.1 in
     let body = c.run_passes.ensures.body_after ∙ made-body f left _ in
     let list = c.run_passes.ensures.list_after ∙ made_list f left _ in

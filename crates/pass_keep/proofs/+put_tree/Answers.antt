@@ -1,160 +1,137 @@
 -- `pass_keep::put_tree` meets its contract. Assumes nothing.
 use borrow.Author.Rules.{rules}
 use native.Mathlib.Omega.{arith}
-use mathlib.Core.Path.{◌∙◌, ap, sym}
+use mathlib.Core.Path.{ap}
+use Prim.Native.Nat.{ℕ, ◌+◌, ◌*◌, ◌≤◌, ◌<◌}
+use lib.ListN.{length}
 use mir.ValLaws.{to_z-of_z}
 use mir.Syntax.{w32}
+use Rattle.records.specs.Kinds.{NODE-WORDS}
 use Rattle.constraint.specs.declared.Term.{Term}
+use Rattle.flat.specs.Record.{grown}
+use Rattle.pass_trees.specs.Passes.{copy_propagate_expr, to_expr}
 use Rattle.pass_copies.specs.Substituted.{subst_of}
-use Rattle.pass_copies.proofs.Shapes.{copy-infix, copy-negate, copy-constant, copy-variable}
-use Rattle.pass_classify.proofs.Walks.{left-inside, right-inside, child-inside}
 use Rattle.pass_keep.proofs.Nodes.{put-infix, put-negate, put-term, room-left, room-right, room-root, room-child, room-above, room-leaf}
 use Rattle.pass_keep.proofs.+put_tree.Goals as goal
+use Rattle.pass_keep.proofs.+put_tree.Goals.{After-put_tree-b, After-put_tree-a-in-Negate}
 
 pub put_tree-a-requires : goal.put_tree-a-requires
+unfolding grown
 put_tree-a-requires t c =
-    let w = left-inside c.requires.0 (sym c.node_at-node.ensures ∙ c.in-Infix.is) in (
+    let w = c.in-Infix.ensures.within in
+    let k = c.requires.0 in (
       omega (arith, w.0, c.decreases),
       (
-        w.1,
-        room-left c.requires.0 c.args.base c.args.steps (subst_of c.args.subs.now) c.args.list.now c.requires.1
-            (sym c.node_at-node.ensures ∙ c.in-Infix.is),
+        omega (arith, k, w.0),
+        room-left _ c.args.base c.args.subs.now.steps (subst_of c.args.subs.now.terms) c.args.list.now c.requires.1 c.in-Infix.ensures.tree,
       ),
     )
 
+-- there is room for the root of two children
+root : (t : ℕ) (c : After-put_tree-b t) →
+    (4 * (NODE-WORDS * c.put_tree-b.result + NODE-WORDS) ≤ length c.put_tree-b.new.list) × (c.put_tree-b.result < 65536) × (0 < c.put_tree-a.result)
+    × (0 < c.put_tree-b.result) × (c.put_tree-a.result < 65536)
+unfolding grown
+root t c =
+    room-root _ c.args.base c.args.subs.now.steps (subst_of c.args.subs.now.terms) c.args.list.now c.requires.1 c.in-Infix.ensures.tree
+    c.put_tree-a.ensures.0 c.put_tree-a.ensures.1 c.put_tree-b.ensures.0 c.put_tree-b.ensures.1
+
+-- and for the one above a child
+above : (t : ℕ) (c : After-put_tree-a-in-Negate t) →
+    (4 * (NODE-WORDS * c.put_tree-a-in-Negate.result + NODE-WORDS) ≤ length c.put_tree-a-in-Negate.new.list) × (c.put_tree-a-in-Negate.result < 65536)
+    × (0 < c.put_tree-a-in-Negate.result)
+unfolding grown
+above t c =
+    room-above _ c.args.base c.args.subs.now.steps (subst_of c.args.subs.now.terms) c.args.list.now c.requires.1 c.in-Negate.ensures.tree
+    c.put_tree-a-in-Negate.ensures.0 c.put_tree-a-in-Negate.ensures.1
+
 pub put_tree-b-requires : goal.put_tree-b-requires
+unfolding grown
 put_tree-b-requires t c =
-    let w = right-inside c.requires.0 (sym c.node_at-node.ensures ∙ c.in-Infix.is) in (
-      omega (arith, w.0, c.decreases),
+    let w = c.in-Infix.ensures.within in
+    let k = c.requires.0 in (
+      omega (arith, w.1, c.decreases),
       (
-        w.1,
-        room-right c.requires.0 c.args.base c.args.steps (subst_of c.args.subs.now) c.args.list.now
-            c.requires.1 (sym c.node_at-node.ensures ∙ c.in-Infix.is) c.put_tree-a.ensures.0
-            c.put_tree-a.ensures.1,
+        omega (arith, k, w.1),
+        room-right _ c.args.base c.args.subs.now.steps (subst_of c.args.subs.now.terms) c.args.list.now c.requires.1 c.in-Infix.ensures.tree
+            c.put_tree-a.ensures.0 c.put_tree-a.ensures.1,
       ),
     )
 
 pub overflow_mul-b : goal.overflow_mul-b
-overflow_mul-b t c =
-    let w = room-root c.requires.0 c.args.base c.args.steps (subst_of c.args.subs.now) c.args.list.now
-    c.requires.1 (sym c.node_at-node.ensures ∙ c.in-Infix.is) c.put_tree-a.ensures.0 c.put_tree-a.ensures.1
-    c.put_tree-b.ensures.0 c.put_tree-b.ensures.1 in omega (arith, w.1)
+overflow_mul-b t c = let w = root t (goal.at.overflow_mul-b t c).After-put_tree-b in omega (arith, w.1)
 
 pub overflow_sub-a : goal.overflow_sub-a
-overflow_sub-a t c =
-    let w = room-root c.requires.0 c.args.base c.args.steps (subst_of c.args.subs.now) c.args.list.now
-    c.requires.1 (sym c.node_at-node.ensures ∙ c.in-Infix.is) c.put_tree-a.ensures.0 c.put_tree-a.ensures.1
-    c.put_tree-b.ensures.0 c.put_tree-b.ensures.1 in omega (arith, w.2)
+overflow_sub-a t c = let w = root t (goal.at.overflow_sub-a t c).After-put_tree-b in omega (arith, w.2)
 
 pub overflow_cast-a : goal.overflow_cast-a
-overflow_cast-a t c =
-    let w = room-root c.requires.0 c.args.base c.args.steps (subst_of c.args.subs.now) c.args.list.now
-    c.requires.1 (sym c.node_at-node.ensures ∙ c.in-Infix.is) c.put_tree-a.ensures.0 c.put_tree-a.ensures.1
-    c.put_tree-b.ensures.0 c.put_tree-b.ensures.1 in omega (arith, w.4)
+overflow_cast-a t c = let w = root t (goal.at.overflow_cast-a t c).After-put_tree-b in omega (arith, w.4)
 
 pub overflow_sub-b : goal.overflow_sub-b
-overflow_sub-b t c =
-    let w = room-root c.requires.0 c.args.base c.args.steps (subst_of c.args.subs.now) c.args.list.now
-    c.requires.1 (sym c.node_at-node.ensures ∙ c.in-Infix.is) c.put_tree-a.ensures.0 c.put_tree-a.ensures.1
-    c.put_tree-b.ensures.0 c.put_tree-b.ensures.1 in omega (arith, w.3)
+overflow_sub-b t c = let w = root t (goal.at.overflow_sub-b t c).After-put_tree-b in omega (arith, w.3)
 
 pub overflow_cast-b : goal.overflow_cast-b
-overflow_cast-b t c =
-    let w = room-root c.requires.0 c.args.base c.args.steps (subst_of c.args.subs.now) c.args.list.now
-    c.requires.1 (sym c.node_at-node.ensures ∙ c.in-Infix.is) c.put_tree-a.ensures.0 c.put_tree-a.ensures.1
-    c.put_tree-b.ensures.0 c.put_tree-b.ensures.1 in omega (arith, w.1)
+overflow_cast-b t c = let w = root t (goal.at.overflow_cast-b t c).After-put_tree-b in omega (arith, w.1)
 
 pub put_node-requires : goal.put_node-requires
-put_node-requires t c =
-    (room-root c.requires.0 c.args.base c.args.steps (subst_of c.args.subs.now) c.args.list.now c.requires.1
-    (sym c.node_at-node.ensures ∙ c.in-Infix.is) c.put_tree-a.ensures.0 c.put_tree-a.ensures.1
-    c.put_tree-b.ensures.0 c.put_tree-b.ensures.1).0
+put_node-requires t c = (root t (goal.at.put_node-requires t c).After-put_tree-b).0
 
 pub overflow_add-result : goal.overflow_add-result
-overflow_add-result t c =
-    let w = room-root c.requires.0 c.args.base c.args.steps (subst_of c.args.subs.now) c.args.list.now
-    c.requires.1 (sym c.node_at-node.ensures ∙ c.in-Infix.is) c.put_tree-a.ensures.0 c.put_tree-a.ensures.1
-    c.put_tree-b.ensures.0 c.put_tree-b.ensures.1 in omega (arith, w.1)
+overflow_add-result t c = let w = root t (goal.at.overflow_add-result t c).After-put_tree-b in omega (arith, w.1)
 
 pub put_tree-a-requires-in-Negate : goal.put_tree-a-requires-in-Negate
+unfolding grown
 put_tree-a-requires-in-Negate t c =
-    let w = child-inside c.requires.0 (sym c.node_at-node.ensures ∙ c.in-Negate.is) in (
-      omega (arith, w.0, c.decreases),
+    let w = c.in-Negate.ensures.within in
+    let k = c.requires.0 in (
+      omega (arith, w, c.decreases),
       (
-        w.1,
-        room-child c.requires.0 c.args.base c.args.steps (subst_of c.args.subs.now) c.args.list.now c.requires.1
-            (sym c.node_at-node.ensures ∙ c.in-Negate.is),
+        omega (arith, k, w),
+        room-child _ c.args.base c.args.subs.now.steps (subst_of c.args.subs.now.terms) c.args.list.now c.requires.1 c.in-Negate.ensures.tree,
       ),
     )
 
 pub overflow_mul-a : goal.overflow_mul-a
-overflow_mul-a t c =
-    let w = room-above c.requires.0 c.args.base c.args.steps (subst_of c.args.subs.now) c.args.list.now
-    c.requires.1 (sym c.node_at-node.ensures ∙ c.in-Negate.is) c.put_tree-a-in-Negate.ensures.0
-    c.put_tree-a-in-Negate.ensures.1 in omega (arith, w.1)
+overflow_mul-a t c = let w = above t (goal.at.overflow_mul-a t c).After-put_tree-a-in-Negate in omega (arith, w.1)
 
 pub overflow_sub-a-in-Negate : goal.overflow_sub-a-in-Negate
-overflow_sub-a-in-Negate t c =
-    let w = room-above c.requires.0 c.args.base c.args.steps (subst_of c.args.subs.now) c.args.list.now
-    c.requires.1 (sym c.node_at-node.ensures ∙ c.in-Negate.is) c.put_tree-a-in-Negate.ensures.0
-    c.put_tree-a-in-Negate.ensures.1 in omega (arith, w.2)
+overflow_sub-a-in-Negate t c = let w = above t (goal.at.overflow_sub-a-in-Negate t c).After-put_tree-a-in-Negate in omega (arith, w.2)
 
 pub overflow_cast-a-in-Negate : goal.overflow_cast-a-in-Negate
-overflow_cast-a-in-Negate t c =
-    let w = room-above c.requires.0 c.args.base c.args.steps (subst_of c.args.subs.now) c.args.list.now
-    c.requires.1 (sym c.node_at-node.ensures ∙ c.in-Negate.is) c.put_tree-a-in-Negate.ensures.0
-    c.put_tree-a-in-Negate.ensures.1 in omega (arith, w.1)
+overflow_cast-a-in-Negate t c = let w = above t (goal.at.overflow_cast-a-in-Negate t c).After-put_tree-a-in-Negate in omega (arith, w.1)
 
 pub put_node-requires-in-Negate : goal.put_node-requires-in-Negate
-put_node-requires-in-Negate t c =
-    (room-above c.requires.0 c.args.base c.args.steps (subst_of c.args.subs.now) c.args.list.now
-    c.requires.1 (sym c.node_at-node.ensures ∙ c.in-Negate.is) c.put_tree-a-in-Negate.ensures.0
-    c.put_tree-a-in-Negate.ensures.1).0
+put_node-requires-in-Negate t c = (above t (goal.at.put_node-requires-in-Negate t c).After-put_tree-a-in-Negate).0
 
 pub overflow_add-result-in-Negate : goal.overflow_add-result-in-Negate
-overflow_add-result-in-Negate t c =
-    let w =
-    room-above c.requires.0 c.args.base c.args.steps (subst_of c.args.subs.now) c.args.list.now c.requires.1
-    (sym c.node_at-node.ensures ∙ c.in-Negate.is) c.put_tree-a-in-Negate.ensures.0 c.put_tree-a-in-Negate.ensures.1 in
-    omega (arith, w.1)
+overflow_add-result-in-Negate t c = let w = above t (goal.at.overflow_add-result-in-Negate t c).After-put_tree-a-in-Negate in omega (arith, w.1)
 
 pub put_leaf-requires : goal.put_leaf-requires
-put_leaf-requires t c = room-leaf c.requires.0 c.args.base c.args.steps (subst_of c.args.subs.now) c.args.list.now c.requires.1
-
-pub overflow_add-result-in-Constant : goal.overflow_add-result-in-Constant
-overflow_add-result-in-Constant t c =
-    let w =
-    room-leaf c.requires.0 c.args.base c.args.steps (subst_of c.args.subs.now) c.args.list.now c.requires.1 in
-    omega (arith, w.few)
+put_leaf-requires t c = room-leaf _ c.args.base c.args.subs.now.steps (subst_of c.args.subs.now.terms) c.args.list.now c.requires.1
 
 pub put_leaf-requires-in-Variable : goal.put_leaf-requires-in-Variable
-put_leaf-requires-in-Variable t c = room-leaf c.requires.0 c.args.base c.args.steps (subst_of c.args.subs.now) c.args.list.now c.requires.1
-
-pub overflow_add-result-in-Variable : goal.overflow_add-result-in-Variable
-overflow_add-result-in-Variable t c =
-    let w =
-    room-leaf c.requires.0 c.args.base c.args.steps (subst_of c.args.subs.now) c.args.list.now c.requires.1 in
-    omega (arith, w.few)
+put_leaf-requires-in-Variable t c = room-leaf _ c.args.base c.args.subs.now.steps (subst_of c.args.subs.now.terms) c.args.list.now c.requires.1
 
 pub returns-in-Infix : goal.returns-in-Infix
+unfolding grown copy_propagate_expr
 returns-in-Infix t c =
-    put-infix c.args.list.now c.args.base (copy-infix c.requires.0 _ _ (sym c.node_at-node.ensures ∙ c.in-Infix.is))
-    c.put_tree-a.ensures.0 c.put_tree-a.ensures.1 c.put_tree-b.ensures.0 c.put_tree-b.ensures.1
-    c.from-o.ensures c.put_node.ensures
+    put-infix c.args.list.now c.args.base (ap (copy_propagate_expr c.args.subs.now.steps (subst_of c.args.subs.now.terms)) c.in-Infix.ensures.tree)
+    c.put_tree-a.ensures.0 c.put_tree-a.ensures.1 c.put_tree-b.ensures.0 c.put_tree-b.ensures.1 c.from-o.ensures c.put_node.ensures
 
 pub returns-in-Negate : goal.returns-in-Negate
+unfolding grown copy_propagate_expr
 returns-in-Negate t c =
-    put-negate c.args.list.now c.args.base
-    (copy-negate c.requires.0 _ _ (sym c.node_at-node.ensures ∙ c.in-Negate.is)) c.put_tree-a-in-Negate.ensures.0
-    c.put_tree-a-in-Negate.ensures.1 c.put_node-in-Negate.ensures
+    put-negate c.args.list.now c.args.base (ap (copy_propagate_expr c.args.subs.now.steps (subst_of c.args.subs.now.terms)) c.in-Negate.ensures.tree)
+    c.put_tree-a-in-Negate.ensures.0 c.put_tree-a-in-Negate.ensures.1 c.put_node-in-Negate.ensures
 
 pub returns-in-Constant : goal.returns-in-Constant
+unfolding grown copy_propagate_expr to_expr
 returns-in-Constant t c =
-    put-term c.args.list.now c.args.base
-    (copy-constant c.requires.0 _ _ (sym c.node_at-node.ensures ∙ c.in-Constant.is))
+    put-term c.args.list.now c.args.base (ap (copy_propagate_expr c.args.subs.now.steps (subst_of c.args.subs.now.terms)) c.in-Constant.ensures.tree)
     (ap Term.Constant (to_z-of_z w32 _ (search rules))) c.put_leaf.ensures
 
 pub returns-in-Variable : goal.returns-in-Variable
+unfolding grown copy_propagate_expr
 returns-in-Variable t c =
-    put-term c.args.list.now c.args.base (copy-variable c.requires.0 _ _
-    (sym c.node_at-node.ensures ∙ c.in-Variable.is)) c.resolve.ensures c.put_leaf-in-Variable.ensures
+    put-term c.args.list.now c.args.base (ap (copy_propagate_expr c.args.subs.now.steps (subst_of c.args.subs.now.terms)) c.in-Variable.ensures.tree)
+    c.resolve.ensures c.put_leaf-in-Variable.ensures

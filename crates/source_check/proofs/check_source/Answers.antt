@@ -25,20 +25,18 @@ returns-then-not-names_fit c =
     is-unnamed c.args.s.now c.if-size-lt-HEADER_BYTES.false c.layout_of-l.ensures refl c.if-not-counted.false refl
     c.if-not-listed.false c.names_fit.ensures c.if-not-names_fit.true
 
-pub names_differ-requires : goal.names_differ-requires
-names_differ-requires c = (
-  (
-    (room c.args.s.now _ c.layout_of-l.ensures (long-lists _ _ _ c.if-not-listed.false)).names_in,
-    sym c.names_fit.ensures ∙ c.if-not-names_fit.false,
-  ),
-  few-names c.layout_of-l.result c.if-not-counted.false,
-)
+pub invariant_of-names : goal.invariant_of-names
+invariant_of-names c = record {
+  listed = (room c.args.s.now _ c.layout_of-l.ensures (long-lists _ _ _ c.if-not-listed.false)).names_in;
+  fit = sym c.names_fit.ensures ∙ c.if-not-names_fit.false;
+  few = few-names c.layout_of-l.result c.if-not-counted.false;
+}
 
-pub returns-then-not-names_differ : goal.returns-then-not-names_differ
-returns-then-not-names_differ c =
+pub returns-then-not-differ : goal.returns-then-not-differ
+returns-then-not-differ c =
     is-equal c.args.s.now c.if-size-lt-HEADER_BYTES.false c.layout_of-l.ensures refl c.if-not-counted.false refl
     c.if-not-listed.false c.names_fit.ensures c.if-not-names_fit.false
-    c.names_differ.ensures c.if-not-names_differ.true
+    c.differ.ensures c.if-not-differ.true
 
 pub read_trees-requires : goal.read_trees-requires
 read_trees-requires c = (
@@ -50,4 +48,4 @@ pub returns : goal.returns
 returns c =
     is-trees c.args.s.now c.if-size-lt-HEADER_BYTES.false c.layout_of-l.ensures refl c.if-not-counted.false refl
     c.if-not-listed.false c.names_fit.ensures c.if-not-names_fit.false
-    c.names_differ.ensures c.if-not-names_differ.false c.read_trees.ensures
+    c.differ.ensures c.if-not-differ.false c.read_trees.ensures

@@ -14,5 +14,6 @@ put_text-requires c = omega (arith, ap length (digits-are c), few _ c.ranges.n.f
 
 pub returns : goal.returns
 returns c =
-    let put = subst (λ t. Put c.args.out.now c.args.at t c.put_text.new.out c.put_text.result) (digits-are (goal.at.returns c).After-as_bytes) c.put_text.ensures in
+    let is = digits-are (goal.at.returns c).After-as_bytes in
+    let put = subst (λ t. Put c.args.out.now c.args.at t c.put_text.new.out c.put_text.result) is c.put_text.ensures in
     record { value = put; upper_bound = omega (arith, put.0, few _ c.ranges.n.fits) }

@@ -1,44 +1,23 @@
--- `field::magnitude` meets its contract. Assumes nothing.
-use mathlib.Core.Path.{◌≡◌}
-use Prim.Native.Nat.{◌<◌, ◌^◌}
-use lib.IntN.{negsuc, pos}
+-- `field::residues::magnitude` meets its contract. Assumes nothing.
+use mathlib.Core.Path.{◌≡◌, ap, ◌∙◌}
+use Prim.Native.Nat.{ℕ, ◌-◌, ◌<◌, ◌^◌}
+use native.Mathlib.Omega.{arith}
+use lib.IntN.{ℤ, negsuc, nat_abs}
 use lib.Signed.{mag}
-use Rattle.field.proofs.Signed.{negative, positive, one_up, neg-fits, pos-fits, negated, read, cast}
+use mir.Syntax.{w64}
+use mir.Val.{SFits, of_z, to_z}
+use Rattle.std.proofs.lemmas.Int.{ints}
+use Rattle.field.proofs.Signed.{negative, positive, read}
 use Rattle.field.proofs.residues.magnitude.Goals as goal
-use Rattle.field.proofs.residues.magnitude.Goals.{Else-x-lt0, Start, Then-x-lt0}
 
-small : (c : Start) → mag c.args.x < 2 ^ 63
-small c = c.ranges.x.sfits
+flipped : (m : ℕ) → m < 2 ^ 63 → nat_abs (to_z w64 (18446744073709551615 - of_z w64 (negsuc m))) ≡ m
+flipped m l = omega (arith, ints, l)
 
-below : (c : Then-x-lt0) → c.args.x ≡ negsuc (mag c.args.x)
-below c = negative c.args.x c.ranges.x c.if-x-lt0.true
-
-above : (c : Else-x-lt0) → c.args.x ≡ pos (mag c.args.x)
-above c = positive c.args.x c.ranges.x c.if-x-lt0.false
-
-pub overflow_add-result : goal.overflow_add-result
-overflow_add-result c = neg-fits _ (mag c.args.x) (one_up _ c.ranges.x (below c)) (small (goal.at.overflow_add-result c).Start)
-
-pub overflow_sub-result : goal.overflow_sub-result
-overflow_sub-result c =
-    pos-fits _ (mag c.args.x)
-    (negated _ _ (one_up _ c.ranges.x (below c)) (small (goal.at.overflow_sub-result c).Start))
-    (small (goal.at.overflow_sub-result c).Start)
-
-pub overflow_cast-result : goal.overflow_cast-result
-overflow_cast-result c =
-    cast _ (mag c.args.x)
-    (negated _ _ (one_up _ c.ranges.x (below c)) (small (goal.at.overflow_cast-result c).Start))
-    (small (goal.at.overflow_cast-result c).Start)
-
-pub overflow_cast-result-else-x-lt0 : goal.overflow_cast-result-else-x-lt0
-overflow_cast-result-else-x-lt0 c = cast _ (mag c.args.x) (above c) (small (goal.at.overflow_cast-result-else-x-lt0 c).Start)
+below : (x : ℤ) → SFits w64 x → x ≡ negsuc (mag x) → nat_abs (to_z w64 (18446744073709551615 - of_z w64 x)) ≡ mag x
+below x f e = ap (λ (z : ℤ). nat_abs (to_z w64 (18446744073709551615 - of_z w64 z))) e ∙ flipped (mag x) f.sfits
 
 pub returns-then-x-lt0 : goal.returns-then-x-lt0
-returns-then-x-lt0 c =
-    read _ (mag c.args.x)
-    (negated _ _ (one_up _ c.ranges.x (below c)) (small (goal.at.returns-then-x-lt0 c).Start))
-    (small (goal.at.returns-then-x-lt0 c).Start)
+returns-then-x-lt0 c = below _ c.ranges.x (negative _ c.ranges.x c.if-x-lt0.true)
 
 pub returns-else-x-lt0 : goal.returns-else-x-lt0
-returns-else-x-lt0 c = read _ (mag c.args.x) (above c) (small (goal.at.returns-else-x-lt0 c).Start)
+returns-else-x-lt0 c = read _ _ (positive _ c.ranges.x c.if-x-lt0.false) c.ranges.x.sfits

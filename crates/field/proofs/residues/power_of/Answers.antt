@@ -1,4 +1,4 @@
--- `field::power_of` meets its contract. The loop's invariant: the product times what is left of the power has the residue of the whole power.
+-- `field::residues::power_of` meets its contract. The loop's invariant: the product times what is left of the power has the residue of the whole power.
 -- The measure is what is left of the exponent. Assumes nothing.
 use mathlib.Core.Path.{◌≡◌, ap, sym, subst⁻¹, ◌∙◌}
 use Prim.Native.Nat.{ℕ, ◌*◌, ◌/◌, ◌%◌, ◌^◌, ◌<◌}
@@ -45,8 +45,8 @@ joined c = let a : ℕ = c.loop-left.product in
 pub loop-left-preserved : goal.loop-left-preserved
 loop-left-preserved c = ((joined (goal.at.loop-left-preserved c).Joined-left-eq1).0, mod-lt _ (omega arith), (joined (goal.at.loop-left-preserved c).Joined-left-eq1).1 ∙ c.loop-left.invariant.2)
 
-pub returns : goal.returns
-returns c =
+pub returns-clause-value : goal.returns-clause-value
+returns-clause-value c =
     let zero : c.loop-left.left ≡ 0 = omega arith in
     sym (mod-eq_of_lt c.loop-left.invariant.0)
     ∙ ap (λ (k : ℕ). k % P) (sym (ap (λ (k : ℕ). c.loop-left.product * c.loop-left.base ^ k) zero

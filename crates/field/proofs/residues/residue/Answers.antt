@@ -1,4 +1,4 @@
--- `field::residue` meets its contract. Assumes nothing.
+-- `field::residues::residue` meets its contract. Assumes nothing.
 use mathlib.Core.Path.{◌≡◌, ap, ◌∙◌}
 use Prim.Native.Nat.{ℕ, suc, ◌-◌, ◌%◌}
 use native.Mathlib.Omega.{arith}
@@ -23,12 +23,12 @@ res-pos x n e = ap (res P) e
 size : (c : After-magnitude-r) → c.magnitude-r.result ≡ mag c.args.x
 size c = c.magnitude-r.ensures ∙ ap mag (to_z-of_z c.ranges.x)
 
-pub returns-then-x-lt0 : goal.returns-then-x-lt0
-returns-then-x-lt0 c =
+pub returns-then-x-lt0-clause-value : goal.returns-then-x-lt0-clause-value
+returns-then-x-lt0-clause-value c =
     let x : ℤ = c.args.x in
-    omega (arith, size (goal.at.returns-then-x-lt0 c).After-magnitude-r, res-neg x (mag x) (negative x c.ranges.x c.if-x-lt0.true))
+    omega (arith, size (goal.at.returns-then-x-lt0-clause-value c).After-magnitude-r, res-neg x (mag x) (negative x c.ranges.x c.if-x-lt0.true))
 
-pub returns-else-x-lt0 : goal.returns-else-x-lt0
-returns-else-x-lt0 c =
+pub returns-else-x-lt0-clause-value : goal.returns-else-x-lt0-clause-value
+returns-else-x-lt0-clause-value c =
     let x : ℤ = c.args.x in
-    omega (arith, size (goal.at.returns-else-x-lt0 c).After-magnitude-r, res-pos x (mag x) (positive x c.ranges.x c.if-x-lt0.false))
+    omega (arith, size (goal.at.returns-else-x-lt0-clause-value c).After-magnitude-r, res-pos x (mag x) (positive x c.ranges.x c.if-x-lt0.false))

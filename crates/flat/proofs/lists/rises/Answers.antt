@@ -13,6 +13,6 @@ use Rattle.flat.proofs.lists.rises.Goals as goal
 pub returns : goal.returns
 unfolding rising
 returns c =
-    let at = c.args.at in
-    every-from_all _ _ _ _ _ (λ k. ltb (word_at c.args.s.now (at + k - 1)) (word_at c.args.s.now (at + k))) _ _ _ _ c.all.ensures.ran (λ x b q k. search (rules, tests))
-    refl refl (λ k l. let e : at + (1 + k) - 1 ≡ at + k = omega arith in let f : at + (1 + k) ≡ at + k + 1 = omega arith in rw (e, f))
+    every-from_all _ _ _ _ _ (λ k. ltb (word_at c.args.s.now (c.args.at + k - 1)) (word_at c.args.s.now (c.args.at + k))) _ _ _ _ c.all.ensures.ran
+    (λ x b q k. search (rules, tests)) refl refl
+    (λ k l. let e : c.args.at + (1 + k) - 1 ≡ c.args.at + k = omega arith in let f : c.args.at + (1 + k) ≡ c.args.at + k + 1 = omega arith in rw (e, f))

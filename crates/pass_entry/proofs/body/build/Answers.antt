@@ -3,131 +3,75 @@ use native.Mathlib.Omega.{arith}
 use mathlib.Core.Path.{sym, ap, ◌∙◌}
 use lib.ListN.{length}
 use Rattle.words.proofs.Laws.{length-set_words}
+use Rattle.pass_classify.proofs.Laid.{next-laid, publics-laid}
 use Rattle.pass_classify.proofs.Whole.{classified-definitions}
-use Rattle.pass_copies.proofs.Stored.{none-length}
-use Rattle.pass_entry.proofs.Building.{by_parts, lists-made, room-definitions, room-of-equations, second-words}
-use Rattle.pass_entry.proofs.Building.{cleared-words, room-of-kept, room-of-nodes, built}
-use Rattle.pass_entry.proofs.Answers.{layout-next, layout-publics, layout-definitions, layout-definitions-at}
-use Rattle.pass_entry.proofs.Answers.{layout-equations, layout-equations-at, layout-nodes-at}
+use Rattle.pass_entry.proofs.Building.{Lists, by_parts, lists-made, room-definitions, room-of-equations, room-of-kept, room-of-nodes, built}
 use Rattle.pass_entry.proofs.body.build.Goals as goal
+use Rattle.pass_entry.proofs.body.build.Goals.{After-put_provers-start}
 
 pub put_publics-requires : goal.put_publics-requires
-put_publics-requires c = (
-  omega (arith, c.requires.readable.0.long, layout-publics c.args.s.now c.layout_of-layout.ensures),
-  omega (arith, c.requires.readable.0.publics-few, layout-publics c.args.s.now c.layout_of-layout.ensures, c.requires.body_len.0),
-)
+put_publics-requires c = let r = c.args.classes.now.record.readable in omega (arith, r.publics-few, c.requires.body_len.0)
 
 pub put_provers-start-requires : goal.put_provers-start-requires
-put_provers-start-requires c = (
-  omega (arith, c.requires.readable.0.next_small, layout-next c.args.s.now c.layout_of-layout.ensures),
-  omega (
-    arith,
-    c.requires.readable.0.next_small,
-    c.requires.readable.0.publics-few,
-    layout-publics c.args.s.now c.layout_of-layout.ensures,
-    layout-next c.args.s.now c.layout_of-layout.ensures,
-    c.requires.body_len.0,
-    ap length c.put_publics.ensures ∙ length-set_words _ _ _,
-  ),
-)
+put_provers-start-requires c =
+    let read = c.args.classes.now.record in
+    let r = read.readable in
+    let publics = publics-laid read.bytes.now read.laid in
+    omega (arith, r.next_small, r.publics-few, publics, c.requires.body_len.0, ap length c.put_publics.ensures ∙ length-set_words _ _ _)
 
-pub used_definitions-steps-requires : goal.used_definitions-steps-requires
-used_definitions-steps-requires c = (
-  c.requires.readable.0,
-  layout-definitions-at c.args.s.now c.layout_of-layout.ensures,
-  layout-definitions c.args.s.now c.layout_of-layout.ensures,
-)
+-- what stands in the body before the equalities
+lists : (c : After-put_provers-start) → Lists c.args.classes.now.record.bytes.now c.args.classes.now.provers c.args.body.now
+    c.put_provers-start.new.body c.put_provers-start.result
+lists c =
+    let read = c.args.classes.now.record in
+    lists-made read.bytes.now _ c.args.body.now (publics-laid read.bytes.now read.laid) c.put_publics.ensures c.put_provers-start.ensures
 
-pub overflow_cast-next : goal.overflow_cast-next
-overflow_cast-next c = record { fits = omega (arith, c.requires.readable.0.next_small, layout-next c.args.s.now c.layout_of-layout.ensures) }
+pub overflow_cast-first : goal.overflow_cast-first
+overflow_cast-first c =
+    let read = c.args.classes.now.record in
+    let r = read.readable in
+    record { fits = omega (arith, r.next_small, next-laid read.bytes.now read.laid) }
 
 pub flatten_defs-d-requires : goal.flatten_defs-d-requires
 flatten_defs-d-requires c =
-    let r = c.requires.readable in
-    let long = c.requires.body_len in
-    let s = c.args.s.now in
-    let layout = c.layout_of-layout.ensures in
-    let lists = lists-made s _ c.args.body.now (layout-publics s layout) (layout-next s layout) c.put_publics.ensures c.put_provers-start.ensures in
-    record {
-      readable = (
-        r.0,
-        r.2,
-        layout-definitions-at s layout,
-        layout-definitions s layout,
-        layout-nodes-at s layout,
-      );
-      subs_len = (
-        ap length c.no_substitutions-subs.ensures ∙ none-length,
-        room-definitions r.0 r.2 r.1 long.0 lists c.used_definitions-steps.result _ (layout-next s layout),
-      );
-    }
+    let classes = c.args.classes.now in
+    let l = lists (goal.at.flatten_defs-d-requires c).After-put_provers-start in
+    room-definitions classes.record.readable classes.classified c.requires.few c.requires.body_len.0 l c.new-subs.result.steps _
+    (next-laid classes.record.bytes.now classes.record.laid)
 
 pub flatten_equations-e-requires : goal.flatten_equations-e-requires
 flatten_equations-e-requires c =
-    let r = c.requires.readable in
-    let long = c.requires.body_len in
-    let s = c.args.s.now in
-    let layout = c.layout_of-layout.ensures in
-    let lists = lists-made s _ c.args.body.now (layout-publics s layout) (layout-next s layout) c.put_publics.ensures c.put_provers-start.ensures in
-    let d = c.flatten_defs-d.ensures in (
-      r.0,
-      layout-equations-at s layout,
-      layout-equations s layout,
-      layout-nodes-at s layout,
-      room-of-equations r.0 r.2 r.1 long.0 lists c.used_definitions-steps.result _ (layout-next s layout) _ _
-          c.no_substitutions-subs.ensures _ _ (d.body_after, (d.value, d.subs_after)),
-    )
-
-pub slice_bounds-clear_substitutions-end : goal.slice_bounds-clear_substitutions-end
-slice_bounds-clear_substitutions-end c =
-    let r = c.requires.readable in
-    let long = c.requires.body_len in
-    let s = c.args.s.now in
-    let layout = c.layout_of-layout.ensures in
-    let lists = lists-made s _ c.args.body.now (layout-publics s layout) (layout-next s layout) c.put_publics.ensures c.put_provers-start.ensures in
+    let classes = c.args.classes.now in
+    let l = lists (goal.at.flatten_equations-e-requires c).After-put_provers-start in
     let d = c.flatten_defs-d.ensures in
-    sym (second-words r.0 r.2 r.1 long.0 lists c.used_definitions-steps.result _ (layout-next s layout) _ _
-    c.no_substitutions-subs.ensures _ _ (d.body_after, (d.value, d.subs_after)))
+    room-of-equations classes.record.readable classes.classified c.requires.few c.requires.body_len.0 l c.new-subs.result.steps _
+    (next-laid classes.record.bytes.now classes.record.laid) _ _ c.new-subs.ensures.0 _ _ (d.body_after, (d.value, d.subs_after))
 
 pub keep_defs-k-requires : goal.keep_defs-k-requires
 keep_defs-k-requires c =
-    let r = c.requires.readable in
-    let long = c.requires.body_len in
-    let s = c.args.s.now in
-    let layout = c.layout_of-layout.ensures in
-    let lists = lists-made s _ c.args.body.now (layout-publics s layout) (layout-next s layout) c.put_publics.ensures c.put_provers-start.ensures in
+    let classes = c.args.classes.now in
+    let r = classes.record.readable in
+    let n = next-laid classes.record.bytes.now classes.record.laid in
+    let l = lists (goal.at.keep_defs-k-requires c).After-put_provers-start in
     let d = c.flatten_defs-d.ensures in
-    let e = c.flatten_equations-e.ensures in
-    record {
-      readable = (
-        r.0,
-        r.2,
-        layout-definitions-at s layout,
-        layout-definitions s layout,
-        layout-nodes-at s layout,
-      );
-      subs_len = (
-        cleared-words r.0 r.2 r.1 long.0 lists c.used_definitions-steps.result _ (layout-next s layout) _ _
-            c.no_substitutions-subs.ensures _ _ (d.body_after, (d.value, d.subs_after)) _ c.clear_substitutions.ensures,
-        room-of-kept r.0 r.2 r.1 long.0 lists c.used_definitions-steps.result _ (layout-next s layout) _ _
-            c.no_substitutions-subs.ensures _ _ (d.body_after, (d.value, d.subs_after)) _ _ (e.body_after, e.value) (layout-definitions s layout),
-        room-of-nodes r.0 r.2 r.1 long.0 lists c.used_definitions-steps.result _ (layout-next s layout) _ _
-            c.no_substitutions-subs.ensures _ _ (d.body_after, (d.value, d.subs_after)) _ _ (e.body_after, e.value) long.1,
-      );
-    }
+    let e = rw d.steps at c.flatten_equations-e.ensures in
+    let long = c.requires.body_len in (
+      room-of-kept r classes.classified c.requires.few long.0 l c.new-subs.result.steps _ n _ _ c.new-subs.ensures.0 _ _
+          (d.body_after, (d.value, d.subs_after)) _ _ (e.body_after, e.value),
+      room-of-nodes r classes.classified c.requires.few long.0 l c.new-subs.result.steps _ n _ _ c.new-subs.ensures.0 _ _
+          (d.body_after, (d.value, d.subs_after)) _ _ (e.body_after, e.value) long.1,
+    )
 
 pub returns : goal.returns
 returns c =
-    let r = c.requires.readable in
-    let long = c.requires.body_len in
-    let s = c.args.s.now in
-    let layout = c.layout_of-layout.ensures in
-    let lists = lists-made s _ c.args.body.now (layout-publics s layout) (layout-next s layout) c.put_publics.ensures c.put_provers-start.ensures in
+    let classes = c.args.classes.now in
+    let l = lists (goal.at.returns c).After-put_provers-start in
     let d = c.flatten_defs-d.ensures in
-    let e = c.flatten_equations-e.ensures in
-    let k = c.keep_defs-k.ensures in
-    let parts = by_parts s c.used_definitions-steps.result (c.used_definitions-steps.ensures ∙ ap length (sym (classified-definitions r.2))) in
-    let made = built r.0 r.2 r.1 long.0 lists c.used_definitions-steps.result _ (layout-next s layout) _ _
-    c.no_substitutions-subs.ensures _ _ (d.body_after, (d.value, d.subs_after)) _ _ (e.body_after, e.value)
-    _ _ _ _ _ c.clear_substitutions.ensures _ (k.body_after, (k.list_after, (k.value, k.subs_after))) in
+    let e = rw d.steps at c.flatten_equations-e.ensures in
+    let k = rw (c.clear.ensures.1 ∙ d.steps) at c.keep_defs-k.ensures in
+    let used = c.new-subs.ensures.1 ∙ c.used_definitions.ensures ∙ ap length (sym (classified-definitions classes.classified)) in
+    let parts = by_parts classes.record.bytes.now c.new-subs.result.steps used in
+    let made = built classes.record.readable classes.classified c.requires.few c.requires.body_len.0 l c.new-subs.result.steps _
+    (next-laid classes.record.bytes.now classes.record.laid) _ _ c.new-subs.ensures.0 _ _ (d.body_after, (d.value, d.subs_after)) _ _ (e.body_after, e.value)
+    _ _ _ _ _ c.clear.ensures.0 _ (k.body_after, (k.list_after, (k.value, k.subs_after))) in
     rw parts (record { value = made.0; body_after = made.1.0; list_after = made.1.1 })

@@ -1,21 +1,15 @@
 -- `source_check::fingerprints::fingerprint` meets its contract. Assumes nothing.
+use Prim.Native.Nat.{◌≤◌}
+use lib.ListN.{length}
 use native.Mathlib.Omega.{arith}
-use Prim.Native.Nat.{ℕ}
-use mathlib.Core.Path.{◌∙◌, ap}
-use Rattle.source_check.specs.Fingerprints.{fingerprint_of}
-use Rattle.source_check.proofs.Prints.{print-none, print-more}
+use mathlib.Core.Path.{ap, ◌∙◌}
+use Rattle.std.specs.Prelude.{fold}
+use Rattle.std.proofs.lemmas.List.{take_all}
+use Rattle.source_check.specs.Fingerprints.{fingerprint_of, step}
 use Rattle.source_check.proofs.fingerprints.fingerprint.Goals as goal
 
-pub loop-i-init : goal.loop-i-init
-loop-i-init c = (print-none _ _, omega arith)
-
-pub overflow_add-h : goal.overflow_add-h
-overflow_add-h c = omega (arith, c.byte.ensures.1)
-
-pub loop-i-preserved : goal.loop-i-preserved
-loop-i-preserved c = (print-more c.args.s.now _ _ c.loop-i.invariant.0 c.byte.ensures.0, omega arith)
-
 pub returns : goal.returns
+unfolding fingerprint_of
 returns c =
-    c.loop-i.invariant.0
-    ∙ ap (λ (m : ℕ). fingerprint_of c.args.s.now c.args.from m) (omega (arith, c.loop-i-test.false))
+    let all : length c.args.name.now ≤ c.loop-c.c-index = omega arith in
+    c.loop-c.invariant ∙ ap (fold step 0) (take_all c.loop-c.c-index c.args.name.now all)

@@ -1,10 +1,7 @@
-use Prim.Native.Nat.{◌-◌, ◌≤◌}
 use mathlib.Core.Path.{◌≡◌}
-use Rattle.source_check.specs.Fingerprints.{fingerprint_of}
+use Rattle.std.specs.Prelude.{fold, take}
+use Rattle.source_check.specs.Fingerprints.{step}
 use Rattle.source_check.proofs.fingerprints.fingerprint.Given as goal
 
-abbrev pub invariant-loop-i : goal.invariant-loop-i
-invariant-loop-i l = (l.h ≡ fingerprint_of l.s l.from l.i) × (l.i ≤ l.n)
-
-abbrev pub decreases-loop-i : goal.decreases-loop-i
-decreases-loop-i l = l.n - l.i
+abbrev pub invariant-loop-c : goal.invariant-loop-c
+invariant-loop-c l = l.h ≡ fold step 0 (take l.c-index l.name)

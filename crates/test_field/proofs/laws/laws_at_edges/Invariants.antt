@@ -1,8 +1,5 @@
-use Prim.Native.Nat.{◌≤◌, ◌*◌, ◌-◌}
+use Prim.Native.Nat.{◌≤◌, ◌*◌}
 use Rattle.test_field.proofs.laws.laws_at_edges.Given as goal
 
-abbrev pub invariant-loop-number : goal.invariant-loop-number
-invariant-loop-number l = (l.number ≤ 20) × (l.cases ≤ 729 * l.number) × (l.wrong ≤ l.cases)
-
-abbrev pub decreases-loop-number : goal.decreases-loop-number
-decreases-loop-number l = 20 - l.number
+abbrev pub invariant-loop-law : goal.invariant-loop-law
+invariant-loop-law l = (l.tried.cases ≤ 729 * l.law-index) × (l.tried.differ ≤ l.tried.cases)

@@ -34,7 +34,8 @@ returns-else-read_nodes c =
       ]
       | else-read_equations w ↦ elim c.if-read_definitions.branch [
         | then-read_definitions v ↦
-            w.value-is ∙ v.value-is ∙ trees-2 _ _ _ _ _ _ _ _ fit v.if-read_definitions.true v.read_equations.ensures.fit (sym v.value-is ∙ w.if-read_equations.false)
+            w.value-is ∙ v.value-is ∙ trees-2 _ _ _ _ _ _ _ _ fit v.if-read_definitions.true v.read_equations.ensures.fit
+            (sym v.value-is ∙ w.if-read_equations.false)
         | else-read_definitions v ↦ w.value-is ∙ v.value-is ∙ trees-1 _ _ _ _ _ _ _ _ fit v.if-read_definitions.false
       ]
     ]

@@ -13,7 +13,8 @@ pub loop-link-init : goal.loop-link-init
 loop-link-init c = record { alike = refl; onward = onward-start _ _; below = omega arith }
 
 -- the link that was read
-is-link : (c : In-Link) → entry_of c.args.self.now.bytes.now c.args.self.now.at c.loop-link.link ≡ Some (Node.Link c.in-Link.item c.in-Link.next c.in-Link.result)
+is-link : (c : In-Link)
+    → entry_of c.args.self.now.bytes.now c.args.self.now.at c.loop-link.link ≡ Some (Node.Link c.in-Link.item c.in-Link.next c.in-Link.result)
 is-link c = there c.node.ensures c.in_ok-item.was ∙ ap (λ (n : Node). Some n) c.in-Link.is
 
 pub returns-in_err-item : goal.returns-in_err-item
@@ -68,4 +69,5 @@ loop-link-preserved c =
 pub returns : goal.returns
 returns c =
     let l = c.loop-link in
-    judged-no _ refl (way-late c.args.self.now.bytes.now c.args.self.now.at c.args.chain c.args.k c.args.first l.above l.link l.invariant.alike c.loop-link-test.false)
+    judged-no _ refl (way-late c.args.self.now.bytes.now c.args.self.now.at c.args.chain c.args.k c.args.first l.above l.link l.invariant.alike
+    c.loop-link-test.false)

@@ -1,5 +1,5 @@
 -- `source_check::reading::Nodes::use_children` meets its contract. Assumes nothing.
-use mathlib.Core.Path.{◌≡◌, refl, sym, ap, ◌∙◌}
+use mathlib.Core.Path.{ap, ◌∙◌}
 use Rattle.std.specs.Prelude.{Some}
 use Rattle.source.specs.declared.Node.{Node}
 use Rattle.source.specs.Nodes.{children_of, children_fit, child_fits}

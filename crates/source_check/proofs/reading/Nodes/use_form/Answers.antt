@@ -1,8 +1,6 @@
 -- `source_check::reading::Nodes::use_form` meets its contract. Assumes nothing.
-use mathlib.Core.Path.{◌≡◌, refl, ap, ◌∙◌}
-use Prim.Native.Nat.{ℕ}
+use mathlib.Core.Path.{◌≡◌, refl, ap}
 use Rattle.std.proofs.Common.{inl, inr}
-use Rattle.source.specs.declared.Form.{Form}
 use Rattle.source.specs.declared.Chain.{Chain}
 use Rattle.source.specs.Children.{Child}
 use Rattle.source.specs.Nodes.{form_children, child_fits, expression_fits, pattern_fits, three}
@@ -31,7 +29,8 @@ returns-in-Variable c =
 pub returns-in-Negate : goal.returns-in-Negate
 unfolding child_fits child_uses expression_fits pattern_fits sort_fits is_of
 returns-in-Negate c =
-    uses-one c.args.self.now.bytes.now c.args.self.now.at c.args.self.now.names c.args.k (Child.Expression c.in-Negate.x) (ap form_children c.in-Negate.is) c.use_node.ensures
+    uses-one c.args.self.now.bytes.now c.args.self.now.at c.args.self.now.names c.args.k (Child.Expression c.in-Negate.x) (ap form_children
+    c.in-Negate.is) c.use_node.ensures
 
 -- the two expressions of four forms
 two : (c : In-Product) → form_children c.args.form ≡ three (Child.Expression c.in-Product.x) (Child.Expression c.in-Product.y) Child.Nothing
@@ -46,54 +45,64 @@ pub returns-in_err-use_node-in-Product : goal.returns-in_err-use_node-in-Product
 unfolding child_fits child_uses expression_fits pattern_fits sort_fits is_of
 returns-in_err-use_node-in-Product c =
     let e = two (goal.at.returns-in_err-use_node-in-Product c).In-Product in
-    rw e (first-stops c.args.self.now.bytes.now c.args.self.now.at c.args.self.now.names c.args.k _ c.use_node-in-Product.ensures c.in_err-use_node-in-Product.was c.from_residual-in_err-use_node-in-Product.ensures.1)
+    rw e (first-stops c.args.self.now.bytes.now c.args.self.now.at c.args.self.now.names c.args.k _ c.use_node-in-Product.ensures
+    c.in_err-use_node-in-Product.was c.from_residual-in_err-use_node-in-Product.ensures.1)
 
 pub returns-in_ok-use_node-in-Product : goal.returns-in_ok-use_node-in-Product
 unfolding child_fits child_uses expression_fits pattern_fits sort_fits is_of
 returns-in_ok-use_node-in-Product c =
     uses-two c.args.self.now.bytes.now c.args.self.now.at c.args.self.now.names c.args.k (Child.Expression c.in-Product.x) (Child.Expression c.in-Product.y)
-    (two (goal.at.returns-in_ok-use_node-in-Product c).In-Product) c.use_node-in-Product.ensures c.in_ok-use_node-in-Product.was c.use_node-in-Product-2.ensures
+    (two (goal.at.returns-in_ok-use_node-in-Product c).In-Product) c.use_node-in-Product.ensures c.in_ok-use_node-in-Product.was
+    c.use_node-in-Product-2.ensures
 
 pub returns-in_err-use_chain-in-Function : goal.returns-in_err-use_chain-in-Function
 unfolding child_fits child_uses expression_fits pattern_fits sort_fits is_of
 returns-in_err-use_chain-in-Function c =
-    rw c.in-Function.is (first-stops c.args.self.now.bytes.now c.args.self.now.at c.args.self.now.names c.args.k _ c.use_chain.ensures c.in_err-use_chain-in-Function.was c.from_residual.ensures.1)
+    rw c.in-Function.is (first-stops c.args.self.now.bytes.now c.args.self.now.at c.args.self.now.names c.args.k _ c.use_chain.ensures
+    c.in_err-use_chain-in-Function.was c.from_residual.ensures.1)
 
 pub returns-in_ok-use_chain-in-Function : goal.returns-in_ok-use_chain-in-Function
 unfolding child_fits child_uses expression_fits pattern_fits sort_fits is_of
 returns-in_ok-use_chain-in-Function c =
-    uses-two c.args.self.now.bytes.now c.args.self.now.at c.args.self.now.names c.args.k (Child.Links Chain.Parameters c.in-Function.l) (Child.Expression c.in-Function.y) (ap form_children c.in-Function.is)
+    uses-two c.args.self.now.bytes.now c.args.self.now.at c.args.self.now.names c.args.k (Child.Links Chain.Parameters c.in-Function.l)
+    (Child.Expression c.in-Function.y) (ap form_children c.in-Function.is)
     c.use_chain.ensures c.in_ok-use_chain-in-Function.was c.use_node-in-Function.ensures
 
 pub returns-in_err-use_node-in-Let : goal.returns-in_err-use_node-in-Let
 unfolding child_fits child_uses expression_fits pattern_fits sort_fits is_of
 returns-in_err-use_node-in-Let c =
-    rw c.in-Let.is (first-stops c.args.self.now.bytes.now c.args.self.now.at c.args.self.now.names c.args.k _ c.use_node-in-Let.ensures c.in_err-use_node-in-Let.was c.from_residual-in_err-use_node-in-Let.ensures.1)
+    rw c.in-Let.is (first-stops c.args.self.now.bytes.now c.args.self.now.at c.args.self.now.names c.args.k _ c.use_node-in-Let.ensures
+    c.in_err-use_node-in-Let.was c.from_residual-in_err-use_node-in-Let.ensures.1)
 
 pub returns-in_err-use_node-in-Let-2 : goal.returns-in_err-use_node-in-Let-2
 unfolding child_fits child_uses expression_fits pattern_fits sort_fits is_of
 returns-in_err-use_node-in-Let-2 c =
-    rw c.in-Let.is (second-stops c.args.self.now.bytes.now c.args.self.now.at c.args.self.now.names c.args.k _ c.use_node-in-Let.ensures c.in_ok-use_node-in-Let.was
+    rw c.in-Let.is (second-stops c.args.self.now.bytes.now c.args.self.now.at c.args.self.now.names c.args.k _ c.use_node-in-Let.ensures
+    c.in_ok-use_node-in-Let.was
     c.use_node-in-Let-2.ensures c.in_err-use_node-in-Let-2.was c.from_residual-in_err-use_node-in-Let-2.ensures.1)
 
 pub returns-in_ok-use_node-in-Let-2 : goal.returns-in_ok-use_node-in-Let-2
 unfolding child_fits child_uses expression_fits pattern_fits sort_fits is_of
 returns-in_ok-use_node-in-Let-2 c =
-    rw c.in-Let.is (uses-three c.args.self.now.bytes.now c.args.self.now.at c.args.self.now.names c.args.k _ c.use_node-in-Let.ensures c.in_ok-use_node-in-Let.was
+    rw c.in-Let.is (uses-three c.args.self.now.bytes.now c.args.self.now.at c.args.self.now.names c.args.k _ c.use_node-in-Let.ensures
+    c.in_ok-use_node-in-Let.was
     c.use_node-in-Let-2.ensures c.in_ok-use_node-in-Let-2.was c.use_node-in-Let-3.ensures)
 
 pub returns-in_err-use_node-in-Match : goal.returns-in_err-use_node-in-Match
 unfolding child_fits child_uses expression_fits pattern_fits sort_fits is_of
 returns-in_err-use_node-in-Match c =
-    rw c.in-Match.is (first-stops c.args.self.now.bytes.now c.args.self.now.at c.args.self.now.names c.args.k _ c.use_node-in-Match.ensures c.in_err-use_node-in-Match.was c.from_residual-in_err-use_node-in-Match.ensures.1)
+    rw c.in-Match.is (first-stops c.args.self.now.bytes.now c.args.self.now.at c.args.self.now.names c.args.k _ c.use_node-in-Match.ensures
+    c.in_err-use_node-in-Match.was c.from_residual-in_err-use_node-in-Match.ensures.1)
 
 pub returns-in_ok-use_node-in-Match : goal.returns-in_ok-use_node-in-Match
 unfolding child_fits child_uses expression_fits pattern_fits sort_fits is_of
 returns-in_ok-use_node-in-Match c =
-    uses-two c.args.self.now.bytes.now c.args.self.now.at c.args.self.now.names c.args.k (Child.Expression c.in-Match.x) (Child.Links Chain.Arms c.in-Match.l) (ap form_children c.in-Match.is)
+    uses-two c.args.self.now.bytes.now c.args.self.now.at c.args.self.now.names c.args.k (Child.Expression c.in-Match.x) (Child.Links Chain.Arms
+    c.in-Match.l) (ap form_children c.in-Match.is)
     c.use_node-in-Match.ensures c.in_ok-use_node-in-Match.was c.use_chain-in-Match.ensures
 
 pub returns-in-Sequence : goal.returns-in-Sequence
 unfolding child_fits child_uses expression_fits pattern_fits sort_fits is_of
 returns-in-Sequence c =
-    uses-one c.args.self.now.bytes.now c.args.self.now.at c.args.self.now.names c.args.k (Child.Links Chain.Items c.in-Sequence.l) (ap form_children c.in-Sequence.is) c.use_chain-in-Sequence.ensures
+    uses-one c.args.self.now.bytes.now c.args.self.now.at c.args.self.now.names c.args.k (Child.Links Chain.Items c.in-Sequence.l) (ap form_children
+    c.in-Sequence.is) c.use_chain-in-Sequence.ensures

@@ -1,5 +1,5 @@
 -- `source_check::reading::Nodes::use_node` meets its contract. Assumes nothing.
-use mathlib.Core.Path.{◌≡◌, refl, sym, ◌∙◌}
+use mathlib.Core.Path.{◌≡◌, refl}
 use mathlib.Core.Bool.{false, and-false}
 use Rattle.std.specs.Prelude.{None}
 use Rattle.source.specs.Nodes.{is_expression, is_pattern}
@@ -31,4 +31,10 @@ returns-then-not-is_of c = judged-no _ refl (rw (there c.node.ensures c.in_ok-no
 
 pub returns : goal.returns
 unfolding sort_fits
-returns c = judged-yes _ (rw (there c.node.ensures c.in_ok-node.was, ← c.is_of.ensures, c.if-not-is_of.false, lt-ltb c.args.x c.args.k c.if-k-x.false)) (adds-use c.args.x c.add.ensures)
+returns c = judged-yes _ (rw (
+  there c.node.ensures c.in_ok-node.was,
+  ← c.is_of.ensures,
+  c.if-not-is_of.false,
+  lt-ltb c.args.x c.args.k
+      c.if-k-x.false,
+)) (adds-use c.args.x c.add.ensures)

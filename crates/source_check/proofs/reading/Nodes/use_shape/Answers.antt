@@ -1,8 +1,6 @@
 -- `source_check::reading::Nodes::use_shape` meets its contract. Assumes nothing.
-use mathlib.Core.Path.{◌≡◌, refl, ap, ◌∙◌}
-use Prim.Native.Nat.{ℕ}
+use mathlib.Core.Path.{◌≡◌, refl, ap}
 use Rattle.std.proofs.Common.{inl, inr}
-use Rattle.source.specs.declared.Shape.{Shape}
 use Rattle.source.specs.Children.{Child}
 use Rattle.source.specs.Nodes.{shape_children, child_fits, expression_fits, pattern_fits, three}
 use Rattle.source.specs.Uses.{child_uses}
@@ -30,12 +28,14 @@ returns-in-Variable c =
 pub returns-in_err-use_node-in-As : goal.returns-in_err-use_node-in-As
 unfolding child_fits child_uses expression_fits pattern_fits sort_fits is_of
 returns-in_err-use_node-in-As c =
-    rw c.in-As.is (first-stops c.args.self.now.bytes.now c.args.self.now.at c.args.self.now.names c.args.k _ c.use_node.ensures c.in_err-use_node-in-As.was c.from_residual.ensures.1)
+    rw c.in-As.is (first-stops c.args.self.now.bytes.now c.args.self.now.at c.args.self.now.names c.args.k _ c.use_node.ensures
+    c.in_err-use_node-in-As.was c.from_residual.ensures.1)
 
 pub returns-in_ok-use_node-in-As : goal.returns-in_ok-use_node-in-As
 unfolding child_fits child_uses expression_fits pattern_fits sort_fits is_of
 returns-in_ok-use_node-in-As c =
-    uses-two c.args.self.now.bytes.now c.args.self.now.at c.args.self.now.names c.args.k (Child.Pattern c.in-As.p) (Child.Name c.in-As.v) (ap shape_children c.in-As.is)
+    uses-two c.args.self.now.bytes.now c.args.self.now.at c.args.self.now.names c.args.k (Child.Pattern c.in-As.p) (Child.Name c.in-As.v) (ap
+    shape_children c.in-As.is)
     c.use_node.ensures c.in_ok-use_node-in-As.was (judged-none _ c.use_name-in-As.ensures refl (λ k. refl))
 
 -- the two patterns of two shapes
@@ -46,10 +46,12 @@ pub returns-in_err-use_node-in-Product : goal.returns-in_err-use_node-in-Product
 unfolding child_fits child_uses expression_fits pattern_fits sort_fits is_of
 returns-in_err-use_node-in-Product c =
     let e = two (goal.at.returns-in_err-use_node-in-Product c).In-Product in
-    rw e (first-stops c.args.self.now.bytes.now c.args.self.now.at c.args.self.now.names c.args.k _ c.use_node-in-Product.ensures c.in_err-use_node-in-Product.was c.from_residual-in_err-use_node-in-Product.ensures.1)
+    rw e (first-stops c.args.self.now.bytes.now c.args.self.now.at c.args.self.now.names c.args.k _ c.use_node-in-Product.ensures
+    c.in_err-use_node-in-Product.was c.from_residual-in_err-use_node-in-Product.ensures.1)
 
 pub returns-in_ok-use_node-in-Product : goal.returns-in_ok-use_node-in-Product
 unfolding child_fits child_uses expression_fits pattern_fits sort_fits is_of
 returns-in_ok-use_node-in-Product c =
     uses-two c.args.self.now.bytes.now c.args.self.now.at c.args.self.now.names c.args.k (Child.Pattern c.in-Product.p) (Child.Pattern c.in-Product.q)
-    (two (goal.at.returns-in_ok-use_node-in-Product c).In-Product) c.use_node-in-Product.ensures c.in_ok-use_node-in-Product.was c.use_node-in-Product-2.ensures
+    (two (goal.at.returns-in_ok-use_node-in-Product c).In-Product) c.use_node-in-Product.ensures c.in_ok-use_node-in-Product.was
+    c.use_node-in-Product-2.ensures
