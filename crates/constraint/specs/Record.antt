@@ -1,4 +1,4 @@
--- The constraint record: its words, and its bytes. For a reader with document 01, "Constraint record", beside it.
+-- The constraint record: its words, and its bytes. For a reader with docs/RECORDS.md, "Constraint record", beside it.
 use Rattle.std.specs.Prelude.{List, [], ◌∷◌, ◌++◌, ℕ, length}
 use Rattle.words.specs.Words.{bytes_of}
 use Rattle.flat.specs.Trees.{definitions_nodes}

@@ -1,4 +1,4 @@
--- The text of a constraint record. For a reader with document 01, "Constraint record", beside it.
+-- The text of a constraint record. For a reader with docs/RECORDS.md, "Constraint record", beside it.
 -- That the bytes of a constraint list have the text of the list: `text-listed` in proofs/Listed.antt; that its lines are those of `line_at`: `lines-are-text`.
 use Rattle.std.specs.Prelude.{List, [], ◌++◌, ℕ, zero, suc, ◌+◌, ◌*◌, ◌-◌, ◌/◌, min, ltb, length}
 use Rattle.flat.specs.Record.{pick}

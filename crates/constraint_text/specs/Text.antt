@@ -1,4 +1,4 @@
--- The text of a constraint list, in ASCII. For a reader with document 01, "Plain modules and the worked list", beside it.
+-- The text of a constraint list, in ASCII. For a reader with docs/RECORDS.md, "Its text", beside it.
 use Rattle.std.specs.Prelude.{true, false, List, [], ◌∷◌, ◌++◌, ℕ, zero, suc, ◌+◌, ◌/◌, ◌%◌, ltb, ℤ, pos, negsuc, set}
 use Rattle.field.specs.Prime.{P}
 use Rattle.field.specs.Element.{elem}

@@ -141,7 +141,7 @@ pub count-above : (n h : ℕ) → 2 ^ h ≤ n → 1 ≤ h + ones n
 count-above n h low =
     omega (arith, ones-counted n, some-ones n (omega (arith, low, pow-le-pow_right {n = 2} (omega arith) {i = 0} {j = h} (omega arith))))
 
--- document 01's "1 leaves 0, 2 leaves 1, 3 leaves 2, 5 leaves 3"; the last of its table, and the largest element as exponent
+-- 1 leaves 0, 2 leaves 1, 3 leaves 2, 5 leaves 3; 64, and the largest element as exponent
 pub worked-counts : map power_count (1 ∷ 2 ∷ 3 ∷ 5 ∷ 64 ∷ 1073741823 ∷ []) ≡ 0 ∷ 1 ∷ 2 ∷ 3 ∷ 6 ∷ 58 ∷ []
 unfolding power_count highest_bit ones_of total bits bits_from
 worked-counts = refl
@@ -151,7 +151,7 @@ pub power_count_lem : (n : ℕ) → 1 < n → power_count n ≡ power_count (n /
 unfolding power_count
 power_count_lem n h = omega (arith, highest-half n h, ones_half n (omega arith), some-ones (n / 2) (omega arith))
 
--- document 01's rule
+-- the rule of the halved exponent
 count-step : (f n : ℕ) → 1 < n → count_from (suc f) n ≡ count_from f (n / 2) + 1 + n % 2
 unfolding count_from
 count-step f n h = ap (λ (t : Bool). elim t as (λ _. ℕ) [ true ↦ 0 | false ↦ count_from f (n / 2) + 1 + n % 2 ]) (lt-leb n 1 h)

@@ -1,4 +1,4 @@
--- The proved cases of document 01 that belong to the field, as document 02 changes them: one table, and one fact about it.
+-- The proved cases that belong to the field: one table, and one fact about it.
 use Rattle.std.specs.Prelude.{◌≡◌, refl, List, [], ◌∷◌, pos, negsuc, Some, None}
 use Rattle.field.specs.declared.InfixOp.TheVariants.{Divide, DivideZ, Exponentiate, IntDivide, Modulo}
 use Rattle.field.specs.Prime.{P}
@@ -15,7 +15,7 @@ abbrev pub ◌gives◌ : Answer → Answer → Case
 a gives b = record { worked = a; answer = b }
 
 infix 70 ◌gives◌
--- `negsuc n` is -(n + 1). The nine of document 01, with 7 \ 2 as request (v) of document 02 has it; the request's others and more of its kind;
+-- `negsuc n` is -(n + 1). The nine cases that the rules name; more of \ and %, rounded to the nearest whole number;
 -- then the operations without value beside them
 abbrev pub cases : List Case
 cases =

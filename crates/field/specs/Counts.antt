@@ -1,4 +1,4 @@
--- How many definitions a power leaves, by the rule of document 02 (request iii). That evaluation leaves so many: eval_trees/specs/Powers.antt.
+-- How many definitions a power leaves. That evaluation leaves so many: eval_trees/specs/Powers.antt.
 -- What pins the bits: `highest-bit` (n lies between 2 ^ highest_bit n and twice it), `ones-counted` (the language's own count), proofs/Counting.antt.
 use Rattle.std.specs.Prelude.{◌≡◌, true, false, List, [], ◌∷◌, ℕ, zero, suc, ◌+◌, ◌-◌, ◌/◌, ◌%◌, leb, length}
 
@@ -27,7 +27,7 @@ ones_of n = total (bits n)
 unfoldable pub power_count : ℕ → ℕ
 power_count n = highest_bit n + ones_of n - 1
 
--- document 01's rule: none at the powers 0 and 1; else those of the halved exponent, one for the square, and one more for the factor at an odd
+-- the same by halving the exponent: none at the powers 0 and 1; else those of the halved exponent, one for the square, and one more for the factor at an odd
 -- exponent. The first number is the halvings left, and n of them suffice
 unfoldable pub count_from : ℕ → ℕ → ℕ
 count_from zero n = 0

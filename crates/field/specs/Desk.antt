@@ -1,4 +1,4 @@
--- "Laws the desk may use" (request viii of document 02), for any prime p. The desk calls `infix`, `negate` and `canonical`: by their contracts (src/lib.rt)
+-- The laws that the desk may use, for any prime p. The desk calls `infix`, `negate` and `canonical`: by their contracts (src/lib.rt)
 -- these are `infix_of P`, `opposite P` and `elem P` of every i64, so what it may use is `DeskLaws P`. Proved: `desk-laws`, `desk-laws-P`, proofs/Desk.antt.
 -- `\` and `%` are not included, and no law here speaks of `^` or `=`.
 use Rattle.std.specs.Prelude.{◌≡◌, ℕ, ℤ, pos, ◌+ℤ◌, ◌*ℤ◌, Some, None}

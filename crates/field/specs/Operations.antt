@@ -37,7 +37,7 @@ quotient p a b = product p a (inverse p b)
 unfoldable pub power : ℕ → ℤ → ℕ → ℤ
 power p a n = centre p (res p a ^ n % p)
 
--- "rounded to the nearest whole number, halves away from zero" (document 02, request v), of two magnitudes: m over d and a half more, rounded down
+-- rounded to the nearest whole number, halves away from zero, of two magnitudes: m over d and a half more, rounded down
 unfoldable pub nearest : ℕ → ℕ → ℕ
 nearest m d = (2 * m + d) / (2 * d)
 

@@ -1,4 +1,4 @@
--- "rounded to the nearest whole number, halves away from zero" (document 02, request v): what that asks of a quotient. That `whole_quotient`
+-- Rounded to the nearest whole number, halves away from zero: what that asks of a quotient. That `whole_quotient`
 -- of Operations.antt is so rounded, and no other number is: `whole-rounded` and `rounded-only` of proofs/Rounding.antt.
 use Rattle.std.specs.Prelude.{◌≡◌, ◌*◌, ◌≤◌, ◌<◌, ℤ, nat_abs, ◌-ℤ◌, ◌*ℤ◌}
 

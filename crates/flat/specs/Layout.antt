@@ -1,5 +1,5 @@
 -- The layout of a flat record, said once: how wide each entry is, where each list starts, and the words of an entry as they are read and as they are written.
--- For a reader with document 01, "Flat record", beside it. `b` is the list of the record's bytes; places are counted in words.
+-- For a reader with docs/RECORDS.md, "Flat record", beside it. `b` is the list of the record's bytes; places are counted in words.
 use Rattle.std.specs.Prelude.{ℕ, ◌+◌, ◌*◌, ◌≤◌, List, [], ◌∷◌, length}
 use Rattle.words.specs.Words.{word_at}
 use Rattle.flat.specs.declared.Layout.{Layout}

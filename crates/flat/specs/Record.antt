@@ -1,4 +1,4 @@
--- What a lent flat record is: its module, or 20 or 21. For a reader with document 01, "Flat record" and "Numbers by place of the check", beside it.
+-- What a lent flat record is: its module, or 20 or 21. For a reader with docs/RECORDS.md, "Flat record" and "Refusals", beside it.
 -- `b` is the list of its bytes, laid out as Layout.antt says. Each rule is a test for all indices below a count; 21 is one number for all its rules, so their
 -- order says nothing.
 use Rattle.std.specs.Prelude.{ℕ, zero, suc, ◌+◌, ◌-◌, ◌*◌, List, [], ◌∷◌, Bool, true, false, not, ◌&&◌, length, leb, ltb, eqb, Result, Ok, Err}

@@ -1,4 +1,4 @@
--- The words and the bytes of a flat module's record. For a reader with document 01, "Flat record", beside it; the words of an entry are in Layout.antt.
+-- The words and the bytes of a flat module's record. For a reader with docs/RECORDS.md, "Flat record", beside it; the words of an entry are in Layout.antt.
 -- That the record is read as the module: `flat-reads` in proofs/Write_back.antt.
 use Rattle.std.specs.Prelude.{List, [], ◌∷◌, ◌++◌, ℕ, ◌+◌, ◌-◌, ℤ, length}
 use Rattle.std.proofs.Common.{of_z, SFits}

@@ -1,4 +1,4 @@
--- The proved cases of document 01, as document 02 changes them: one table, and one fact about it. Assumes nothing.
+-- The proved cases: one table, and one fact about it. Assumes nothing.
 use mathlib.Core.Path.{◌≡◌, refl}
 use mathlib.Core.List.{List, [], ◌∷◌, ◌++◌}
 use Prim.Native.Nat.{ℕ}
@@ -97,8 +97,8 @@ product-list = record {
 abbrev pub product-cut : Outcome
 product-cut = cut product-list
 
--- document 01's, in its order, with 7 \ 2 as request (v) of document 02 has it; `negsuc n` is -(n + 1). Behind them the example of the programs, from its
--- bytes, and the other cases of request (v)
+-- the cases that the rules name; `negsuc n` is -(n + 1). Behind them the example of the programs, from its
+-- bytes, and more cases of \ and %
 abbrev pub cases : List Case
 cases =
     list (cut_of case_f) gives list (cut case_f-cut)

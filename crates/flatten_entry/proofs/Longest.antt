@@ -20,8 +20,9 @@ use Rattle.pass_trees.specs.Passes.{keep_if, ids_from, member, those, is_never, 
 use Rattle.pass_trees.specs.Passes.{copy_propagate_def, after_def, copy_propagate_defs, after_defs, copy_propagate, eliminate_dead_equalities, Cuts}
 use Rattle.pass_trees.specs.Passes.{cuts_of, joined, flatten_def_to_3ac, flatten_defs, flatten_lists, flatten_module_to_3ac, passes, cut}
 use Rattle.pass_trees.proofs.Agreement.{accepted}
-use Rattle.pass_3ac.specs.declared.Target.TheVariants.{Given}
-use Rattle.pass_3ac.specs.Cutting.{target_of, tree_cut, equations_cut}
+use Rattle.std.specs.Prelude.{Some}
+use Rattle.pass_copies.specs.Substituted.{option_of}
+use Rattle.pass_3ac.specs.Cutting.{tree_cut, equations_cut}
 use Rattle.pass_3ac.proofs.Trees.{copied-nodes, cut-few}
 use Rattle.pass_3ac.proofs.Equations.{few-equations}
 use Rattle.numbering.specs.Numbering.{numbered}
@@ -77,7 +78,7 @@ module _ (ps : List ℕ) (k : ℕ) where
   -- an equality for each node at most
   definitions-cut : (s : Substitutions) (ds : List Definition) (n : ℕ)
       → length (flatten_defs ps (copy_propagate_defs ps k s ds) n).equalities ≤ definitions_nodes ds
-  unfolding copy_propagate_defs copy_propagate_def definitions_nodes flatten_defs flatten_def_to_3ac joined cuts_of tree_cut target_of
+  unfolding copy_propagate_defs copy_propagate_def definitions_nodes flatten_defs flatten_def_to_3ac joined cuts_of tree_cut option_of
   definitions-cut s [] n = omega arith
   definitions-cut s (d ∷ ds) n =
       omega (
@@ -92,7 +93,7 @@ module _ (ps : List ℕ) (k : ℕ) where
 
       first : (c : Bool) → length (flatten_def_to_3ac c (copy_propagate_def k s d) n).equalities ≤ tree_nodes d.right
       first true = omega arith
-      first false = cut-few k s d.right n (Given (Term.Variable d.id))
+      first false = cut-few k s d.right n (Some (Term.Variable d.id))
 
 module _ (f : FlatModule) where
   abbrev provers : List ℕ

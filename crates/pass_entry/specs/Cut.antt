@@ -1,5 +1,5 @@
--- What `cut` and `measure` answer, and what `cut` leaves in the output. For a reader with document 01, "Constraint record" and "Numbers by place of the
--- check", beside it.
+-- What `cut` and `measure` answer, and what `cut` leaves in the output. For a reader with docs/RECORDS.md, "Constraint record" and
+-- "Refusals", beside it.
 use Rattle.std.specs.Prelude.{ℕ, List, ◌++◌, length, drop, leb}
 use Rattle.records.specs.Refusals.{refusal_number}
 use Rattle.flat.specs.Record.{pick, Read, flat_of}

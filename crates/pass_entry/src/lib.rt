@@ -28,14 +28,14 @@ const HEADER_BYTES: usize = 4 * HEADER;
 
 const NODE_BYTES: usize = 4 * NODE_WORDS;
 
-// The bytes written, or document 01's number.
+// The bytes written, or the number of the refusal.
 #[derive(Clone, Copy)]
 pub enum Answer {
     Written(usize),
     Refused(u32),
 }
 
-// What the constraint record of a flat record needs: its equalities and its bytes; or document 01's number.
+// What the constraint record of a flat record needs: its equalities and its bytes; or the number of the refusal.
 #[derive(Clone, Copy)]
 pub enum Need {
     Fits(usize, usize),

@@ -1,4 +1,4 @@
--- `counted` is what document 01 calls so: "a definition is counted if its variable is no prover variable and is reached from an equation through counted
+-- `counted` is what the rules call so: "a definition is counted if its variable is no prover variable and is reached from an equation through counted
 -- definitions". What equations and counted definitions use is counted (`counted-closed`), and nothing else is (`counted-least`).
 use Rattle.std.proofs.Common.{◌≡◌, ℕ, Bool, true, false, not, List, [], ◌∷◌, sym, refl, ◌∙◌, arith}
 use borrow.Author.Tests.{not-true}

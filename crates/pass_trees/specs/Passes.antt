@@ -1,4 +1,4 @@
--- The four passes of transform.rs, in the order of document 01, each a function that computes. One clause for each arm of the Rust's match, in its order.
+-- The four passes of transform.rs, in their order there, each a function that computes. One clause for each arm of the Rust's match, in its order.
 use Rattle.std.specs.Prelude.{ℕ, zero, suc, Bool, true, false, cond, not, ◌&&◌, ◌||◌, List, [], ◌∷◌, ◌++◌, length, ℤ, pos, negsuc, ◌==◌, nat_le}
 use Rattle.std.proofs.Math.Option.{Option, none, some}
 use Rattle.field.specs.declared.InfixOp.{InfixOp}

@@ -1,4 +1,4 @@
-// The kinds of nodes, document 01, "Source record": expressions 0 to 13, links 14, patterns 16 to 22. Kind 10 stands in no record: the evaluator's intrinsics.
+// The kinds of nodes (docs/RECORDS.md, "Source record"): expressions 0 to 13, links 14, patterns 16 to 22. Kind 10 stands in no record: the evaluator's intrinsics.
 pub const UNIT: u32 = 0;
 
 pub const NIL: u32 = 1;

@@ -1,4 +1,4 @@
--- What a source record is: its module, or the first of the refusals 1 to 6. For a reader with document 01, "Source record" and "Numbers by place of the check",
+-- What a source record is: its module, or the first of the refusals 1 to 6. For a reader with docs/RECORDS.md, "Source record" and "Refusals",
 -- beside it.
 use Rattle.std.specs.Prelude.{ℕ, zero, suc, ◌+◌, List, [], ◌∷◌, Bool, true, false, ◌&&◌, length, leb, eqb}
 use Rattle.std.specs.Prelude.{Option, Some, None}
