@@ -16,8 +16,8 @@ pub enum Uses {
 }
 
 impl Uses {
-    #[tactic(auto, unfolding(crate::specs::Marks::more))]
     // After one use more.
+    #[tactic(auto, unfolding(crate::specs::Marks::more))]
     fn more(self) -> Self
         ensures { result ≡ more self }
     {
