@@ -32,7 +32,7 @@ impl Uses {
 // The marks of N nodes.
 #[derive(Drop)]
 pub struct Marks<const N: usize> {
-    uses: [Uses; N],
+    pub uses: [Uses; N],
 }
 
 // Clauses see the marks as a list.
