@@ -111,4 +111,5 @@ def main():
                 print(f'         {name}:{line}: {what}')
 
 
-main()
+if __name__ == "__main__":
+    main()

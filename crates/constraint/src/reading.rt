@@ -12,7 +12,7 @@ use records::NODE_WORDS;
 use words::{count, signed, word_at};
 
 // The header's numbers, the word at which each list starts (the public ids start behind the header), and the record's words in all.
-// Kept as it is: (d) beside flat::Layout, from which it differs in its two lists' names and widths, which are what its fields say.
+// Kept as it is: one layout for this record and the flat one is no plainer, since its fields say two other lists and their widths.
 #[derive(Clone, Copy)]
 pub struct Layout {
     pub next: usize,

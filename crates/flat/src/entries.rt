@@ -104,7 +104,7 @@ pub fn put_definition(out: &mut [u8], at: usize, id: u32, node: u32)
 }
 
 // An equation at word `at`: the roots of its sides.
-// Kept as it is: (d) beside put_definition, since each names what its two words are; both are calls of put_words.
+// Kept as it is: a form for this and put_definition is no plainer, since each names what its two words are; both are calls of put_words.
 #[tactic(auto, unfolding(crate::specs::Layout::equation_words))]
 pub fn put_equation(out: &mut [u8], at: usize, left: u32, right: u32)
     requires { 4 * (at + EQUATION-WORDS) ≤ length out.old }

@@ -14,7 +14,7 @@ use records::kinds::{CONSTANT, INFIX, NEGATE, VARIABLE};
 use records::operators::MODULO;
 use words::{signed, word_at};
 
-// Kept as it is: (d) a kind is a word of the record, any u32; an enum of kinds would need this match on the named constants before its own.
+// Kept as it is: a kind is a word of the record, any u32; an enum of kinds would need this match on the named constants before its own.
 #[derive(Clone, Copy)]
 pub struct NodeEntry {
     pub kind: u32,

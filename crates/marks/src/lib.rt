@@ -16,8 +16,8 @@ pub enum Uses {
 }
 
 impl Uses {
-    #[tactic(auto, unfolding(crate::specs::Marks::more))]
     // After one use more.
+    #[tactic(auto, unfolding(crate::specs::Marks::more))]
     fn more(self) -> Self
         ensures { result ≡ more self }
     {
@@ -32,7 +32,7 @@ impl Uses {
 // The marks of N nodes.
 #[derive(Drop)]
 pub struct Marks<const N: usize> {
-    uses: [Uses; N],
+    pub uses: [Uses; N],
 }
 
 // Clauses see the marks as a list.

@@ -11,6 +11,7 @@ ghost use Rattle.records.specs.FlatRecord.{IDS};
 use flat::entries::{DefinitionEntry, EquationEntry, definition_at, equation_at, prover_at};
 use flat::{Layout, Node};
 
+// The bytes of a readable record, with the layout that its header says.
 #[derive(Clone, Copy)]
 pub struct Record<'a> {
     pub bytes: &'a [u8],
@@ -30,6 +31,7 @@ impl<'a> Record<'a> {
         }
     }
 
+    // Node k, whose children and ids lie within the record.
     pub fn node(&self, k: usize) -> Node
         requires { k < nodes self.now.bytes.now }
         ensures value { result ≡ node_of self.now.bytes.now (nodes_offset self.now.bytes.now) k }
@@ -39,6 +41,7 @@ impl<'a> Record<'a> {
         flat::node_at(self.bytes, self.layout.nodes_at, k)
     }
 
+    // Prover id k.
     pub fn prover(&self, k: usize) -> u32
         requires { k < provers self.now.bytes.now }
         ensures value { result ≡ prover_at self.now.bytes.now (provers_offset self.now.bytes.now) k }
@@ -47,6 +50,7 @@ impl<'a> Record<'a> {
         prover_at(self.bytes, self.layout.provers_at, k)
     }
 
+    // Definition k.
     pub fn definition(&self, k: usize) -> DefinitionEntry
         requires { k < definitions self.now.bytes.now }
         ensures value { result ≡ definition_entry self.now.bytes.now (definitions_offset self.now.bytes.now) k }
@@ -55,6 +59,7 @@ impl<'a> Record<'a> {
         definition_at(self.bytes, self.layout.definitions_at, k)
     }
 
+    // Equation k.
     pub fn equation(&self, k: usize) -> EquationEntry
         requires { k < equations self.now.bytes.now }
         ensures value { result ≡ equation_entry self.now.bytes.now (equations_offset self.now.bytes.now) k }

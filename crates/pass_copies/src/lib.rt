@@ -49,6 +49,7 @@ impl Substitutions {
         ensures { result ≡ walk self.now.steps (subst_of self.now.terms) (Variable v) }
     {
         let mut id = v;
+        // What is left falls, as in the definition.
         for _left in (0..self.steps).rev() {
             let i = id as usize;
             if ID_COUNT <= i {

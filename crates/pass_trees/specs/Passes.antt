@@ -27,7 +27,7 @@ those t (d ∷ ds) = keep_if (t d.id) d (those t ds)
 
 -- classify_defs: "classify definitions according to whether they define a constraint, are a witness, or are unused"
 
--- `Usage` in its order, and `std::cmp::max`
+-- the larger of two usages, in the order of their enum: `std::cmp::max`
 unfoldable pub most : Usage → Usage → Usage
 most Never u = u
 most Witness Never = Witness

@@ -2,7 +2,8 @@
 ghost use Rattle.std.specs.Prelude.{◌≡◌};
 ghost use Rattle.records.specs.Refusals.{refusal_number};
 
-// The refusals in the order of their numbers: 1 to 6 of a source record, 10 to 19 of evaluation, 20 to 22 of a flat record, 30 to 32 of the stores, 33 of the output.
+// The refusals in the order of their numbers: 1 to 6 of a source record, 10 to 19 of evaluation, 20 to 22 of a flat record, 30 to 32 of the stores,
+// 33 of the output.
 #[derive(Clone, Copy, Debug, PartialEq, Eq, Hash)]
 pub enum Refusal {
     Length,

@@ -1,10 +1,11 @@
 // The streams of a program. What fails is said on standard error, in words, and no failure is taken for an end or for success.
 #![tactic(auto)]
 
-ghost use Rattle.std.specs.Prelude.{length};
+ghost use Rattle.std.specs.Prelude.{◌≡◌, IfOk, length};
 ghost use Rattle.std.specs.Io.KnownBytes.{Keeps};
 ghost use Rattle.streams.specs.Streams.{Within, Given, Whole, Added, Put, PutBytes, Stepped, Taken};
 
+use std::convert::Infallible;
 use std::env::FillError;
 use std::io::{Error, ErrorKind, Read, Write};
 use std::rt::{Env, Files};
@@ -160,11 +161,16 @@ fn open_named<R: Files + Eprint>(
 }
 
 // Standard input is what to read, of a program that takes no arguments: any are answered by the line of usage.
-pub fn open_standard(rt: &(impl Env + Eprint), usage: &str) -> Result<(), Failed> {
+pub fn open_standard(
+    rt: &(impl Env + Eprint),
+    usage: &str,
+) -> Result<Opened<Infallible>, Failed>
+    ensures { IfOk result (λ o. o ≡ Opened.Standard) }
+{
     if has_argument(rt, 1) {
         return Err(say_usage(rt, usage));
     }
-    Ok(())
+    Ok(Opened::Standard)
 }
 
 // Standard input, or the file that the only argument names. Options and further arguments are answered by the line of usage.

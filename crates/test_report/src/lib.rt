@@ -55,9 +55,10 @@ impl Verdict {
     }
 }
 
-// An answer as a word of the input: a number, or the number of a refusal behind so much.
+// A refusal stands in the input as its number behind so much.
 const REFUSAL: u32 = 4294901760;
 
+// What a word of the input says: an answer's number, or that of a refusal.
 pub fn said(word: u32) -> Result<u32, u32>
     ensures { result ≡ said_of word }
 {
