@@ -161,10 +161,7 @@ fn open_named<R: Files + Eprint>(
 }
 
 // Standard input is what to read, of a program that takes no arguments: any are answered by the line of usage.
-pub fn open_standard(
-    rt: &(impl Env + Eprint),
-    usage: &str,
-) -> Result<Opened<Infallible>, Failed>
+pub fn open_standard(rt: &(impl Env + Eprint), usage: &str) -> Result<Opened<Infallible>, Failed>
     ensures { IfOk result (λ o. o ≡ Opened.Standard) }
 {
     if has_argument(rt, 1) {
