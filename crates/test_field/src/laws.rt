@@ -1,6 +1,6 @@
 // The laws of field/specs/Desk.antt tried with the operations of the code: both sides of each on numbers at the edges, and on rows of
 // numbers with the value that another program made.
-ghost use Rattle.std.specs.Prelude.{◌≡◌, ◌≤◌};
+ghost use Rattle.std.specs.Prelude.{◌≡◌, ◌≤◌, length};
 ghost use Rattle.field.specs.Prime.{P};
 ghost use Rattle.field.specs.Desk.{chained};
 
@@ -74,6 +74,8 @@ const SINGLES: usize = 9;
 const PAIRS: usize = 81;
 
 const TRIPLES: usize = 729;
+
+const LAW_ROW: usize = 6;
 
 // The two sides of a law.
 #[derive(Clone, Copy)]
@@ -215,8 +217,11 @@ fn is_broken(law: Law, a: i64, b: i64, c: i64) -> bool {
     sides.left != sides.right
 }
 
-// Whether both sides of the law with a number have the value given.
-fn row_holds(number: i64, a: i64, b: i64, c: i64, value: Option<i64>) -> bool {
+// Whether both sides of the law with a number have the value given, if there is such an answer.
+fn row_holds(number: i64, a: i64, b: i64, c: i64, wanted: Option<Option<i64>>) -> bool {
+    let Some(value) = wanted else {
+        return false;
+    };
     let Some(law) = usize::try_from(number).ok().and_then(|n| LAWS.get(n)) else {
         return false;
     };
@@ -275,11 +280,18 @@ pub fn laws_at_edges() -> Tried
 }
 
 // Rows of six numbers: a law, three operands, whether there is a value, the value.
-pub fn differing_laws(rows: &[i64]) -> usize {
-    rows.chunks_exact(6)
-        .filter(|row| match row {
-            [law, a, b, c, there, value] => !row_holds(*law, *a, *b, *c, given(*there, *value)),
-            _ => true,
-        })
-        .count()
+pub fn differing_laws(rows: &[i64]) -> u64
+    ensures { result ≤ length rows.now }
+{
+    let mut wrong: u64 = 0;
+    for k in 0..rows.len() / LAW_ROW {
+        let holds = match &rows[LAW_ROW * k..LAW_ROW * (k + 1)] {
+            [law, a, b, c, there, value] => row_holds(*law, *a, *b, *c, given(*there, *value)),
+            _ => false,
+        };
+        if !holds {
+            wrong += 1;
+        }
+    }
+    wrong
 }
