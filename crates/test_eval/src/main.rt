@@ -48,7 +48,7 @@ fn replay_run(
     let r = eval_entry::evaluate_source(image, store);
     let (answered, same) = match r.answer {
         Answer::Flat(n) => (0, n == expected.len() && r.bytes.starts_with(expected)),
-        Answer::Refused(number) => (number, true),
+        Answer::Refused(number) => (number, number != 0),
     };
     let cleared = store.iter().all(|b| *b == 0);
     if answered == wanted && same && cleared {

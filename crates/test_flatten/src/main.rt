@@ -47,7 +47,7 @@ fn replay_run(
     out.fill(UNWRITTEN);
     let (answered, same, written) = match flatten_entry::flatten(image, store, out) {
         Answer::Written(n) => (0, n == expected.len() && out.starts_with(expected), n),
-        Answer::Refused(number) => (number, true, 0),
+        Answer::Refused(number) => (number, number != 0, 0),
     };
     let untouched = out.iter().skip(written).all(|b| *b == UNWRITTEN);
     let cleared = store.iter().all(|b| *b == 0);
