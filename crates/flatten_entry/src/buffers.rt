@@ -13,6 +13,7 @@ pub const RECORD_BYTES: usize = BYTES + 1;
 pub const STORE_BYTES: usize = MOST_UNITS as usize * UNIT_BYTES;
 
 // A longer input has the answer of its first bytes, so many.
+#[tactic(auto, unfolding(crate::specs::Buffers::record_buffer))]
 pub fn record_buffer() -> [u8; RECORD_BYTES]
     ensures { result ≡ record_buffer }
 {
@@ -20,6 +21,7 @@ pub fn record_buffer() -> [u8; RECORD_BYTES]
 }
 
 // 16 bytes for each node that a store may hold.
+#[tactic(auto, unfolding(crate::specs::Buffers::store_buffer))]
 pub fn store_buffer() -> [u8; STORE_BYTES]
     ensures { result ≡ store_buffer }
 {
@@ -27,6 +29,7 @@ pub fn store_buffer() -> [u8; STORE_BYTES]
 }
 
 // No constraint record is longer.
+#[tactic(auto, unfolding(crate::specs::Buffers::output_buffer))]
 pub fn output_buffer() -> [u8; OUTPUT_BYTES]
     ensures { result ≡ output_buffer }
 {

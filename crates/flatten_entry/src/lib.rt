@@ -32,8 +32,7 @@ pub fn flatten(s: &[u8], store: &mut [u8], out: &mut [u8]) -> Answer
     ensures store_after { store.new ≡ replicate (length store.old) 0 }
 {
     let flat = evaluate_source(s, store);
-    let answer = flat.answer;
-    match answer {
+    match flat.answer {
         eval_entry::Answer::Flat(n) => pass_on(&flat.bytes, n, out),
         eval_entry::Answer::Refused(number) => Answer::Refused(number),
     }
