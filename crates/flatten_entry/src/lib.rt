@@ -15,7 +15,8 @@ ghost use Rattle.records.specs.FlatRecord.{NODES};
 use eval_entry::evaluate_source;
 use pass_entry::{Answer, passes};
 
-// The passes on the flat record in the first n bytes.
+// The passes on the flat record in the first n bytes. Not inlined: their arrays don't stand beside the evaluator's.
+#[inline(never)]
 fn pass_on(bytes: &[u8], n: usize, out: &mut [u8]) -> Answer
     requires { (n ≤ length bytes.now) × (Readable (take n bytes.now) × (module_nodes (module_of (take n bytes.now)) ≤ NODES)) }
     ensures { (result ≡ answer_for (length out.old) (cut_of (module_of (take n bytes.now))))
