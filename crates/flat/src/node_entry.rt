@@ -10,11 +10,10 @@ use super::{Node, operator};
 use marks::Marks;
 use records::NODE_WORDS;
 use records::flat_record::NODES;
-use records::kinds::{CONSTANT, INFIX, NEGATE, VARIABLE};
+use records::kinds::Kind;
 use records::operators::MODULO;
 use words::{signed, word_at};
 
-// Kept as it is: a kind is a word of the record, any u32; an enum of kinds would need this match on the named constants before its own.
 #[derive(Clone, Copy)]
 pub struct NodeEntry {
     pub kind: u32,
@@ -43,10 +42,10 @@ impl NodeEntry {
     pub fn node(self) -> Node
         ensures { result ≡ node_for self.kind self.a self.b self.c }
     {
-        match self.kind {
-            INFIX => Node::Infix(operator(self.c), self.a as usize, self.b as usize),
-            NEGATE => Node::Negate(self.a as usize),
-            CONSTANT => Node::Constant(signed(self.a)),
+        match Kind::try_from(self.kind) {
+            Ok(Kind::Infix) => Node::Infix(operator(self.c), self.a as usize, self.b as usize),
+            Ok(Kind::Negate) => Node::Negate(self.a as usize),
+            Ok(Kind::Constant) => Node::Constant(signed(self.a)),
             _ => Node::Variable(self.a),
         }
     }
@@ -58,11 +57,11 @@ impl NodeEntry {
     {
         let below = (self.a as usize) < k;
         let alone = self.b == 0 && self.c == 0;
-        match self.kind {
-            INFIX => below && (self.b as usize) < k && self.c <= MODULO,
-            NEGATE => below && alone,
-            CONSTANT => alone,
-            VARIABLE => (self.a as usize) < limit && alone,
+        match Kind::try_from(self.kind) {
+            Ok(Kind::Infix) => below && (self.b as usize) < k && self.c <= MODULO,
+            Ok(Kind::Negate) => below && alone,
+            Ok(Kind::Constant) => alone,
+            Ok(Kind::Variable) => (self.a as usize) < limit && alone,
             _ => false,
         }
     }
@@ -72,12 +71,15 @@ impl NodeEntry {
         requires { (self.kind ≡ INFIX → (self.a < NODES) × (self.b < NODES)) × (self.kind ≡ NEGATE → self.a < NODES) }
         ensures { Adds marks.old marks.new (λ k. used_by k self.kind self.a self.b 0) }
     {
-        match self.kind {
-            INFIX => {
+        let Ok(kind) = Kind::try_from(self.kind) else {
+            return;
+        };
+        match kind {
+            Kind::Infix => {
                 marks.add(self.a as usize);
                 marks.add(self.b as usize);
             }
-            NEGATE => marks.add(self.a as usize),
+            Kind::Negate => marks.add(self.a as usize),
             _ => {}
         }
     }

@@ -7,11 +7,7 @@ ghost use Rattle.source.specs.Nodes.{all_unused, infix_for, entry_for};
 
 use super::{Form, Node, Shape};
 use field::InfixOp;
-use records::kinds::{
-    APPLICATION, AS_PATTERN, CONS, CONS_PATTERN, CONSTANT, CONSTANT_PATTERN, FUNCTION, INFIX, LET,
-    LINK, MATCH, NEGATE, NIL, NIL_PATTERN, PRODUCT, PRODUCT_PATTERN, SEQUENCE, UNIT, UNIT_PATTERN,
-    VARIABLE, VARIABLE_PATTERN,
-};
+use records::kinds::Kind;
 
 // A constant's number.
 fn number(a: u32) -> i64
@@ -51,28 +47,31 @@ pub fn entry(kind: u32, a: u32, b: u32, c: u32) -> Option<Node>
 {
     let x = a as usize;
     let y = b as usize;
+    let Ok(kind) = Kind::try_from(kind) else {
+        return None;
+    };
     match kind {
-        UNIT => blank(&[a, b, c], Node::Expression(Form::Unit)),
-        NIL => blank(&[a, b, c], Node::Expression(Form::Nil)),
-        PRODUCT => blank(&[c], Node::Expression(Form::Product(x, y))),
-        CONS => blank(&[c], Node::Expression(Form::Cons(x, y))),
-        INFIX => operation(c, x, y),
-        NEGATE => blank(&[b, c], Node::Expression(Form::Negate(x))),
-        APPLICATION => blank(&[c], Node::Expression(Form::Application(x, y))),
-        CONSTANT => blank(&[b, c], Node::Expression(Form::Constant(number(a)))),
-        VARIABLE => blank(&[b, c], Node::Expression(Form::Variable(x))),
-        FUNCTION => blank(&[c], Node::Expression(Form::Function(x, y))),
-        LET => Some(Node::Expression(Form::Let(x, y, c as usize))),
-        MATCH => blank(&[c], Node::Expression(Form::Match(x, y))),
-        SEQUENCE => blank(&[b, c], Node::Expression(Form::Sequence(x))),
-        LINK => Some(Node::Link(x, y, c as usize)),
-        UNIT_PATTERN => blank(&[a, b, c], Node::Pattern(Shape::Unit)),
-        NIL_PATTERN => blank(&[a, b, c], Node::Pattern(Shape::Nil)),
-        AS_PATTERN => blank(&[c], Node::Pattern(Shape::As(x, y))),
-        PRODUCT_PATTERN => blank(&[c], Node::Pattern(Shape::Product(x, y))),
-        CONS_PATTERN => blank(&[c], Node::Pattern(Shape::Cons(x, y))),
-        VARIABLE_PATTERN => blank(&[b, c], Node::Pattern(Shape::Variable(x))),
-        CONSTANT_PATTERN => blank(&[b, c], Node::Pattern(Shape::Constant(number(a)))),
+        Kind::Unit => blank(&[a, b, c], Node::Expression(Form::Unit)),
+        Kind::Nil => blank(&[a, b, c], Node::Expression(Form::Nil)),
+        Kind::Product => blank(&[c], Node::Expression(Form::Product(x, y))),
+        Kind::Cons => blank(&[c], Node::Expression(Form::Cons(x, y))),
+        Kind::Infix => operation(c, x, y),
+        Kind::Negate => blank(&[b, c], Node::Expression(Form::Negate(x))),
+        Kind::Application => blank(&[c], Node::Expression(Form::Application(x, y))),
+        Kind::Constant => blank(&[b, c], Node::Expression(Form::Constant(number(a)))),
+        Kind::Variable => blank(&[b, c], Node::Expression(Form::Variable(x))),
+        Kind::Function => blank(&[c], Node::Expression(Form::Function(x, y))),
+        Kind::Let => Some(Node::Expression(Form::Let(x, y, c as usize))),
+        Kind::Match => blank(&[c], Node::Expression(Form::Match(x, y))),
+        Kind::Sequence => blank(&[b, c], Node::Expression(Form::Sequence(x))),
+        Kind::Link => Some(Node::Link(x, y, c as usize)),
+        Kind::UnitPattern => blank(&[a, b, c], Node::Pattern(Shape::Unit)),
+        Kind::NilPattern => blank(&[a, b, c], Node::Pattern(Shape::Nil)),
+        Kind::AsPattern => blank(&[c], Node::Pattern(Shape::As(x, y))),
+        Kind::ProductPattern => blank(&[c], Node::Pattern(Shape::Product(x, y))),
+        Kind::ConsPattern => blank(&[c], Node::Pattern(Shape::Cons(x, y))),
+        Kind::VariablePattern => blank(&[b, c], Node::Pattern(Shape::Variable(x))),
+        Kind::ConstantPattern => blank(&[b, c], Node::Pattern(Shape::Constant(number(a)))),
         _ => None,
     }
 }
