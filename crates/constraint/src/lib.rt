@@ -7,9 +7,11 @@ pub mod reading;
 ghost use Rattle.std.specs.Prelude.{◌≡◌, ◌+◌, ◌*◌, ◌≤◌, length};
 ghost use Rattle.words.specs.Words.{set_words};
 ghost use Rattle.constraint.specs.Record.{EQUALITY-WORDS, TERM-WORDS, term_words, operation_word, written_words};
+ghost use Rattle.constraint.specs.Reading.{operation_of};
 
 use field::InfixOp;
 use flat::entries::DEFINITION_WORDS;
+use flat::operator;
 use records::flat_record;
 use words::{put_word, put_words, unsigned};
 
@@ -60,6 +62,20 @@ impl From<Operation> for u32 {
             Operation::Infix(op) => u32::from(op),
             Operation::Negate => NEGATE,
             Operation::Copy => COPY,
+        }
+    }
+}
+
+// The operation with a number; one above 10 reads as 8, modulo. Kept as it is: the numbers of operations become operations here alone.
+#[tactic(auto, unfolding(crate::specs::Reading::operation_of, flat::specs::Record::pick))]
+impl From<u32> for Operation {
+    ghost from_gives = { λ number operation. operation ≡ operation_of number };
+
+    fn from(number: u32) -> Operation {
+        match number {
+            NEGATE => Operation::Negate,
+            COPY => Operation::Copy,
+            _ => Operation::Infix(operator(number)),
         }
     }
 }

@@ -3,11 +3,10 @@
 ghost use Rattle.std.specs.Prelude.{◌≡◌, ◌+◌, ◌*◌, ◌≤◌, length};
 ghost use Rattle.flat.specs.Layout.{definition_entry};
 ghost use Rattle.constraint.specs.Record.{EQUALITY-WORDS, KEPT-WORDS, TERM-WORDS};
-ghost use Rattle.constraint.specs.Reading.{HEADER, layout_of, term_at, operation_of, written_at};
+ghost use Rattle.constraint.specs.Reading.{HEADER, layout_of, term_at, written_at};
 
-use super::{COPY, EQUALITY_WORDS, Equality, HEADER, KEPT_WORDS, NEGATE, Operation, Term};
+use super::{EQUALITY_WORDS, Equality, HEADER, KEPT_WORDS, Operation, Term};
 use flat::entries::{DefinitionEntry, definition_at};
-use flat::operator;
 use records::NODE_WORDS;
 use words::{count, signed, word_at};
 
@@ -71,25 +70,13 @@ fn term_at(s: &[u8], i: usize) -> Term
     }
 }
 
-// The operation with a number; one above 10 reads as 8, modulo.
-#[tactic(auto, unfolding(crate::specs::Reading::operation_of, flat::specs::Record::pick))]
-fn operation(number: u32) -> Operation
-    ensures { result ≡ operation_of number }
-{
-    match number {
-        NEGATE => Operation::Negate,
-        COPY => Operation::Copy,
-        _ => Operation::Infix(operator(number)),
-    }
-}
-
 // Equality k of those that start at word `at`: negate and copy leave the second term out.
 pub fn equality_at(s: &[u8], at: usize, k: usize) -> Equality
     requires { 4 * (at + EQUALITY-WORDS * k + EQUALITY-WORDS) ≤ length s.now }
     ensures { result ≡ written_at s.now at k }
 {
     let base = at + EQUALITY_WORDS * k;
-    let operation = operation(word_at(s, base + 2));
+    let operation = Operation::from(word_at(s, base + 2));
     let second = match operation {
         Operation::Infix(_) => term_at(s, base + 5),
         Operation::Negate | Operation::Copy => Term::Variable(0),
