@@ -10,7 +10,7 @@ use Rattle.marks.specs.declared.Uses.{Uses}
 use Rattle.marks.specs.Marks.{Adds, used}
 use Rattle.marks.proofs.Indices.{every-fails, every_more, total-more}
 use Rattle.marks.proofs.Counted.{adds-use, adds_none, adds-more, adds_same}
-use Rattle.flat.specs.declared.node_entry.NodeEntry.{NodeEntry}
+use Rattle.records.specs.declared.nodes.NodeEntry.{NodeEntry}
 use Rattle.flat.specs.declared.entries.DefinitionEntry.{DefinitionEntry}
 use Rattle.flat.specs.declared.entries.EquationEntry.{EquationEntry}
 use Rattle.flat.specs.Layout.{node_at, node_entry, definition_entry, equation_entry}

@@ -18,7 +18,7 @@ use Rattle.flat.specs.declared.Node.{Node}
 use Rattle.flat.specs.declared.Node.TheVariants.{Infix, Negate, Constant, Variable}
 use Rattle.flat.specs.Trees.{Flat}
 use Rattle.flat.specs.Rules.{Every}
-use Rattle.flat.specs.declared.node_entry.NodeEntry.{NodeEntry}
+use Rattle.records.specs.declared.nodes.NodeEntry.{NodeEntry}
 use Rattle.flat.specs.Layout.{node_at, node_entry}
 use Rattle.flat.specs.Record.{pick, node_fits, nodes_fit, operator_of, node_for, node_of, grown, tree}
 use Rattle.std.proofs.lemmas.Bool.{cases_lt, cases_eq}

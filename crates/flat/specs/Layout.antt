@@ -5,9 +5,9 @@ use Rattle.words.specs.Words.{word_at}
 use Rattle.flat.specs.declared.Layout.{Layout}
 use Rattle.flat.specs.declared.entries.DefinitionEntry.{DefinitionEntry}
 use Rattle.flat.specs.declared.entries.EquationEntry.{EquationEntry}
-use Rattle.flat.specs.declared.node_entry.NodeEntry.{NodeEntry}
 use Rattle.records.specs.FlatRecord.{HEADER, LISTED, NODES, PUBLICS}
 use Rattle.records.specs.Kinds.{NODE-WORDS}
+pub use Rattle.records.specs.Nodes.{node_entry}
 
 -- the words of a definition (id, node) and of an equation (node, node)
 abbrev pub DEFINITION-WORDS : ℕ
@@ -112,11 +112,6 @@ definition_entry b at k = record { id = word_at b (at + DEFINITION-WORDS * k); n
 
 abbrev pub equation_entry : List ℕ → ℕ → ℕ → EquationEntry
 equation_entry b at k = record { left = word_at b (at + EQUATION-WORDS * k); right = word_at b (at + EQUATION-WORDS * k + 1) }
-
-abbrev pub node_entry : List ℕ → ℕ → ℕ → NodeEntry
-node_entry b at k =
-    let i = at + NODE-WORDS * k in
-    record { kind = word_at b i; a = word_at b (i + 1); b = word_at b (i + 2); c = word_at b (i + 3) }
 
 -- what a function makes of a node's four words: kind, a, b, c
 unfoldable pub node_at : {A : Type 0} → List ℕ → ℕ → ℕ → (ℕ → ℕ → ℕ → ℕ → A) → A

@@ -17,9 +17,9 @@ ghost use Rattle.records.specs.Kinds.{NODE-WORDS};
 use entries::{DEFINITION_WORDS, EQUATION_WORDS};
 use field::InfixOp;
 use measured::Measured;
-use node_entry::NodeEntry;
 use records::NODE_WORDS;
 use records::flat_record::HEADER;
+use records::nodes::NodeEntry;
 use records::refusals::Refusal;
 use words::count;
 
@@ -61,7 +61,7 @@ pub fn node_at(s: &[u8], at: usize, k: usize) -> Node
     requires { 4 * (at + NODE-WORDS * k + NODE-WORDS) ≤ length s.now }
     ensures { result ≡ node_of s.now at k }
 {
-    NodeEntry::read(s, at, k).node()
+    Node::from(NodeEntry::read(s, at, k))
 }
 
 // The layout that the header says.

@@ -5,9 +5,10 @@ ghost use Rattle.marks.specs.Marks.{Adds};
 
 use super::entries::{definition_at, equation_at};
 use super::measured::Measured;
-use super::node_entry::NodeEntry;
+use super::node_entry::{fits, use_children};
 use marks::Marks;
 use records::flat_record::NODES;
+use records::nodes::NodeEntry;
 
 impl Measured<'_> {
     // Whether the nodes fit; then their children are marked.
@@ -18,10 +19,10 @@ impl Measured<'_> {
         let l = &self.layout;
         for k in 0..l.nodes {
             let node = NodeEntry::read(self.bytes, l.nodes_at, k);
-            if !node.fits(l.next, k) {
+            if !fits(node, l.next, k) {
                 return false;
             }
-            node.use_children(marks);
+            use_children(node, marks);
         }
         true
     }

@@ -6,6 +6,7 @@ pub mod evaluation;
 pub mod flat_record;
 pub mod intrinsics;
 pub mod kinds;
+pub mod nodes;
 pub mod operators;
 pub mod refusals;
 pub mod source_record;

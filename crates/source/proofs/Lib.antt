@@ -1,6 +1,5 @@
 pub mod Parts
 pub mod Names
-mod Header
 pub mod Links
 pub mod Publics
 pub mod Nodes

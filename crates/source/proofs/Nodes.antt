@@ -14,7 +14,7 @@ use Rattle.std.specs.Prelude.{Some}
 use Rattle.source.specs.declared.Node.{Node}
 use Rattle.source.specs.declared.Form.{Form}
 use Rattle.source.specs.declared.Shape.{Shape}
-use Rattle.source.specs.declared.lists.NodeEntry.{NodeEntry}
+use Rattle.records.specs.declared.nodes.NodeEntry.{NodeEntry}
 use Rattle.source.specs.Layout.{node_entry}
 use Rattle.source.specs.Nodes.{entry_for, entry_of}
 use Rattle.source.specs.Record.{Tree, expression_of, pattern_of, link_of, grown, tree, node_tree}

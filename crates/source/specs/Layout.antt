@@ -4,8 +4,9 @@ use Rattle.words.specs.Words.{word_at}
 use Rattle.source.specs.declared.Layout.{Layout}
 use Rattle.source.specs.declared.lists.NameEntry.{NameEntry}
 use Rattle.source.specs.declared.lists.DefinitionEntry.{DefinitionEntry}
-use Rattle.source.specs.declared.lists.NodeEntry.{NodeEntry}
 use Rattle.records.specs.Kinds.{NODE-WORDS}
+-- "nodes of four words (kind, a, b, c)"
+pub use Rattle.records.specs.Nodes.{node_entry}
 use Rattle.records.specs.SourceRecord.{DEFINITIONS, EXPRESSIONS, HEADER, NAME-BYTES, NAMES, NODES, PUBLICS}
 
 -- the words of a name (offset, length) and of a definition (pattern, value)
@@ -77,15 +78,6 @@ definition_entry b at k = record { pattern = word_at b (at + DEFINITION-WORDS * 
 
 abbrev pub expression_root : List ℕ → ℕ → ℕ → ℕ
 expression_root b at k = word_at b (at + k)
-
--- "nodes of four words (kind, a, b, c)"
-abbrev pub node_entry : List ℕ → ℕ → ℕ → NodeEntry
-node_entry s at k = record {
-  kind = word_at s (at + NODE-WORDS * k);
-  a = word_at s (at + NODE-WORDS * k + 1);
-  b = word_at s (at + NODE-WORDS * k + 2);
-  c = word_at s (at + NODE-WORDS * k + 3);
-}
 
 -- the longest record
 abbrev pub BYTES : ℕ

@@ -8,6 +8,7 @@ ghost use Rattle.source.specs.Nodes.{all_unused, infix_for, entry_for};
 use super::{Form, Node, Shape};
 use field::InfixOp;
 use records::kinds::Kind;
+use records::nodes::NodeEntry;
 
 // A constant's number.
 fn number(a: u32) -> i64
@@ -31,6 +32,7 @@ fn blank(unused: &[u32], node: Node) -> Option<Node>
 }
 
 // An operation on two expressions, where its operator is one.
+#[tactic(auto, unfolding(crate::specs::Nodes::infix_for, marks::specs::Indices::pick))]
 fn operation(c: u32, x: usize, y: usize) -> Option<Node>
     ensures { result ≡ infix_for c x y }
 {
@@ -40,11 +42,12 @@ fn operation(c: u32, x: usize, y: usize) -> Option<Node>
     }
 }
 
-// The node with a kind and three words.
+// What a node's words say.
 #[tactic(auto, unfolding(crate::specs::Nodes::entry_for, marks::specs::Indices::pick))]
-pub fn entry(kind: u32, a: u32, b: u32, c: u32) -> Option<Node>
-    ensures { result ≡ entry_for kind a b c }
+pub fn entry(node: NodeEntry) -> Option<Node>
+    ensures { result ≡ entry_for node.kind node.a node.b node.c }
 {
+    let NodeEntry { kind, a, b, c } = node;
     let x = a as usize;
     let y = b as usize;
     let Ok(kind) = Kind::try_from(kind) else {

@@ -12,8 +12,9 @@ ghost use Rattle.records.specs.SourceRecord.{HEADER};
 
 use entries::entry;
 use field::InfixOp;
-use lists::{DEFINITION_WORDS, NAME_WORDS, node_words};
+use lists::{DEFINITION_WORDS, NAME_WORDS};
 use records::NODE_WORDS;
+use records::nodes::NodeEntry;
 use records::source_record::{DEFINITIONS, EXPRESSIONS, HEADER, NAME_BYTES, NAMES, NODES, PUBLICS};
 use words::count;
 
@@ -89,6 +90,7 @@ pub enum Chain {
 }
 
 // The layout that the header says.
+#[tactic(auto, unfolding(crate::specs::Layout::layout_of))]
 pub fn layout_of(s: &[u8]) -> Layout
     requires { 4 * HEADER ≤ length s.now }
     ensures { result ≡ layout_of s.now }
@@ -117,10 +119,10 @@ pub fn layout_of(s: &[u8]) -> Layout
 }
 
 // Node k of the nodes that start at word `at`, if its words are those of one.
+#[tactic(auto, unfolding(crate::specs::Nodes::entry_of))]
 pub fn node_at(s: &[u8], at: usize, k: usize) -> Option<Node>
     requires { 4 * (at + NODE-WORDS * k + NODE-WORDS) ≤ length s.now }
     ensures { result ≡ entry_of s.now at k }
 {
-    let n = node_words(s, at, k);
-    entry(n.kind, n.a, n.b, n.c)
+    entry(NodeEntry::read(s, at, k))
 }

@@ -1,10 +1,8 @@
 // The entries of a source record's lists, each by its place and its index.
 ghost use Rattle.std.specs.Prelude.{◌≡◌, ◌+◌, ◌*◌, ◌≤◌, length};
-ghost use Rattle.source.specs.Layout.{name_entry, public_at, definition_entry, expression_root, node_entry, NAME-WORDS, DEFINITION-WORDS};
-ghost use Rattle.records.specs.Kinds.{NODE-WORDS};
+ghost use Rattle.source.specs.Layout.{name_entry, public_at, definition_entry, expression_root, NAME-WORDS, DEFINITION-WORDS};
 ghost use Rattle.records.specs.SourceRecord.{HEADER};
 
-use records::NODE_WORDS;
 use records::source_record::HEADER;
 use words::word_at;
 
@@ -25,15 +23,6 @@ pub struct NameEntry {
 pub struct DefinitionEntry {
     pub pattern: u32,
     pub value: u32,
-}
-
-// A node: its kind, and its words a, b and c.
-#[derive(Clone, Copy)]
-pub struct NodeEntry {
-    pub kind: u32,
-    pub a: u32,
-    pub b: u32,
-    pub c: u32,
 }
 
 // Name k.
@@ -74,18 +63,4 @@ pub fn expression_at(s: &[u8], at: usize, k: usize) -> u32
     ensures { result ≡ expression_root s.now at k }
 {
     word_at(s, at + k)
-}
-
-// The words of node k of those that start at word `at`.
-pub fn node_words(s: &[u8], at: usize, k: usize) -> NodeEntry
-    requires { 4 * (at + NODE-WORDS * k + NODE-WORDS) ≤ length s.now }
-    ensures { result ≡ node_entry s.now at k }
-{
-    let base = at + NODE_WORDS * k;
-    NodeEntry {
-        kind: word_at(s, base),
-        a: word_at(s, base + 1),
-        b: word_at(s, base + 2),
-        c: word_at(s, base + 3),
-    }
 }

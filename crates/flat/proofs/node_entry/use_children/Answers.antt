@@ -1,8 +1,8 @@
--- `NodeEntry::use_children` meets its contract. Assumes nothing.
+-- `node_entry::use_children` meets its contract. Assumes nothing.
 use Rattle.std.proofs.Common.{rules}
 use native.Mathlib.Omega.{arith}
 use Rattle.flat.proofs.Marks.{children-4, children-5, children-none}
-use Rattle.flat.proofs.node_entry.NodeEntry.use_children.Goals as goal
+use Rattle.flat.proofs.node_entry.use_children.Goals as goal
 
 pub returns-in_default : goal.returns-in_default
 returns-in_default c = children-none _ _ _ _ (λ e. omega (arith, c.in_default.ensures.1)) (λ e. omega (arith, c.in_default.ensures.1))
