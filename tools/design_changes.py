@@ -1,9 +1,10 @@
 #!/usr/bin/env python3
 """Prints, as tables, what changed in public between a commit and the working tree: signatures and clauses of public functions, public types,
-ghost fields, and the declarations of specs/. docs/DESIGN-PASS.md ends with what it prints.
+ghost fields, the declarations of specs/, and the theorems of proofs/ that README or docs/ named. docs/DESIGN-PASS.md ends with what it prints.
 
 usage: design_changes.py COMMIT"""
 import collections
+import os
 import re
 import subprocess
 import sys
@@ -76,34 +77,106 @@ def items(files):
     return found
 
 
-def specs(commit):
+HEAD = re.compile(r'(\s*)((?:(?:abbrev|unfoldable|opaque|erased|mutual|pub)\s+)*)(record\s+|data\s+)?([^\s:=(){}]+)((?:\s+[({][^:]*:.*?[)}])*)\s+:(?:\s|$)')
+NO_NAMES = {'let', 'in', 'where', 'use', 'module', 'infix', 'infixl', 'infixr', 'ruleset', '_', '→', '×', '≡', '∙'}
+
+
+def declared(text):
+    """Name, whether it is public, and text of each declaration, in modules and mutual blocks too; what stands in a record or data belongs to it."""
+    lines = [line for line in text.split('\n') if line.strip() and not re.match(r'\s*--', line)]
+    out, i = [], 0
+    while i < len(lines):
+        m = HEAD.match(lines[i])
+        if not m or m.group(4) in NO_NAMES:
+            i += 1
+            continue
+        indent, end = len(m.group(1)), i + 1
+        while end < len(lines):
+            own = len(lines[end]) - len(lines[end].lstrip())
+            if re.match(r'\s*(use|module|infix[lr]?|ruleset|pub ruleset|pub mod|unfolding)\b', lines[end]) and own <= indent and not lines[end].lstrip().startswith('unfolding'):
+                break
+            if m.group(3):
+                if own <= indent:
+                    break
+            else:
+                n = HEAD.match(lines[end])
+                if n and n.group(4) not in NO_NAMES:
+                    break
+            end += 1
+        out.append((m.group(4), 'pub' in m.group(2), squeeze('\n'.join(lines[i:end]))))
+        i = end
+    return out
+
+
+def tree(commit, folder):
+    """The .antt files of a folder of each crate, at a commit or as they lie here."""
     if commit is None:
-        names = subprocess.run(['git', 'ls-files', 'crates/*/specs/*.antt'], capture_output=True, text=True, check=True).stdout.split()
-        texts = {name: open(name, encoding='utf-8').read() for name in names}
+        names = subprocess.run(['git', 'ls-files', '--cached', '--others', '--exclude-standard', 'crates'], capture_output=True, text=True, check=True).stdout.split()
     else:
         names = subprocess.run(['git', 'ls-tree', '-r', '--name-only', commit, 'crates'], capture_output=True, text=True, check=True).stdout.split()
-        names = [name for name in names if re.fullmatch(r'crates/[a-z0-9_]+/specs/.*\.antt', name)]
-        texts = {name: subprocess.run(['git', 'show', f'{commit}:{name}'], capture_output=True, text=True, check=True).stdout for name in names}
-    found = collections.OrderedDict()
-    for name, text in sorted(texts.items()):
-        crate = name.split('/')[1]
-        lines = [line for line in text.split('\n') if not re.match(r'\s*--', line)]
-        starts = [i for i, line in enumerate(lines) if re.match(r'\s*(?:abbrev |unfoldable |opaque )*(?:pub )?(?:record |data )?[^\s:=]+ (?:\([^)]*\) |\{[^}]*\} )*:( |$)', line)
-                  and not re.match(r'\s*pub [^\s]+ : .*$', '') and not line.startswith('use ')]
-        tops = [i for i in starts if not re.match(r'\s{4,}', lines[i])]
-        for k, i in enumerate(tops):
-            end = tops[k + 1] if k + 1 < len(tops) else len(lines)
-            body = []
-            for line in lines[i:end]:
-                if re.match(r'(use|module|infix|ruleset|pub mod)\b', line):
-                    break
-                body.append(line)
-            m = re.match(r'\s*(?:abbrev |unfoldable |opaque )*(?:pub )?(?:record |data )?([^\s:=]+)', lines[i])
-            found[crate, m.group(1)] = squeeze('\n'.join(body))
-    return found
+    names = [name for name in names if re.fullmatch(r'crates/[a-z0-9_]+/' + folder + r'/.*\.antt', name)]
+    if commit is None:
+        return {name: open(name, encoding='utf-8').read() for name in names if os.path.exists(name)}
+    asked = ''.join(f'{commit}:{name}\n' for name in names)
+    raw = subprocess.run(['git', 'cat-file', '--batch'], input=asked.encode(), capture_output=True, check=True).stdout
+    texts, at = {}, 0
+    for name in names:
+        line = raw.index(b'\n', at)
+        size = int(raw[at:line].split()[2])
+        texts[name] = raw[line + 1:line + 1 + size].decode('utf-8')
+        at = line + 2 + size
+    return texts
 
 
-def cell(text, most=900):
+def by_name(found):
+    """By crate and name; a name that stands in several files of a crate has its file, too."""
+    count = collections.Counter((crate, name) for crate, _, name, _ in found)
+    return collections.OrderedDict(((crate, name if count[crate, name] == 1 else f'{file}/{name}'), text) for crate, file, name, text in found)
+
+
+def specs(commit):
+    return by_name([(path.split('/')[1], path.split('/')[-1][:-5], name, text) for path, whole in sorted(tree(commit, 'specs').items()) for name, _, text in declared(whole)])
+
+
+def named_by_docs(commit):
+    names = subprocess.run(['git', 'ls-tree', '-r', '--name-only', commit, 'README.md', 'docs'], capture_output=True, text=True, check=True).stdout.split()
+    pages = [subprocess.run(['git', 'show', f'{commit}:{name}'], capture_output=True, text=True, check=True).stdout for name in names]
+    return {word for page in pages for word in re.findall(r'`([^`\s]+)`', page)}
+
+
+def theorems(commit, names):
+    """The statements of proofs/ that are named so, without their proofs."""
+    found = []
+    for path, whole in sorted(tree(commit, 'proofs').items()):
+        for name, public, text in declared(whole):
+            goals = path.endswith(('/Answers.antt', '/Invariants.antt')) or re.match(r'returns|loop-', name)
+            if name in names and not goals:
+                statement = re.split(r' unfolding | ' + re.escape(name) + r' (?:[^:→]*?)=(?: |$)', text)[0]
+                found.append((path.split('/')[1], path.split('/')[-1][:-5], name, statement))
+    return by_name(found)
+
+
+def difference(a, b, most=900, around=120):
+    """Both texts, cut where they are long to their beginning and to the part that differs."""
+    if max(len(a), len(b)) <= most:
+        return a, b
+    p = 0
+    while p < min(len(a), len(b)) and a[p] == b[p]:
+        p += 1
+    q = 0
+    while q < min(len(a), len(b)) - p and a[-1 - q] == b[-1 - q]:
+        q += 1
+
+    def cut(text):
+        start, end = max(p - around, 0), min(len(text) - q + around, len(text))
+        if start <= 2 * around:
+            start = 0
+        text = (text[:around] + ' .. ' if start else '') + text[start:end] + (' ..' if end < len(text) else '')
+        return text if len(text) <= 2 * most else text[:2 * most] + ' ..'
+    return cut(a), cut(b)
+
+
+def cell(text, most=1800):
     text = text if len(text) <= most else text[:most] + ' ..'
     return '`' + text.replace('|', '\\|').replace('`', "'") + '`'
 
@@ -117,18 +190,15 @@ def table(title, then, now):
     if changed:
         print('| where | then | now |\n|---|---|---|')
         for (crate, name), a, b in changed:
+            a, b = difference(a, b)
             print(f'| {crate}: {name} | {cell(a)} | {cell(b)} |')
         print()
-    if gone:
-        print('| gone | then |\n|---|---|')
-        for (crate, name), a in gone:
-            print(f'| {crate}: {name} | {cell(a)} |')
-        print()
-    if new:
-        print('| new | now |\n|---|---|')
-        for (crate, name), b in new:
-            print(f'| {crate}: {name} | {cell(b)} |')
-        print()
+    for title, rows in (('gone | then', gone), ('new | now', new)):
+        if rows:
+            print(f'| {title} |\n|---|---|')
+            for (crate, name), text in rows:
+                print(f'| {crate}: {name} | {cell(text, 900)} |')
+            print()
 
 
 def main():
@@ -140,6 +210,8 @@ def main():
     table('Public functions', functions(then), functions(now))
     table('Public types, and impls of traits', types(then), types(now))
     table('Definitions and theorems of specs/', specs(sys.argv[1]), specs(None))
+    names = named_by_docs(sys.argv[1])
+    table('Theorems of proofs/ that README or docs/ named', theorems(sys.argv[1], names), theorems(None, names))
 
 
 main()
