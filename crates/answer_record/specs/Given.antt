@@ -1,7 +1,6 @@
 -- What an argument says to lend, and how much of an answer is given out.
-use Rattle.std.specs.Prelude.{cond, List, [], ◌∷◌, ℕ, ◌+◌, ◌-◌, ◌*◌, ◌≤◌, leb, ltb, length, take, Option, Some, None}
-use Rattle.pass_entry.specs.declared.Answer.{Answer}
-use Rattle.pass_entry.specs.declared.Answer.TheVariants.{Written, Refused}
+use Rattle.std.specs.Prelude.{cond, List, [], ◌∷◌, ℕ, ◌+◌, ◌-◌, ◌*◌, ◌≤◌, leb, ltb, length, take, Option, Some, None, Result, Ok, Err}
+use Rattle.records.specs.declared.refusals.Refusal.{Refusal}
 
 -- more than can matter to lend
 abbrev pub MANY : ℕ
@@ -34,11 +33,11 @@ Few (Some n) = n ≤ MANY
 Few None = Unit {0}
 
 -- the bytes of an answer that go to standard output, which has so many
-unfoldable pub given_of : Answer → ℕ → ℕ
-given_of (Written n) len = cond (leb n len) n 0
-given_of (Refused k) len = 0
+unfoldable pub given_of : Result ℕ Refusal → ℕ → ℕ
+given_of (Ok n) len = cond (leb n len) n 0
+given_of (Err r) len = 0
 
 -- and these bytes
-unfoldable pub bytes_of : Answer → List ℕ → List ℕ
-bytes_of (Written n) out = cond (leb n (length out)) (take n out) []
-bytes_of (Refused k) out = []
+unfoldable pub bytes_of : Result ℕ Refusal → List ℕ → List ℕ
+bytes_of (Ok n) out = cond (leb n (length out)) (take n out) []
+bytes_of (Err r) out = []

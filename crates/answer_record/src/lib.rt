@@ -6,7 +6,7 @@ ghost use Rattle.std.specs.Prelude.{◌≡◌, ◌≤◌, length};
 ghost use Rattle.streams.specs.Streams.{Whole, Added};
 ghost use Rattle.answer_record.specs.Given.{at_most, number_of, Few, given_of, bytes_of};
 
-use pass_entry::Answer;
+use records::refusals::Refusal;
 use std::env::FillError;
 use std::io::Write;
 use std::rt::Env;
@@ -63,9 +63,10 @@ fn print_record<W: Write>(rt: &impl Eprint, to: &mut W, bytes: &[u8]) -> Result<
 }
 
 // "refused" with the number on standard error, and nothing on standard output.
-fn print_refused(rt: &impl Eprint, number: u32) -> Result<usize, Failed>
+fn print_refused(rt: &impl Eprint, refusal: Refusal) -> Result<usize, Failed>
     ensures { Whole result 0 }
 {
+    let number = refusal.number();
     let _ = eprintln!(rt; "refused {number}");
     Ok(0)
 }
@@ -74,19 +75,19 @@ fn print_refused(rt: &impl Eprint, number: u32) -> Result<usize, Failed>
 pub fn print_answer<W: Write>(
     rt: &impl Eprint,
     to: &mut W,
-    answer: Answer,
+    answer: Result<usize, Refusal>,
     out: &[u8],
 ) -> Result<usize, Failed>
     ensures whole { Whole result (given_of answer (length out.now)) }
     ensures bytes { Added result (W.contents to.old) (W.contents to.new) (bytes_of answer out.now) }
 {
     match answer {
-        Answer::Written(n) => {
+        Ok(n) => {
             if n <= out.len() {
                 return print_record(rt, to, &out[..n]);
             }
             Ok(0)
         }
-        Answer::Refused(number) => print_refused(rt, number),
+        Err(refusal) => print_refused(rt, refusal),
     }
 }

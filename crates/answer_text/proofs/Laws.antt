@@ -8,7 +8,8 @@ use Rattle.streams.specs.declared.Failed.{Failed}
 use Rattle.streams.specs.Streams.{Added}
 use Rattle.constraint_text.specs.Reading.{lines, lines_text}
 use Rattle.constraint_text.specs.Text.{refused_text}
-use Rattle.pass_entry.specs.declared.Answer.{Answer}
+use Rattle.records.specs.Refusals.{refusal_number}
+use Rattle.records.specs.declared.refusals.Refusal.{Refusal}
 use Rattle.answer_text.specs.Answered.{lines_of, printed_of}
 
 -- an output that got a text and was kept then
@@ -21,27 +22,27 @@ pub added_none : (r : Result ℕ Failed) (old new : Option (List ℕ)) → Keeps
 added_none r old new = added-kept r old old new [] (Appends-nil old)
 
 -- an answer of n bytes where there are not so many, and where there are
-pub lines_none : (out : List ℕ) (n : ℕ) → length out < n → 0 ≡ lines_of (Answer.Written n) out
+pub lines_none : (out : List ℕ) (n : ℕ) → length out < n → 0 ≡ lines_of (Ok n) out
 unfolding lines_of
 lines_none out n h = ap (λ b. cond b 0 (lines (take n out))) (sym (lt-ltb (length out) n h))
 
-pub printed_none : (out : List ℕ) (n : ℕ) → length out < n → [] ≡ printed_of (Answer.Written n) out
+pub printed_none : (out : List ℕ) (n : ℕ) → length out < n → [] ≡ printed_of (Ok n) out
 unfolding printed_of
 printed_none out n h = ap (λ b. cond b [] (lines_text (take n out) 0 (lines (take n out)))) (sym (lt-ltb (length out) n h))
 
-pub lines-front : (out : List ℕ) (n : ℕ) → n ≤ length out → lines (take n out) ≡ lines_of (Answer.Written n) out
+pub lines-front : (out : List ℕ) (n : ℕ) → n ≤ length out → lines (take n out) ≡ lines_of (Ok n) out
 unfolding lines_of
 lines-front out n h = ap (λ b. cond b 0 (lines (take n out))) (sym (le-ltb (length out) n h))
 
-pub printed-front : (out : List ℕ) (n : ℕ) → n ≤ length out → lines_text (take n out) 0 (lines (take n out)) ≡ printed_of (Answer.Written n) out
+pub printed-front : (out : List ℕ) (n : ℕ) → n ≤ length out → lines_text (take n out) 0 (lines (take n out)) ≡ printed_of (Ok n) out
 unfolding printed_of
 printed-front out n h = ap (λ b. cond b [] (lines_text (take n out) 0 (lines (take n out)))) (sym (le-ltb (length out) n h))
 
 -- a refusal
-pub lines-one : (a : Answer) (number : ℕ) (out : List ℕ) → a ≡ Answer.Refused number → 1 ≡ lines_of a out
+pub lines-one : (a : Result ℕ Refusal) (r : Refusal) (out : List ℕ) → a ≡ Err r → 1 ≡ lines_of a out
 unfolding lines_of
-lines-one a number out e = ap (λ x. lines_of x out) (sym e)
+lines-one a r out e = ap (λ x. lines_of x out) (sym e)
 
-pub printed-one : (a : Answer) (number : ℕ) (out : List ℕ) → a ≡ Answer.Refused number → refused_text number ≡ printed_of a out
+pub printed-one : (a : Result ℕ Refusal) (r : Refusal) (out : List ℕ) → a ≡ Err r → refused_text (refusal_number r) ≡ printed_of a out
 unfolding printed_of
-printed-one a number out e = ap (λ x. printed_of x out) (sym e)
+printed-one a r out e = ap (λ x. printed_of x out) (sym e)

@@ -1,13 +1,15 @@
 // What the text programs print of an answer: the equalities of the record that was written, or the refusal.
 #![tactic(auto)]
 
+ghost use Rattle.std.specs.Prelude.{Ok};
+ghost use Rattle.records.specs.Refusals.{refusal_number};
 ghost use Rattle.constraint_text.specs.Reading.{lines, lines_text};
 ghost use Rattle.constraint_text.specs.Text.{refused_text};
 ghost use Rattle.streams.specs.Streams.{Whole, Added};
 ghost use Rattle.answer_text.specs.Answered.{lines_of, printed_of};
 
 use constraint_text::{print_equalities, print_refused};
-use pass_entry::Answer;
+use records::refusals::Refusal;
 use std::io::Write;
 use streams::{Failed, close_output};
 
@@ -19,11 +21,11 @@ fn print_record<W: Write>(rt: &impl Eprint, to: &mut W, s: &[u8]) -> Result<usiz
     close_output(rt, to, lines)
 }
 
-fn print_number<W: Write>(rt: &impl Eprint, to: &mut W, number: u32) -> Result<usize, Failed>
+fn print_number<W: Write>(rt: &impl Eprint, to: &mut W, refusal: Refusal) -> Result<usize, Failed>
     ensures all { Whole result 1 }
-    ensures bytes { Added result (W.contents to.old) (W.contents to.new) (refused_text number) }
+    ensures bytes { Added result (W.contents to.old) (W.contents to.new) (refused_text (refusal_number refusal)) }
 {
-    print_refused(rt, to, number)?;
+    print_refused(rt, to, refusal.number())?;
     close_output(rt, to, 1)
 }
 
@@ -34,8 +36,8 @@ fn print_front<W: Write>(
     out: &[u8],
     n: usize,
 ) -> Result<usize, Failed>
-    ensures all { Whole result (lines_of (Answer.Written n) out.now) }
-    ensures bytes { Added result (W.contents to.old) (W.contents to.new) (printed_of (Answer.Written n) out.now) }
+    ensures all { Whole result (lines_of (Ok n) out.now) }
+    ensures bytes { Added result (W.contents to.old) (W.contents to.new) (printed_of (Ok n) out.now) }
 {
     if out.len() < n {
         return close_output(rt, to, 0);
@@ -47,14 +49,14 @@ fn print_front<W: Write>(
 pub fn print_answer<W: Write>(
     rt: &impl Eprint,
     to: &mut W,
-    answer: Answer,
+    answer: Result<usize, Refusal>,
     out: &[u8],
 ) -> Result<usize, Failed>
     ensures all { Whole result (lines_of answer out.now) }
     ensures bytes { Added result (W.contents to.old) (W.contents to.new) (printed_of answer out.now) }
 {
     match answer {
-        Answer::Written(n) => print_front(rt, to, out, n),
-        Answer::Refused(number) => print_number(rt, to, number),
+        Ok(n) => print_front(rt, to, out, n),
+        Err(refusal) => print_number(rt, to, refusal),
     }
 }

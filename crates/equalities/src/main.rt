@@ -3,7 +3,6 @@
 #![tactic(auto)]
 
 use answer_text::print_answer;
-use pass_entry::Answer;
 use records::refusals::Refusal;
 use std::io;
 use std::rt::{Env, Files};
@@ -21,8 +20,7 @@ fn cut_record(rt: &(impl Print + Eprint), record: &[u8]) -> Result<usize, Failed
 
 // "A longer record is refused 20."
 fn refuse_longer(rt: &(impl Print + Eprint)) -> Result<usize, Failed> {
-    let answer = Answer::Refused(Refusal::FlatLength.number());
-    print_answer(rt, &mut io::writer(rt), answer, &[])
+    print_answer(rt, &mut io::writer(rt), Err(Refusal::FlatLength), &[])
 }
 
 fn run<R: Env + Files + Input + Print + Eprint>(rt: &R) -> Result<usize, Failed> {

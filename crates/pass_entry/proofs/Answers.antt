@@ -10,7 +10,7 @@ use lib.Dec.{leb}
 use borrow.Author.Tests.{le-leb, lt-leb}
 use Rattle.std.specs.Prelude.{Result, Ok, Err}
 use Rattle.records.specs.declared.refusals.Refusal.{Refusal}
-use Rattle.records.specs.Refusals.{refusal_number}
+use Rattle.records.specs.Refusals.{refusal_number, numbered}
 use Rattle.flat.specs.Trees.{FlatModule, module_nodes}
 use Rattle.flat.specs.Layout.{publics, layout_of}
 use Rattle.flat.specs.Record.{pick, module_of, flat_of, checked}
@@ -22,27 +22,25 @@ use Rattle.flat.proofs.Sizes.{accepted-nodes}
 use Rattle.constraint.specs.Trees.{ConstraintModule}
 use Rattle.pass_trees.specs.Passes.{Outcome, cut, refused, unless, fitting, passes, counted, cuttable_defs, cuttable_equations}
 use Rattle.pass_trees.specs.Passes.{cut_of, flatten_module_to_3ac, eliminate_dead_equalities, copy_propagate, classify_defs}
-use Rattle.pass_entry.specs.declared.Answer.{Answer}
-use Rattle.pass_entry.specs.declared.Answer.TheVariants.{Refused}
 use Rattle.pass_entry.specs.declared.Need.{Need}
 use Rattle.pass_entry.specs.declared.body.Built.{Built}
-use Rattle.pass_entry.specs.Body.{BODY-BYTES, LIST-BYTES, no_body, no_list, built_of, put_body, put_list, numbered, passed_of, body_after, list_after}
+use Rattle.pass_entry.specs.Body.{BODY-BYTES, LIST-BYTES, no_body, no_list, built_of, put_body, put_list, passed_of, body_after, list_after}
 use Rattle.pass_entry.specs.Cut.{cut_read, cut_record, answer_for, output_for, need_of}
 
 -- an outcome that is known answers and leaves what it says
-abbrev pub Gives : List ℕ → List ℕ → Answer → Outcome → Type 0
-Gives out out1 r o = (r ≡ answer_for (length out) o) × (out1 ≡ output_for out o)
+abbrev pub Gives : List ℕ → List ℕ → Result ℕ Refusal → Outcome → Type 0
+Gives out out1 r o = (numbered r ≡ answer_for (length out) o) × (out1 ≡ output_for out o)
 
-pub gives_as : (out : List ℕ) {out1 : List ℕ} {r : Answer} (o p : Outcome) → o ≡ p → Gives out out1 r p → Gives out out1 r o
-gives_as out o p e g = rw e g
+pub gives_as : (out : List ℕ) {out1 : List ℕ} (r : Result ℕ Refusal) (o p : Outcome) → o ≡ p → Gives out out1 r p → Gives out out1 r o
+gives_as out r o p e g = rw e g
 
-pub gives-refused : (out : List ℕ) (n : ℕ) → Gives out out (Refused n) (refused n)
+pub gives-refused : (out : List ℕ) (r : Refusal) → Gives out out (Err r) (refused (refusal_number r))
 unfolding answer_for output_for
-gives-refused out n = (refl, refl)
+gives-refused out r = (refl, refl)
 
-pub needs-refused : (o : Outcome) {n : ℕ} → o ≡ refused n → Need.Refused n ≡ need_of o
+pub needs-refused : (o : Outcome) (r : Refusal) → o ≡ refused (refusal_number r) → numbered {A = Need} (Err r) ≡ need_of o
 unfolding need_of
-needs-refused o e = sym (ap need_of e)
+needs-refused o r e = sym (ap need_of e)
 
 -- 32
 pub within-ids : (c : ConstraintModule) → c.next ≤ 65536 → fitting c ≡ cut c
@@ -77,11 +75,9 @@ left-number (refused m) {n} e = let z : m ≡ n = cc in ap (λ (k : ℕ). refuse
 
 -- an answer of the passes, by its case
 pub answer-made : {a : Result Built Refusal} (x : Built) → a ≡ Ok x → Ok x ≡ numbered a
-unfolding numbered
 answer-made x e = sym (ap numbered e)
 
 pub left-refused : (o : Outcome) {a : Result Built Refusal} (r : Refusal) → a ≡ Err r → numbered a ≡ passed_of o → o ≡ refused (refusal_number r)
-unfolding numbered
 left-refused o r e h = left-number o (sym (ap numbered e) ∙ h)
 
 module _ (f : FlatModule) {x : Built} (e : Ok x ≡ passed_of (cut_of f)) where
@@ -109,7 +105,7 @@ Passes f body body' list list' r = (numbered r ≡ passed_of (cut_of f)) × ((bo
 
 module _ (f : FlatModule) (body list : List ℕ) {t : Bool} (e : t ≡ (cuttable_defs (counted f) && cuttable_equations f.equations)) where
   pub passes-22 : t ≡ false → Passes f body body list list (Err Refusal.Uncuttable)
-  unfolding numbered passed_of body_after list_after pick
+  unfolding passed_of body_after list_after pick
   passes-22 h = (ap passed_of (sym (not-cuttable f t e h)), (rw (← e, h), rw (← e, h)))
 
   module _ {body' list' : List ℕ} {x : Built} (h : t ≡ true) (n : x ≡ built_of (passes f)) (p : body' ≡ put_body body (passes f))
@@ -123,11 +119,11 @@ module _ (f : FlatModule) (body list : List ℕ) {t : Bool} (e : t ≡ (cuttable
     next-is = ap (λ (y : Built). y.next) n
 
     pub passes-32 : 65536 < x.next → Passes f body body' list list' (Err Refusal.Ids)
-    unfolding numbered passed_of
+    unfolding passed_of
     passes-32 l = (ap passed_of (sym (is-cuttable f t e h ∙ past-ids (passes f) (omega (arith, next-is)))), lists-after)
 
     pub passes-made : x.next ≤ 65536 → Passes f body body' list list' (Ok x)
-    unfolding numbered passed_of
+    unfolding passed_of
     passes-made l = (ap Ok n ∙ ap passed_of (sym (is-cuttable f t e h ∙ within-ids (passes f) (omega (arith, next-is)))), lists-after)
 
 -- 20 and 21

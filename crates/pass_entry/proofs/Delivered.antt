@@ -16,8 +16,10 @@ use Rattle.constraint.specs.Record.{constraint_bytes, equalities_words, definiti
 use Rattle.flat.specs.Trees.{definitions_nodes}
 use Rattle.constraint.proofs.Lengths.{length-bytes}
 use Rattle.pass_trees.specs.Passes.{cut}
-use Rattle.pass_entry.specs.declared.Answer.TheVariants.{Written, Refused}
 use Rattle.pass_entry.specs.declared.Need.{Need}
+use Rattle.records.specs.Refusals.{numbered}
+use Rattle.records.specs.declared.refusals.Refusal.{Refusal}
+use Rattle.std.specs.Prelude.{Ok, Err}
 use Rattle.pass_entry.specs.declared.body.Built.{Built}
 use Rattle.pass_entry.specs.Body.{body_words, built_of, Made}
 use Rattle.pass_entry.specs.Cut.{answer_for, output_for, need_of}
@@ -74,7 +76,7 @@ module _ (c : ConstraintModule) (built : Built) (body list : List ℕ) (made : M
 
   -- no room
   pub not-delivered : (out : List ℕ) → length out < 24 + 4 * built.kept + 16 * built.nodes
-      → (Refused 33 ≡ answer_for (length out) (cut c)) × (out ≡ output_for out (cut c))
+      → (numbered {A = ℕ} (Err Refusal.Output) ≡ answer_for (length out) (cut c)) × (out ≡ output_for out (cut c))
   unfolding answer_for output_for pick
   not-delivered out l = let z : length out < length (constraint_bytes c) = omega (arith, size_is) in (rw (lt-leb _ _ z), rw (lt-leb _ _ z))
 
@@ -96,11 +98,11 @@ module _ (c : ConstraintModule) (built : Built) (body list : List ℕ) (made : M
     pub delivered : (size : ℕ) (out out1 out2 out3 : List ℕ) → size ≡ 24 + 4 * built.kept + 16 * built.nodes → size ≤ length out →
         4 * built.kept ≤ length body →
         out1 ≡ set_words out 0 header → out2 ≡ paste out1 24 body (4 * built.kept) → out3 ≡ paste out2 (24 + 4 * built.kept) list (16 * built.nodes) →
-        (Written size ≡ answer_for (length out) (cut c)) × (out3 ≡ output_for out (cut c))
+        (numbered (Ok size) ≡ answer_for (length out) (cut c)) × (out3 ≡ output_for out (cut c))
     unfolding answer_for output_for pick
     delivered size out out1 out2 out3 s l m e1 e2 e3 =
         let z : length (constraint_bytes c) ≤ length out = omega (arith, size_is) in (
-          rw (le-leb _ _ z) (ap Written (s ∙ sym size_is)),
+          rw (le-leb _ _ z) (ap Ok (s ∙ sym size_is)),
           rw (le-leb _ _ z) (whole ∙ ap (λ (n : ℕ). constraint_bytes c ++ drop n out) (sym size_is)),
         )
       where
@@ -118,7 +120,7 @@ module _ (c : ConstraintModule) (built : Built) (body list : List ℕ) (made : M
 
 -- what it needs, by the numbers that were built
 pub needs-numbers : (c : ConstraintModule) {x : Built} {equalities bytes : ℕ} → x ≡ built_of c → equalities ≡ (x.equalities - x.start) / EQUALITY-WORDS →
-    bytes ≡ 24 + 4 * x.kept + 16 * x.nodes → Need.Fits equalities bytes ≡ need_of (cut c)
+    bytes ≡ 24 + 4 * x.kept + 16 * x.nodes → numbered (Ok (record { equalities = equalities; bytes = bytes })) ≡ need_of (cut c)
 unfolding built_of need_of
 needs-numbers c {x} {equalities} {bytes} q e s =
     let start = ap (λ (y : Built). y.start) q in
@@ -127,4 +129,6 @@ needs-numbers c {x} {equalities} {bytes} q e s =
     let nodes = ap (λ (y : Built). y.nodes) q in
     let e1 : equalities ≡ length c.equalities = omega (arith, start, after) in
     let s1 : bytes ≡ length (constraint_bytes c) = omega (arith, length-bytes c, kept, nodes) in
-    ap₂ Need.Fits e1 s1
+    let z : ◌≡◌ {A = Need} (record { equalities = equalities; bytes = bytes })
+    (record { equalities = length c.equalities; bytes = length (constraint_bytes c) }) = rw (e1, s1) in
+    ap Ok z

@@ -7,8 +7,6 @@ use Rattle.flat.specs.Record.{pick}
 use Rattle.pass_trees.specs.Passes.{Outcome, cut, refused, passes, counted, cuttable_defs, cuttable_equations}
 use Rattle.constraint.specs.Record.{EQUALITY-WORDS, KEPT-WORDS, equalities_words, definitions_words, definitions_trees}
 use Rattle.pass_entry.specs.declared.body.Built.{Built}
-use Rattle.records.specs.declared.refusals.Refusal.{Refusal}
-use Rattle.records.specs.Refusals.{refusal_number}
 use Rattle.records.specs.FlatRecord.{HEADER, IDS, LISTED, NODES, PUBLICS}
 use Rattle.records.specs.Kinds.{NODE-WORDS}
 
@@ -50,11 +48,6 @@ put_body body c = set_words body 0 (body_words c)
 
 unfoldable pub put_list : List ℕ → ConstraintModule → List ℕ
 put_list list c = set_words list 0 (definitions_trees 0 c.kept)
-
--- an answer with its refusal's number
-unfoldable pub numbered : Result Built Refusal → Result Built ℕ
-numbered (Ok x) = Ok x
-numbered (Err r) = Err (refusal_number r)
 
 -- what the passes leave of a flat module: the numbers where it is cut, else the refusal's; and the lists, which stay untouched at 22
 unfoldable pub passed_of : Outcome → Result Built ℕ

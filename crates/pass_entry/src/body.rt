@@ -4,8 +4,9 @@ ghost use Rattle.flat.specs.Trees.{module_nodes};
 ghost use Rattle.flat.specs.Record.{module_of};
 ghost use Rattle.flat.specs.Readable.{Readable};
 ghost use Rattle.pass_trees.specs.Passes.{passes, cut_of};
-ghost use Rattle.pass_entry.specs.Body.{built_of, put_body, put_list, numbered, passed_of, body_after, list_after, BODY-BYTES, LIST-BYTES};
+ghost use Rattle.pass_entry.specs.Body.{built_of, put_body, put_list, passed_of, body_after, list_after, BODY-BYTES, LIST-BYTES};
 ghost use Rattle.records.specs.FlatRecord.{NODES};
+ghost use Rattle.records.specs.Refusals.{numbered};
 
 use super::lists::{put_provers, put_publics};
 use pass_3ac::{Place, flatten_defs, flatten_equations};

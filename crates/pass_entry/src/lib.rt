@@ -15,6 +15,7 @@ ghost use Rattle.pass_trees.specs.Passes.{cut as accepted};
 ghost use Rattle.pass_entry.specs.Body.{BODY-WORDS, Made, Fitting};
 ghost use Rattle.pass_entry.specs.Cut.{cut_record, answer_for, output_for, need_of};
 ghost use Rattle.records.specs.FlatRecord.{NODES};
+ghost use Rattle.records.specs.Refusals.{numbered};
 
 use body::{Built, run_passes};
 use constraint::{EQUALITY_WORDS, HEADER, KEPT_WORDS};
@@ -28,18 +29,11 @@ const HEADER_BYTES: usize = 4 * HEADER;
 
 const NODE_BYTES: usize = 4 * NODE_WORDS;
 
-// The bytes written, or the number of the refusal.
+// What the constraint record of a flat record needs.
 #[derive(Clone, Copy)]
-pub enum Answer {
-    Written(usize),
-    Refused(u32),
-}
-
-// What the constraint record of a flat record needs: its equalities and its bytes; or the number of the refusal.
-#[derive(Clone, Copy)]
-pub enum Need {
-    Fits(usize, usize),
-    Refused(u32),
+pub struct Need {
+    pub equalities: usize,
+    pub bytes: usize,
 }
 
 // The bytes of the record that was built.
@@ -58,11 +52,17 @@ fn equalities_of(built: Built) -> usize
     (built.equalities - built.start) / EQUALITY_WORDS
 }
 
-// The record that was built, put into the output where it fits.
-fn deliver(built: Built, publics: usize, body: &[u8], list: &[u8], out: &mut [u8]) -> Answer
+// The record that was built, put into the output where it fits; answers how many bytes it has.
+fn deliver(
+    built: Built,
+    publics: usize,
+    body: &[u8],
+    list: &[u8],
+    out: &mut [u8],
+) -> Result<usize, Refusal>
     requires { Fitting built publics body.now list.now }
     ensures { (c : ConstraintModule) → Made c built body.now list.now → publics ≡ length c.publics
-        → (result ≡ answer_for (length out.old) (accepted c)) × (out.new ≡ output_for out.old (accepted c)) }
+        → (numbered result ≡ answer_for (length out.old) (accepted c)) × (out.new ≡ output_for out.old (accepted c)) }
 {
     let start = built.start;
     let equalities = equalities_of(built);
@@ -70,7 +70,7 @@ fn deliver(built: Built, publics: usize, body: &[u8], list: &[u8], out: &mut [u8
     let nodes = built.nodes;
     let size = bytes_of(built);
     if out.len() < size {
-        return Answer::Refused(Refusal::Output.number());
+        return Err(Refusal::Output);
     }
     put_header(
         out,
@@ -83,61 +83,43 @@ fn deliver(built: Built, publics: usize, body: &[u8], list: &[u8], out: &mut [u8
     );
     copy_to(body, 4 * kept, out, HEADER_BYTES);
     copy_to(list, NODE_BYTES * nodes, out, HEADER_BYTES + 4 * kept);
-    Answer::Written(size)
+    Ok(size)
 }
 
 // The passes on a readable record, lent or made by evaluation.
-pub fn passes(s: &[u8], out: &mut [u8]) -> Answer
+pub fn passes(s: &[u8], out: &mut [u8]) -> Result<usize, Refusal>
     requires { Readable s.now × (module_nodes (module_of s.now) ≤ NODES) }
-    ensures { (result ≡ answer_for (length out.old) (cut_of (module_of s.now)))
+    ensures { (numbered result ≡ answer_for (length out.old) (cut_of (module_of s.now)))
         × (out.new ≡ output_for out.old (cut_of (module_of s.now))) }
 {
     let layout = flat::layout_of(s);
-    let publics = layout.publics;
     let mut body = no_body();
     let mut list = no_list();
-    match run_passes(s, &mut body, &mut list) {
-        Err(r) => Answer::Refused(r.number()),
-        Ok(built) => deliver(built, publics, &body, &list, out),
-    }
-}
-
-// What a readable record needs.
-fn measure_readable(s: &[u8]) -> Need
-    requires { Readable s.now × (module_nodes (module_of s.now) ≤ NODES) }
-    ensures { result ≡ need_of (cut_of (module_of s.now)) }
-{
-    let mut body = no_body();
-    let mut list = no_list();
-    match run_passes(s, &mut body, &mut list) {
-        Err(r) => Need::Refused(r.number()),
-        Ok(built) => {
-            let equalities = equalities_of(built);
-            let bytes = bytes_of(built);
-            Need::Fits(equalities, bytes)
-        }
-    }
+    let built = run_passes(s, &mut body, &mut list)?;
+    deliver(built, layout.publics, &body, &list, out)
 }
 
 // What a lent flat record needs, or its refusal; nothing is written.
-pub fn measure(s: &[u8]) -> Need
-    ensures { result ≡ need_of (cut_record s.now) }
+pub fn measure(s: &[u8]) -> Result<Need, Refusal>
+    ensures { numbered result ≡ need_of (cut_record s.now) }
 {
-    match flat::check_flat(s) {
-        Err(r) => Need::Refused(r.number()),
-        Ok(()) => measure_readable(s),
-    }
+    flat::check_flat(s)?;
+    let mut body = no_body();
+    let mut list = no_list();
+    let built = run_passes(s, &mut body, &mut list)?;
+    Ok(Need {
+        equalities: equalities_of(built),
+        bytes: bytes_of(built),
+    })
 }
 
-// A lent flat record: its constraint record at the front of the output, or a refusal. The store is cleared.
-pub fn cut(s: &[u8], store: &mut [u8], out: &mut [u8]) -> Answer
-    ensures value { result ≡ answer_for (length out.old) (cut_record s.now) }
+// A lent flat record: its constraint record at the front of the output, and how many bytes it has; or a refusal. The store is cleared.
+pub fn cut(s: &[u8], store: &mut [u8], out: &mut [u8]) -> Result<usize, Refusal>
+    ensures value { numbered result ≡ answer_for (length out.old) (cut_record s.now) }
     ensures out_after { out.new ≡ output_for out.old (cut_record s.now) }
     ensures store_after { store.new ≡ replicate (length store.old) 0 }
 {
     words::clear(store);
-    match flat::check_flat(s) {
-        Err(r) => Answer::Refused(r.number()),
-        Ok(()) => passes(s, out),
-    }
+    flat::check_flat(s)?;
+    passes(s, out)
 }

@@ -3,7 +3,6 @@
 // of a refusal), the record, and the expected constraint record. A read or a write that fails is said on standard error.
 #![tactic(auto)]
 
-use pass_entry::Answer;
 use std::rt::Env;
 use streams::{Failed, open_standard};
 use test_report::{
@@ -51,10 +50,8 @@ fn answers(
 ) -> bool {
     store.fill(UNCLEARED);
     out.fill(UNWRITTEN);
-    let same = match pass_entry::cut(flat, store, out) {
-        Answer::Written(n) => expected.ok().map(|length| length as usize) == Some(n),
-        Answer::Refused(number) => expected == Err(number),
-    };
+    let answer = pass_entry::cut(flat, store, out).map_err(|r| r.number());
+    let same = answer == expected.map(|length| length as usize);
     let rest = out.iter().skip(n).all(|b| *b == UNWRITTEN);
     let cleared = store.iter().all(|b| *b == 0);
     same && rest && cleared

@@ -4,7 +4,7 @@ use Rattle.pass_entry.proofs.Delivered.{not-delivered, delivered}
 use Rattle.pass_entry.proofs.deliver.Goals as goal
 
 pub returns-then-out-size : goal.returns-then-out-size
-returns-then-out-size c = λ m w e. rw c.number.ensures (not-delivered m _ _ _ w _ (omega (arith, c.bytes_of-size.ensures, c.if-out-size.true)))
+returns-then-out-size c = λ m w e. not-delivered m _ _ _ w _ (omega (arith, c.bytes_of-size.ensures, c.if-out-size.true))
 
 pub returns : goal.returns
 returns c =
