@@ -1,7 +1,5 @@
 pub mod Bytes
 pub mod Decimal
-pub mod Parts
-pub mod Forms
 pub mod Wide
 pub mod Lines
 pub mod Listed

@@ -1,18 +1,20 @@
--- A signed 32-bit number in 64 bits. Assumes nothing.
-use mathlib.Core.Path.{◌≡◌, subst⁻¹, ap, ◌∙◌}
-use Prim.Native.Nat.{◌<◌}
-use native.Mathlib.Omega.{arith}
-use lib.IntN.{ℤ}
+-- A signed 32-bit number in 64 bits.
+use Rattle.std.proofs.Common.{◌≡◌, ◌<◌, ◌^◌, ℤ, ap, ◌∙◌, arith}
+use mathlib.Core.Path.{subst⁻¹}
+use Rattle.std.specs.Fmt.{signed_decimal}
 use lib.Signed.{mag}
 use mir.Syntax.{w32, w64}
 use mir.Val.{SFits, to_z, of_z}
 use mir.Facts.{to_z-of_z}
 use Rattle.field.specs.Prime.{P}
 use Rattle.field.specs.Element.{elem}
+use Rattle.constraint_text.specs.Text.{number_text}
+use Rattle.constraint_text.proofs.Decimal.{signed-digits}
 
-pub wide : (z : ℤ) → SFits w32 z → SFits w64 (to_z w32 (of_z w32 z))
-wide z f = let h : mag z < 2147483648 = f.sfits in subst⁻¹ (SFits w64) (to_z-of_z f) (record { sfits = omega arith })
-
--- the element of a number that went through 64 bits, read back from its own
-pub element : (z e : ℤ) → SFits w32 z → SFits w64 e → e ≡ elem P (to_z w64 (of_z w64 (to_z w32 (of_z w32 z)))) → to_z w64 (of_z w64 e) ≡ elem P z
-element z e f g h = to_z-of_z g ∙ h ∙ ap (elem P) (to_z-of_z (wide z f) ∙ to_z-of_z f)
+-- the digits of the element of a number that went through 64 bits
+pub element-digits : (z e : ℤ) → mag z < 2 ^ 31 → mag e < 2 ^ 63 → e ≡ elem P (to_z w64 (of_z w64 (to_z w32 (of_z w32 z)))) →
+    signed_decimal (to_z w64 (of_z w64 e)) ≡ number_text (elem P z)
+element-digits z e f g h =
+    let narrow : SFits w32 z = record { sfits = f } in
+    let wide : SFits w64 (to_z w32 (of_z w32 z)) = subst⁻¹ (SFits w64) (to_z-of_z narrow) (record { sfits = omega (arith, f) }) in
+    ap signed_decimal (to_z-of_z {w = w64} (record { sfits = g })) ∙ signed-digits e g ∙ ap number_text (h ∙ ap (elem P) (to_z-of_z wide ∙ to_z-of_z narrow))

@@ -1,113 +1,90 @@
-// The parts of a line, each put into the bytes from a place on; the answer is the place behind it.
-ghost use Rattle.std.specs.Prelude.{◌≡◌, ◌∷◌, [], ◌+◌, ◌≤◌, length};
+// The parts of a line, each behind what the line has already.
+ghost use Rattle.std.specs.Prelude.{◌≡◌, ◌++◌, ◌+◌, ◌≤◌, length};
+ghost use Rattle.arrayvec.specs.ArrayString.{array_string_len};
 ghost use Rattle.streams.specs.Streams.{IsPrefixLen};
-ghost use Rattle.constraint_text.specs.Text.{set_bytes, decimal, number_text, term_text, sign_of, between};
+ghost use Rattle.constraint_text.specs.Text.{set_bytes, term_text, sign_of, between};
 ghost use Rattle.constraint_text.specs.Text.{side_text, equality_text, line_text, next_text, refused_text};
 
+use arrayvec::ArrayString;
 use constraint::{Equality, Operation, Term};
 use field::InfixOp;
-use itoa::Buffer;
+use itoa::{Buffer, Integer};
 
-// Room for every line, and for the digits of every 64-bit number.
+// Room for every line.
 pub const LINE: usize = 80;
 
-fn put_byte(out: &mut [u8], at: usize, byte: u8) -> usize
-    requires { at + 1 ≤ length out.old }
-    ensures { (result ≡ at + 1) × (out.new ≡ set_bytes out.old at (byte ∷ [])) }
-{
-    out[at] = byte;
-    at + 1
-}
+// Kept as it is: `impl Display` and `write!` were tried; std says what a `write!` that is Ok has written, and never that one is Ok, and no line may fail.
+type Line = ArrayString<LINE>;
 
-fn put_text(out: &mut [u8], at: usize, text: &[u8]) -> usize
-    requires { at + length text.now ≤ length out.old }
-    ensures { (result ≡ at + length text.now) × (out.new ≡ set_bytes out.old at text.now) }
-{
-    let end = at + text.len();
-    out[at..end].copy_from_slice(text);
-    end
-}
-
-fn put_decimal(out: &mut [u8], at: usize, n: u64) -> usize
-    requires { at + 20 ≤ length out.old }
-    ensures value { (result ≡ at + length (decimal n)) × (out.new ≡ set_bytes out.old at (decimal n)) }
-    ensures upper_bound { result ≤ at + 20 }
+fn push_number<I: Integer>(line: &mut Line, n: I)
+    requires { array_string_len line.old + I.MAX_STR_LEN ≤ LINE }
+    ensures value { line.new.bytes ≡ line.old.bytes ++ I.text n }
+    ensures upper_bound { array_string_len line.new ≤ array_string_len line.old + I.MAX_STR_LEN }
 {
     let mut digits = Buffer::new();
-    put_text(out, at, digits.format(n).as_bytes())
+    line.push_str(digits.format(n));
 }
 
-fn put_number(out: &mut [u8], at: usize, z: i64) -> usize
-    requires { at + 21 ≤ length out.old }
-    ensures value { (result ≡ at + length (number_text z)) × (out.new ≡ set_bytes out.old at (number_text z)) }
-    ensures upper_bound { result ≤ at + 21 }
-{
-    let n = z.unsigned_abs();
-    if z < 0 {
-        let a = put_byte(out, at, b'-');
-        return put_decimal(out, a, n);
-    }
-    put_decimal(out, at, n)
-}
-
-fn put_term(out: &mut [u8], at: usize, term: Term) -> usize
-    requires { at + 21 ≤ length out.old }
-    ensures value { (result ≡ at + length (term_text term)) × (out.new ≡ set_bytes out.old at (term_text term)) }
-    ensures upper_bound { result ≤ at + 21 }
+fn push_term(line: &mut Line, term: Term)
+    requires { array_string_len line.old + 20 ≤ LINE }
+    ensures value { line.new.bytes ≡ line.old.bytes ++ term_text term }
+    ensures upper_bound { array_string_len line.new ≤ array_string_len line.old + 20 }
 {
     match term {
         Term::Variable(id) => {
-            let a = put_byte(out, at, b'v');
-            put_decimal(out, a, id as u64)
+            line.push_str("v");
+            push_number(line, id);
         }
-        Term::Constant(number) => put_number(out, at, field::canonical(number as i64)),
+        Term::Constant(number) => push_number(line, field::canonical(number as i64)),
     }
 }
 
-fn sign(op: InfixOp) -> u8
-    ensures { result ≡ sign_of op }
+// The sign of an operator between two blanks.
+#[tactic(auto, unfolding(crate::specs::Text::sign_of, crate::specs::Text::between))]
+fn sign(op: InfixOp) -> &'static str
+    ensures { result.now ≡ between (sign_of op) }
 {
     match op {
-        InfixOp::Divide => b'/',
-        InfixOp::DivideZ => b'|',
-        InfixOp::Multiply => b'*',
-        InfixOp::Add => b'+',
-        InfixOp::Subtract => b'-',
-        InfixOp::Equal => b'=',
-        InfixOp::Exponentiate => b'^',
-        InfixOp::IntDivide => b'\\',
-        InfixOp::Modulo => b'%',
+        InfixOp::Divide => " / ",
+        InfixOp::DivideZ => " | ",
+        InfixOp::Multiply => " * ",
+        InfixOp::Add => " + ",
+        InfixOp::Subtract => " - ",
+        InfixOp::Equal => " = ",
+        InfixOp::Exponentiate => " ^ ",
+        InfixOp::IntDivide => " \\ ",
+        InfixOp::Modulo => " % ",
     }
 }
 
-// A sign between two blanks.
-fn put_sign(out: &mut [u8], at: usize, sign: u8) -> usize
-    requires { at + 3 ≤ length out.old }
-    ensures value { (result ≡ at + length (between sign)) × (out.new ≡ set_bytes out.old at (between sign)) }
-    ensures upper_bound { result ≤ at + 3 }
-{
-    let a = put_byte(out, at, b' ');
-    let b = put_byte(out, a, sign);
-    put_byte(out, b, b' ')
-}
-
-fn put_side(out: &mut [u8], at: usize, operation: Operation, first: Term, second: Term) -> usize
-    requires { at + 45 ≤ length out.old }
-    ensures value { (result ≡ at + length (side_text operation first second)) × (out.new ≡ set_bytes out.old at (side_text operation first second)) }
-    ensures upper_bound { result ≤ at + 45 }
+#[tactic(auto, unfolding(crate::specs::Text::side_text, crate::specs::Text::between))]
+fn push_side(line: &mut Line, operation: Operation, first: Term, second: Term)
+    requires { array_string_len line.old + 43 ≤ LINE }
+    ensures value { line.new.bytes ≡ line.old.bytes ++ side_text operation first second }
+    ensures upper_bound { array_string_len line.new ≤ array_string_len line.old + 43 }
 {
     match operation {
         Operation::Infix(op) => {
-            let a = put_term(out, at, first);
-            let b = put_sign(out, a, sign(op));
-            put_term(out, b, second)
+            push_term(line, first);
+            line.push_str(sign(op));
+            push_term(line, second);
         }
         Operation::Negate => {
-            let a = put_byte(out, at, b'-');
-            put_term(out, a, first)
+            line.push_str("-");
+            push_term(line, first);
         }
-        Operation::Copy => put_term(out, at, first),
+        Operation::Copy => push_term(line, first),
     }
+}
+
+// The line at the front of the bytes; the answer is its length.
+fn copy_line(line: &Line, out: &mut [u8; LINE]) -> usize
+    ensures value { (result ≡ array_string_len line.now) × (out.new ≡ set_bytes out.old 0 line.now.bytes) }
+    ensures prefix_len { IsPrefixLen result out.new }
+{
+    let n = line.len();
+    out[..n].copy_from_slice(line.as_str().as_bytes());
+    n
 }
 
 // The line of an equality, at the front of the bytes.
@@ -115,39 +92,47 @@ pub fn equality_line(equality: Equality, out: &mut [u8; LINE]) -> usize
     ensures value { (result ≡ length (equality_text equality)) × (out.new ≡ set_bytes out.old 0 (equality_text equality)) }
     ensures prefix_len { IsPrefixLen result out.new }
 {
-    let left = equality.left;
-    let operation = equality.operation;
-    let first = equality.first;
-    let second = equality.second;
-    let a = put_term(out, 0, left);
-    let b = put_sign(out, a, b'=');
-    let c = put_side(out, b, operation, first, second);
-    put_byte(out, c, b'\n')
+    let Equality {
+        left,
+        operation,
+        first,
+        second,
+    } = equality;
+    let mut line = Line::new();
+    push_term(&mut line, left);
+    line.push_str(" = ");
+    push_side(&mut line, operation, first, second);
+    line.push_str("\n");
+    copy_line(&line, out)
 }
 
 // A word and a number, at the front of the bytes.
-fn put_line(out: &mut [u8; LINE], word: &[u8], n: u64) -> usize
+fn put_line(out: &mut [u8; LINE], word: &str, n: u64) -> usize
     requires { length word.now ≤ 20 }
     ensures value { (result ≡ length (line_text word.now n)) × (out.new ≡ set_bytes out.old 0 (line_text word.now n)) }
     ensures prefix_len { IsPrefixLen result out.new }
 {
-    let a = put_text(out, 0, word);
-    let b = put_decimal(out, a, n);
-    put_byte(out, b, b'\n')
+    let mut line = Line::new();
+    line.push_str(word);
+    push_number(&mut line, n);
+    line.push_str("\n");
+    copy_line(&line, out)
 }
 
 // "next" and the next free id.
+#[tactic(auto, unfolding(crate::specs::Text::next_text))]
 pub fn next_line(next: usize, out: &mut [u8; LINE]) -> usize
     ensures value { (result ≡ length (next_text next)) × (out.new ≡ set_bytes out.old 0 (next_text next)) }
     ensures prefix_len { IsPrefixLen result out.new }
 {
-    put_line(out, b"next ", next as u64)
+    put_line(out, "next ", next as u64)
 }
 
 // "refused" and the number.
+#[tactic(auto, unfolding(crate::specs::Text::refused_text))]
 pub fn refused_line(number: u32, out: &mut [u8; LINE]) -> usize
     ensures value { (result ≡ length (refused_text number)) × (out.new ≡ set_bytes out.old 0 (refused_text number)) }
     ensures prefix_len { IsPrefixLen result out.new }
 {
-    put_line(out, b"refused ", number as u64)
+    put_line(out, "refused ", number as u64)
 }
