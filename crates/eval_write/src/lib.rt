@@ -11,7 +11,7 @@ ghost use Rattle.records.specs.FlatRecord.{HEADER, IDS, LISTED, NODES, PUBLICS};
 ghost use Rattle.records.specs.Kinds.{NODE-WORDS};
 
 use eval_memory::Memory;
-use eval_memory::columns::Listed;
+use eval_memory::columns::Row;
 use flat::entries::{
     BYTES, DEFINITION_WORDS, EQUATION_WORDS, put_definition, put_equation, put_header,
 };
@@ -80,14 +80,9 @@ fn write_definitions(
 {
     let mut k = 0u32;
     for d in 0..count {
-        k = write_tree(memory, out, at, memory.listed(Listed::DefinedNode, d), k);
+        k = write_tree(memory, out, at, memory.row(Row::DefinedNode, d), k);
         let to = list + DEFINITION_WORDS * (d as usize);
-        put_definition(
-            out,
-            to,
-            memory.listed(Listed::DefinedId, d),
-            k.saturating_sub(1),
-        );
+        put_definition(out, to, memory.row(Row::DefinedId, d), k.saturating_sub(1));
     }
     k
 }
@@ -107,8 +102,8 @@ fn write_equations(
 {
     let mut k = from;
     for e in 0..count {
-        let one = write_tree(memory, out, at, memory.listed(Listed::LeftSide, e), k);
-        k = write_tree(memory, out, at, memory.listed(Listed::RightSide, e), one);
+        let one = write_tree(memory, out, at, memory.row(Row::LeftSide, e), k);
+        k = write_tree(memory, out, at, memory.row(Row::RightSide, e), one);
         let to = list + EQUATION_WORDS * (e as usize);
         put_equation(out, to, one.saturating_sub(1), k.saturating_sub(1));
     }

@@ -10,7 +10,7 @@ pub loop-d-preserved : goal.loop-d-preserved
 loop-d-preserved c =
     let was = c.loop-d.invariant in
     let put = c.put_definition.ensures in (
-      definitions-more _ _ _ _ _ _ _ was.0 c.listed.ensures c.write_tree-k.ensures.0 c.listed-in-loop-d.ensures
+      definitions-more _ _ _ _ _ _ _ was.0 c.row.ensures c.write_tree-k.ensures.0 c.row-in-loop-d.ensures
           c.saturating_sub.ensures put,
       c.write_tree-k.ensures.1,
     )

@@ -9,7 +9,7 @@ loop-e-init c = (equations-none _ _ _ _ _ _, c.requires.0.1)
 pub loop-e-preserved : goal.loop-e-preserved
 loop-e-preserved c =
     let was = c.loop-e.invariant in (
-      equations-more _ _ _ _ _ _ _ was.0 c.listed.ensures c.write_tree-one.ensures.0 c.listed-in-loop-e.ensures
+      equations-more _ _ _ _ _ _ _ was.0 c.row.ensures c.write_tree-one.ensures.0 c.row-in-loop-e.ensures
           c.write_tree-k.ensures.0 c.saturating_sub.ensures c.saturating_sub-in-loop-e.ensures c.put_equation.ensures,
       c.write_tree-k.ensures.1,
     )
