@@ -75,8 +75,6 @@ const PAIRS: usize = 81;
 
 const TRIPLES: usize = 729;
 
-const LAW_ROW: usize = 6;
-
 // The two sides of a law.
 #[derive(Clone, Copy)]
 struct Sides {
@@ -284,12 +282,9 @@ pub fn differing_laws(rows: &[i64]) -> u64
     ensures { result ≤ length rows.now }
 {
     let mut wrong: u64 = 0;
-    for k in 0..rows.len() / LAW_ROW {
-        let holds = match &rows[LAW_ROW * k..LAW_ROW * (k + 1)] {
-            [law, a, b, c, there, value] => row_holds(*law, *a, *b, *c, given(*there, *value)),
-            _ => false,
-        };
-        if !holds {
+    let (rows, _) = rows.as_chunks::<6>();
+    for [law, a, b, c, there, value] in rows {
+        if !row_holds(*law, *a, *b, *c, given(*there, *value)) {
             wrong += 1;
         }
     }

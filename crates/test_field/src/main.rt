@@ -46,11 +46,9 @@ fn agrees(number: i64, a: i64, b: i64, there: i64, value: i64) -> bool {
 
 // Rows of five numbers: an operation, two operands, whether there is a value, the value.
 fn differing_vectors(rows: &[i64]) -> usize {
-    rows.chunks_exact(5)
-        .filter(|row| match row {
-            [number, a, b, there, value] => !agrees(*number, *a, *b, *there, *value),
-            _ => true,
-        })
+    let (rows, _) = rows.as_chunks::<5>();
+    rows.iter()
+        .filter(|[number, a, b, there, value]| !agrees(*number, *a, *b, *there, *value))
         .count()
 }
 
@@ -65,11 +63,9 @@ fn differing_first(counts: &[u64]) -> usize {
 
 // Rows of an exponent and its count.
 fn differing_counts(rows: &[u64]) -> usize {
-    rows.chunks_exact(2)
-        .filter(|row| match row {
-            [exponent, count] => field::counts::power_count(*exponent) != *count,
-            _ => true,
-        })
+    let (rows, _) = rows.as_chunks::<2>();
+    rows.iter()
+        .filter(|[exponent, count]| field::counts::power_count(*exponent) != *count)
         .count()
 }
 
