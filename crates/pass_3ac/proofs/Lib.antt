@@ -1,4 +1,3 @@
-pub mod Simplified
 pub mod Trees
 pub mod Placing
 pub mod Ways

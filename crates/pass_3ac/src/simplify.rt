@@ -9,25 +9,22 @@ use constraint::{Equality, Operation, Term};
 use field::InfixOp;
 
 // Of the number as it is written, not of its element.
+#[tactic(auto, unfolding(pass_trees::specs::Passes::is_one, pass_trees::specs::Passes::same_number))]
 fn is_one(t: Term) -> bool
     ensures { result ≡ is_one t }
 {
-    match t {
-        Term::Variable(_) => false,
-        Term::Constant(c) => c == 1,
-    }
+    t == Term::Constant(1)
 }
 
+#[tactic(auto, unfolding(pass_trees::specs::Passes::is_zero, pass_trees::specs::Passes::same_number))]
 fn is_zero(t: Term) -> bool
     ensures { result ≡ is_zero t }
 {
-    match t {
-        Term::Variable(_) => false,
-        Term::Constant(c) => c == 0,
-    }
+    t == Term::Constant(0)
 }
 
 // left = term
+#[tactic(auto, unfolding(crate::specs::Cutting::equality_of, constraint::specs::Trees::written, constraint::specs::Trees::operation, constraint::specs::Trees::first, constraint::specs::Trees::second))]
 pub fn copy(left: Term, term: Term) -> Equality
     ensures { result ≡ equality_of left (Side.copy term) }
 {
@@ -40,6 +37,7 @@ pub fn copy(left: Term, term: Term) -> Equality
 }
 
 // left = -term
+#[tactic(auto, unfolding(crate::specs::Cutting::equality_of, constraint::specs::Trees::written, constraint::specs::Trees::operation, constraint::specs::Trees::first, constraint::specs::Trees::second))]
 pub fn negate(left: Term, term: Term) -> Equality
     ensures { result ≡ equality_of left (Side.negate term) }
 {
@@ -52,6 +50,7 @@ pub fn negate(left: Term, term: Term) -> Equality
 }
 
 // left = a OP b
+#[tactic(auto, unfolding(crate::specs::Cutting::equality_of, constraint::specs::Trees::written, constraint::specs::Trees::operation, constraint::specs::Trees::first, constraint::specs::Trees::second))]
 fn plain(left: Term, op: InfixOp, a: Term, b: Term) -> Equality
     ensures { result ≡ equality_of left (Side.infixed op a b) }
 {
@@ -63,6 +62,7 @@ fn plain(left: Term, op: InfixOp, a: Term, b: Term) -> Equality
     }
 }
 
+#[tactic(auto, unfolding(pass_trees::specs::Passes::infix_op, pass_trees::specs::Passes::when))]
 fn multiply(left: Term, a: Term, b: Term) -> Equality
     ensures { result ≡ equality_of left (infix_op Multiply a b) }
 {
@@ -81,6 +81,7 @@ fn multiply(left: Term, a: Term, b: Term) -> Equality
     plain(left, InfixOp::Multiply, a, b)
 }
 
+#[tactic(auto, unfolding(pass_trees::specs::Passes::infix_op, pass_trees::specs::Passes::when))]
 fn divide_z(left: Term, a: Term, b: Term) -> Equality
     ensures { result ≡ equality_of left (infix_op DivideZ a b) }
 {
@@ -93,6 +94,7 @@ fn divide_z(left: Term, a: Term, b: Term) -> Equality
     plain(left, InfixOp::DivideZ, a, b)
 }
 
+#[tactic(auto, unfolding(pass_trees::specs::Passes::infix_op, pass_trees::specs::Passes::when))]
 fn add(left: Term, a: Term, b: Term) -> Equality
     ensures { result ≡ equality_of left (infix_op Add a b) }
 {
@@ -106,6 +108,7 @@ fn add(left: Term, a: Term, b: Term) -> Equality
 }
 
 // An operation that 1 on the right leaves as it is.
+#[tactic(auto, unfolding(pass_trees::specs::Passes::infix_op, pass_trees::specs::Passes::when))]
 fn unless_one(left: Term, op: InfixOp, a: Term, b: Term) -> Equality
     ensures { result ≡ equality_of left (when (is_one b) (Side.copy a) (Side.infixed op a b)) }
 {
@@ -115,6 +118,7 @@ fn unless_one(left: Term, op: InfixOp, a: Term, b: Term) -> Equality
     plain(left, op, a, b)
 }
 
+#[tactic(auto, unfolding(pass_trees::specs::Passes::infix_op, pass_trees::specs::Passes::when))]
 fn subtract(left: Term, a: Term, b: Term) -> Equality
     ensures { result ≡ equality_of left (infix_op Subtract a b) }
 {
@@ -124,6 +128,7 @@ fn subtract(left: Term, a: Term, b: Term) -> Equality
     plain(left, InfixOp::Subtract, a, b)
 }
 
+#[tactic(auto, unfolding(pass_trees::specs::Passes::infix_op, pass_trees::specs::Passes::when))]
 fn modulo(left: Term, a: Term, b: Term) -> Equality
     ensures { result ≡ equality_of left (infix_op Modulo a b) }
 {
@@ -133,6 +138,7 @@ fn modulo(left: Term, a: Term, b: Term) -> Equality
     plain(left, InfixOp::Modulo, a, b)
 }
 
+#[tactic(auto, unfolding(pass_trees::specs::Passes::infix_op, pass_trees::specs::Passes::when))]
 pub fn infix_op(left: Term, op: InfixOp, a: Term, b: Term) -> Equality
     ensures { result ≡ equality_of left (infix_op op a b) }
 {

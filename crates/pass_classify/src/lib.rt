@@ -114,7 +114,8 @@ fn add_witnesses(usage: &Usages, next: usize, provers: &mut Provers)
     }
 }
 
-// Usages and prover ids of a readable record.
+// Usages and prover ids of a readable record. Not inlined: the arrays that they are made in are given up before the caller goes on.
+#[inline(never)]
 pub fn classify_defs<'a>(record: Record<'a>) -> Classes<'a>
     ensures { (result.record ≡ record.entry)
         × (result.usage ≡ usages_of record.entry.bytes.now)
@@ -134,20 +135,11 @@ pub fn classify_defs<'a>(record: Record<'a>) -> Classes<'a>
 }
 
 // Neither `^` nor `=`.
+#[tactic(auto, unfolding(pass_trees::specs::Passes::cuttable))]
 fn cuttable_operator(op: InfixOp) -> bool
     ensures { result ≡ cuttable op }
 {
-    match op {
-        InfixOp::Divide => true,
-        InfixOp::DivideZ => true,
-        InfixOp::Multiply => true,
-        InfixOp::Add => true,
-        InfixOp::Subtract => true,
-        InfixOp::Equal => false,
-        InfixOp::Exponentiate => false,
-        InfixOp::IntDivide => true,
-        InfixOp::Modulo => true,
-    }
+    !matches!(op, InfixOp::Exponentiate | InfixOp::Equal)
 }
 
 // Whether node k's tree has neither `^` nor `=`. The node index falls at each call.
@@ -185,6 +177,7 @@ fn cuttable_equations(record: &Record) -> bool
     true
 }
 
+// Kept as it is: each asks that its id is below IDS, which the methods of Record promise of what they read; a type for ids would be one of flat's entries.
 impl Classes<'_> {
     // Id v is not used.
     pub fn is_never(&self, v: usize) -> bool

@@ -27,7 +27,8 @@ pub struct Built {
     pub nodes: usize,
 }
 
-// The passes' constraint module of a classified record, in the two lists.
+// The passes' constraint module of a classified record, in the two lists. Not inlined: its substitutions don't stand beside what classifies.
+#[inline(never)]
 pub fn build(classes: &Classes, body: &mut [u8], list: &mut [u8]) -> Built
     requires few { module_nodes (module_of classes.now.record.bytes.now) ≤ NODES }
     requires body_len { (length body.old ≡ BODY-BYTES) × (length list.old ≡ LIST-BYTES) }
