@@ -37,14 +37,17 @@ not-link b at h rest k (Node.Expression f) o = refl
 not-link b at h rest k (Node.Pattern p) o = refl
 not-link b at h rest k (Node.Link item next result) o = absurd (o item next result refl)
 
--- at link x, met below `above`, of a chain from `first` on that node k owns
-module _ (b : List ℕ) (at : ℕ) (h : Owner) (k first above x : ℕ) (i : chain_fits b at h k first ≡ chain_fits b at h above x) where
+-- at link x, met below `above`, of a chain from `first` on that node k owns: what is left decides
+pub record Way (b : List ℕ) (at : ℕ) (h : Owner) (k first above x : ℕ) : Type 0 where
+  pub alike : chain_fits b at h k first ≡ chain_fits b at h above x
+
+module _ {b : List ℕ} {at : ℕ} {h : Owner} {k first above x : ℕ} (i : Way b at h k first above x) where
   pub way-late : above ≤ x → chain_fits b at h k first ≡ false
-  way-late l = i ∙ chain-late b at h above x l
+  way-late l = i.alike ∙ chain-late b at h above x l
 
   module _ (l : x < above) where
     entry-is : {f : Option Node} → entry_of b at x ≡ f → chain_fits b at h k first ≡ link_fits b at h (chain_fits b at h x) x f
-    entry-is w = i ∙ chain-is b at h above x l ∙ ap (link_fits b at h (chain_fits b at h x) x) w
+    entry-is w = i.alike ∙ chain-is b at h above x l ∙ ap (link_fits b at h (chain_fits b at h x) x) w
 
     pub way-none : entry_of b at x ≡ None → chain_fits b at h k first ≡ false
     unfolding link_fits
@@ -88,10 +91,10 @@ module _ (b : List ℕ) (at : ℕ) (h : Owner) (k first above x : ℕ) (i : chai
         )
 
         pub way_on : (next ≡ 4294967295 → ⊥)
-            → (chain_fits b at h k first ≡ chain_fits b at h x next) × Onward m₀ m₃ (chain_uses b at h k first) (chain_uses b at h x next)
+            → Way b at h k first x next × Onward m₀ m₃ (chain_uses b at h k first) (chain_uses b at h x next)
         unfolding pick
         way_on z = (
-          link-fits ∙ rw (ne_eqb next 4294967295 z),
+          record { alike = link-fits ∙ rw (ne_eqb next 4294967295 z) },
           record {
             onward = λ m' a. j.onward m' (adds-more (chain_uses b at h above x) three a
                 (λ y. let v : chain_uses b at h above x y ≡ same x y + (same item y + (result_uses h result y + chain_uses b at h x next y)) =

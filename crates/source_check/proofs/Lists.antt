@@ -17,16 +17,17 @@ use Rattle.source.specs.Nodes.{three, child_fits, children_fit}
 use Rattle.source.specs.Uses.{child_uses, children_use}
 use Rattle.source_check.specs.Answer.{Checked}
 use Rattle.source_check.specs.Marks.{Judged}
+use Rattle.source_check.specs.declared.nodes.Nodes.{Nodes}
 use Rattle.source_check.proofs.Marks.{accepted, judged-yes, judged-as, judged-stop, judged-then}
 
 -- ---- the words of a node
 
-module _ (b : List ℕ) (at names k : ℕ) where
+module _ (n : Nodes) where
   abbrev Uses-child : Checked → Child → List Uses → List Uses → Type 0
-  Uses-child r x m m' = Judged r (child_fits b at names k x) m m' (child_uses b at k x)
+  Uses-child r x m m' = Judged r (child_fits n.bytes.now n.at n.names n.count x) m m' (child_uses n.bytes.now n.at n.count x)
 
   abbrev Uses-children : Checked → Children → List Uses → List Uses → Type 0
-  Uses-children r c m m' = Judged r (children_fit b at names k c) m m' (children_use b at k c)
+  Uses-children r c m m' = Judged r (children_fit n.bytes.now n.at n.names n.count c) m m' (children_use n.bytes.now n.at n.count c)
 
   pub uses-none : {c : Children} {m : List Uses} → c ≡ three Child.Nothing Child.Nothing Child.Nothing → Uses-children (Ok tt) c m m
   unfolding children_fit children_use child_fits child_uses
@@ -38,12 +39,12 @@ module _ (b : List ℕ) (at names k : ℕ) where
   uses-one x e i = rw e (judged-as _ (sym (and-true _)) (λ j. omega arith) i)
 
   module _ (c : Children) {v : Checked} {m m₁ : List Uses} (i : Uses-child v c.first m m₁) where
-    pub first-stops : {n : Refusal} {r : Checked} {m' : List Uses} → v ≡ Err n → IsErrAnd r (λ x. x ≡ n) → Uses-children r c m m'
+    pub first-stops : {a : Refusal} {r : Checked} {m' : List Uses} → v ≡ Err a → IsErrAnd r (λ x. x ≡ a) → Uses-children r c m m'
     unfolding children_fit
     first-stops q h = judged-stop _ _ i q h (λ f. rw f)
 
     module _ (q : v ≡ Ok tt) {w : Checked} {m₂ : List Uses} (j : Uses-child w c.second m₁ m₂) where
-      pub second-stops : {n : Refusal} {r : Checked} {m' : List Uses} → w ≡ Err n → IsErrAnd r (λ x. x ≡ n) → Uses-children r c m m'
+      pub second-stops : {a : Refusal} {r : Checked} {m' : List Uses} → w ≡ Err a → IsErrAnd r (λ x. x ≡ a) → Uses-children r c m m'
       unfolding children_fit
       second-stops s h = judged-stop _ _ j s h (λ f. rw (f, and-false))
 

@@ -3,9 +3,11 @@
 
 mod fingerprints;
 mod naming;
+pub mod nodes;
 mod reading;
 
-ghost use Rattle.std.specs.Prelude.{◌≡◌};
+ghost use Rattle.std.specs.Prelude.{◌≡◌, ◌&&◌, ◌||◌, leb, ltb, eqb};
+ghost use Rattle.records.specs.SourceRecord.{DEFINITIONS, EXPRESSIONS, NAMES, NODES, PUBLICS};
 ghost use Rattle.source.specs.Record.{source_of};
 ghost use Rattle.source_check.specs.Answer.{checked};
 
@@ -13,9 +15,28 @@ use naming::{Names, names_fit};
 use reading::read_trees;
 use records::refusals::Refusal;
 use records::source_record::{DEFINITIONS, EXPRESSIONS, HEADER, NAMES, NODES, PUBLICS};
-use source::layout_of;
+use source::{Layout, layout_of};
 
 const HEADER_BYTES: usize = 4 * HEADER;
+
+// Whether no count is over its limit: not 2.
+fn has_few(l: &Layout) -> bool
+    ensures { result ≡ leb l.now.names NAMES && (leb l.now.publics PUBLICS
+        && (leb l.now.definitions DEFINITIONS && (leb l.now.expressions EXPRESSIONS && leb l.now.nodes NODES))) }
+{
+    l.names <= NAMES
+        && l.publics <= PUBLICS
+        && l.definitions <= DEFINITIONS
+        && l.expressions <= EXPRESSIONS
+        && l.nodes <= NODES
+}
+
+// Whether so many bytes hold the lists, and no text without names: not 1 after a whole header.
+fn is_whole(l: &Layout, size: usize) -> bool
+    ensures { result ≡ leb l.now.text_at size && (ltb 0 l.now.names || eqb size l.now.text_at) }
+{
+    l.text_at <= size && (0 < l.names || size == l.text_at)
+}
 
 // A source record: accepted, or refused with the first of the refusals 1 to 6.
 pub fn check_source(s: &[u8]) -> Result<(), Refusal>
@@ -26,15 +47,10 @@ pub fn check_source(s: &[u8]) -> Result<(), Refusal>
         return Err(Refusal::Length);
     }
     let l = layout_of(s);
-    let counted = (l.names <= NAMES)
-        & ((l.publics <= PUBLICS)
-            & ((l.definitions <= DEFINITIONS)
-                & ((l.expressions <= EXPRESSIONS) & (l.nodes <= NODES))));
-    if !counted {
+    if !has_few(&l) {
         return Err(Refusal::Count);
     }
-    let listed = (l.text_at <= size) & ((0 < l.names) | (size == l.text_at));
-    if !listed {
+    if !is_whole(&l, size) {
         return Err(Refusal::Length);
     }
     if !names_fit(s, l.text_at, l.names) {

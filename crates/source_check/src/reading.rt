@@ -1,6 +1,7 @@
 // Nodes and lists fit (refusal 5), and every node is used exactly once (refusal 6): marks, none at the start, set at each use.
 ghost use Rattle.std.specs.Prelude.{◌≡◌, ◌+◌, ◌*◌, ◌≤◌, ◌<◌, length, ltb, ok_or};
 ghost use Rattle.marks.specs.Indices.{same};
+ghost use Rattle.marks.specs.Marks.{all_once};
 ghost use Rattle.source.specs.Nodes.{entry_of, item_fits, result_fits, chain_fits, form_children, shape_children};
 ghost use Rattle.source.specs.Nodes.{children_of, children_fit, nodes_fit, publics_fit, definitions_fit, expressions_fit};
 ghost use Rattle.source.specs.Uses.{result_uses, chain_uses, children_use, by_nodes, by_definitions, by_expressions};
@@ -9,11 +10,12 @@ ghost use Rattle.source.specs.Layout.{layout_of, DEFINITION-WORDS};
 ghost use Rattle.source.specs.Record.{shaped, used_once};
 ghost use Rattle.records.specs.SourceRecord.{NODES};
 
+use super::nodes::Nodes;
 use marks::Marks;
 use records::refusals::Refusal;
 use records::source_record::{NO_LINK, NODES};
 use source::lists::{definition_at, expression_at, public_at};
-use source::{Chain, Form, Layout, Node, Shape, node_at};
+use source::{Chain, Form, Layout, Node, Shape};
 
 // What sort of node a word names.
 #[derive(Clone, Copy)]
@@ -35,48 +37,30 @@ impl Sort {
     }
 }
 
-// The first nodes of a record with so many names: its bytes, and the word at which the nodes start.
-#[derive(Clone, Copy)]
-struct Nodes<'a> {
-    bytes: &'a [u8],
-    at: usize,
-    count: usize,
-    names: usize,
-    ghost inside: { 4 * (at + 4 * count) ≤ length bytes.now },
-    ghost few: { count ≤ NODES },
-}
-
 impl Nodes<'_> {
     // Node k, which must be one.
-    fn node(&self, k: usize) -> Result<Node, Refusal>
+    fn read(&self, k: usize) -> Result<Node, Refusal>
         requires { k < self.now.count }
         ensures { result ≡ ok_or (entry_of self.now.bytes.now self.now.at k) Refusal.Entry }
     {
-        node_at(self.bytes, self.at, k).ok_or(Refusal::Entry)
+        self.node(k).ok_or(Refusal::Entry)
     }
 
-    // Node k uses x, which must be a node of the sort before it.
-    fn use_node(
-        &self,
-        sort: Sort,
-        k: usize,
-        x: usize,
-        marks: &mut Marks<NODES>,
-    ) -> Result<(), Refusal>
-        requires { k ≤ self.now.count }
-        ensures { Judged result (sort_fits self.now.bytes.now self.now.at sort k x) marks.old marks.new (same x) }
+    // x is used, which must be one of the nodes, of the sort.
+    fn use_node(&self, sort: Sort, x: usize, marks: &mut Marks<NODES>) -> Result<(), Refusal>
+        ensures { Judged result (sort_fits self.now.bytes.now self.now.at sort self.now.count x) marks.old marks.new (same x) }
     {
-        if k <= x {
+        if self.count <= x {
             return Err(Refusal::Entry);
         }
-        if !sort.is_of(self.node(x)?) {
+        if !sort.is_of(self.read(x)?) {
             return Err(Refusal::Entry);
         }
         marks.add(x);
         Ok(())
     }
 
-    // Node k uses a name.
+    // A name is used.
     fn use_name(&self, v: usize) -> Result<(), Refusal>
         ensures { result ≡ verdict Refusal.Entry (ltb v self.now.names) }
     {
@@ -87,63 +71,43 @@ impl Nodes<'_> {
         }
     }
 
-    // Link k uses its item.
-    fn use_item(
-        &self,
-        chain: Chain,
-        k: usize,
-        x: usize,
-        marks: &mut Marks<NODES>,
-    ) -> Result<(), Refusal>
-        requires { k ≤ self.now.count }
-        ensures { Judged result (item_fits self.now.bytes.now self.now.at chain k x) marks.old marks.new (same x) }
+    // The link behind the nodes uses its item.
+    fn use_item(&self, chain: Chain, x: usize, marks: &mut Marks<NODES>) -> Result<(), Refusal>
+        ensures { Judged result (item_fits self.now.bytes.now self.now.at chain self.now.count x) marks.old marks.new (same x) }
     {
         match chain {
-            Chain::Parameters | Chain::Arms => self.use_node(Sort::Pattern, k, x, marks),
-            Chain::Items => self.use_node(Sort::Expression, k, x, marks),
+            Chain::Parameters | Chain::Arms => self.use_node(Sort::Pattern, x, marks),
+            Chain::Items => self.use_node(Sort::Expression, x, marks),
         }
     }
 
-    // Link k uses its arm result, where its chain has such.
-    fn use_result(
-        &self,
-        chain: Chain,
-        k: usize,
-        x: usize,
-        marks: &mut Marks<NODES>,
-    ) -> Result<(), Refusal>
-        requires { k ≤ self.now.count }
-        ensures { Judged result (result_fits self.now.bytes.now self.now.at chain k x) marks.old marks.new (result_uses chain x) }
+    // The link behind the nodes uses its arm result, where its chain has such.
+    fn use_result(&self, chain: Chain, x: usize, marks: &mut Marks<NODES>) -> Result<(), Refusal>
+        ensures { Judged result (result_fits self.now.bytes.now self.now.at chain self.now.count x) marks.old marks.new (result_uses chain x) }
     {
         match chain {
-            Chain::Arms => self.use_node(Sort::Expression, k, x, marks),
+            Chain::Arms => self.use_node(Sort::Expression, x, marks),
             Chain::Parameters | Chain::Items => {
                 if x == 0 { Ok(()) } else { Err(Refusal::Entry) }
             }
         }
     }
 
-    // Node k uses a chain of links, from its first link on, with what they use. Each next link stands before the one that names it.
-    fn use_chain(
-        &self,
-        chain: Chain,
-        k: usize,
-        first: usize,
-        marks: &mut Marks<NODES>,
-    ) -> Result<(), Refusal>
-        requires { k ≤ self.now.count }
-        ensures { Judged result (chain_fits self.now.bytes.now self.now.at chain k first) marks.old marks.new
-            (chain_uses self.now.bytes.now self.now.at chain k first) }
+    // A chain of links is used, from its first link on, with what they use. Each next link stands before the one that names it.
+    fn use_chain(&self, chain: Chain, first: usize, marks: &mut Marks<NODES>) -> Result<(), Refusal>
+        ensures { Judged result (chain_fits self.now.bytes.now self.now.at chain self.now.count first) marks.old marks.new
+            (chain_uses self.now.bytes.now self.now.at chain self.now.count first) }
     {
-        let mut above = k;
+        let mut above = self.count;
         let mut link = first;
         while link < above {
-            let Node::Link(item, next, result) = self.node(link)? else {
+            let Node::Link(item, next, result) = self.read(link)? else {
                 return Err(Refusal::Entry);
             };
             marks.add(link);
-            self.use_item(chain, link, item, marks)?;
-            self.use_result(chain, link, result, marks)?;
+            let before = self.first(link);
+            before.use_item(chain, item, marks)?;
+            before.use_result(chain, result, marks)?;
             if next == NO_LINK {
                 return Ok(());
             }
@@ -153,56 +117,54 @@ impl Nodes<'_> {
         Err(Refusal::Entry)
     }
 
-    // Node k is an expression of this form.
-    fn use_form(&self, k: usize, form: Form, marks: &mut Marks<NODES>) -> Result<(), Refusal>
-        requires { k ≤ self.now.count }
-        ensures { Judged result (children_fit self.now.bytes.now self.now.at self.now.names k (form_children form)) marks.old marks.new
-            (children_use self.now.bytes.now self.now.at k (form_children form)) }
+    // The node behind the nodes is an expression of this form.
+    fn use_form(&self, form: Form, marks: &mut Marks<NODES>) -> Result<(), Refusal>
+        ensures { Judged result (children_fit self.now.bytes.now self.now.at self.now.names self.now.count (form_children form)) marks.old marks.new
+            (children_use self.now.bytes.now self.now.at self.now.count (form_children form)) }
     {
         match form {
             Form::Unit | Form::Nil | Form::Constant(_) => Ok(()),
             Form::Variable(v) => self.use_name(v),
-            Form::Negate(x) => self.use_node(Sort::Expression, k, x, marks),
+            Form::Negate(x) => self.use_node(Sort::Expression, x, marks),
             Form::Product(x, y)
             | Form::Cons(x, y)
             | Form::Infix(_, x, y)
             | Form::Application(x, y) => {
-                self.use_node(Sort::Expression, k, x, marks)?;
-                self.use_node(Sort::Expression, k, y, marks)
+                self.use_node(Sort::Expression, x, marks)?;
+                self.use_node(Sort::Expression, y, marks)
             }
             Form::Function(l, y) => {
-                self.use_chain(Chain::Parameters, k, l, marks)?;
-                self.use_node(Sort::Expression, k, y, marks)
+                self.use_chain(Chain::Parameters, l, marks)?;
+                self.use_node(Sort::Expression, y, marks)
             }
             Form::Let(p, x, y) => {
-                self.use_node(Sort::Pattern, k, p, marks)?;
-                self.use_node(Sort::Expression, k, x, marks)?;
-                self.use_node(Sort::Expression, k, y, marks)
+                self.use_node(Sort::Pattern, p, marks)?;
+                self.use_node(Sort::Expression, x, marks)?;
+                self.use_node(Sort::Expression, y, marks)
             }
             Form::Match(x, l) => {
-                self.use_node(Sort::Expression, k, x, marks)?;
-                self.use_chain(Chain::Arms, k, l, marks)
+                self.use_node(Sort::Expression, x, marks)?;
+                self.use_chain(Chain::Arms, l, marks)
             }
-            Form::Sequence(l) => self.use_chain(Chain::Items, k, l, marks),
+            Form::Sequence(l) => self.use_chain(Chain::Items, l, marks),
         }
     }
 
-    // Node k is a pattern of this shape.
-    fn use_shape(&self, k: usize, shape: Shape, marks: &mut Marks<NODES>) -> Result<(), Refusal>
-        requires { k ≤ self.now.count }
-        ensures { Judged result (children_fit self.now.bytes.now self.now.at self.now.names k (shape_children shape)) marks.old marks.new
-            (children_use self.now.bytes.now self.now.at k (shape_children shape)) }
+    // The node behind the nodes is a pattern of this shape.
+    fn use_shape(&self, shape: Shape, marks: &mut Marks<NODES>) -> Result<(), Refusal>
+        ensures { Judged result (children_fit self.now.bytes.now self.now.at self.now.names self.now.count (shape_children shape)) marks.old marks.new
+            (children_use self.now.bytes.now self.now.at self.now.count (shape_children shape)) }
     {
         match shape {
             Shape::Unit | Shape::Nil | Shape::Constant(_) => Ok(()),
             Shape::Variable(v) => self.use_name(v),
             Shape::As(p, v) => {
-                self.use_node(Sort::Pattern, k, p, marks)?;
+                self.use_node(Sort::Pattern, p, marks)?;
                 self.use_name(v)
             }
             Shape::Product(p, q) | Shape::Cons(p, q) => {
-                self.use_node(Sort::Pattern, k, p, marks)?;
-                self.use_node(Sort::Pattern, k, q, marks)
+                self.use_node(Sort::Pattern, p, marks)?;
+                self.use_node(Sort::Pattern, q, marks)
             }
         }
     }
@@ -214,9 +176,10 @@ impl Nodes<'_> {
             Judged result (children_fit self.now.bytes.now self.now.at self.now.names k (children_of node)) marks.old marks.new
             (children_use self.now.bytes.now self.now.at k (children_of node)) }
     {
-        match self.node(k)? {
-            Node::Expression(form) => self.use_form(k, form, marks),
-            Node::Pattern(shape) => self.use_shape(k, shape, marks),
+        let before = self.first(k);
+        match self.read(k)? {
+            Node::Expression(form) => before.use_form(form, marks),
+            Node::Pattern(shape) => before.use_shape(shape, marks),
             Node::Link(_, _, _) => Ok(()),
         }
     }
@@ -256,8 +219,8 @@ impl Nodes<'_> {
     {
         for k in 0..n {
             let d = definition_at(self.bytes, list, k);
-            self.use_node(Sort::Pattern, self.count, d.pattern as usize, marks)?;
-            self.use_node(Sort::Expression, self.count, d.value as usize, marks)?;
+            self.use_node(Sort::Pattern, d.pattern as usize, marks)?;
+            self.use_node(Sort::Expression, d.value as usize, marks)?;
         }
         Ok(())
     }
@@ -275,9 +238,16 @@ impl Nodes<'_> {
     {
         for k in 0..n {
             let x = expression_at(self.bytes, list, k) as usize;
-            self.use_node(Sort::Expression, self.count, x, marks)?;
+            self.use_node(Sort::Expression, x, marks)?;
         }
         Ok(())
+    }
+
+    // Whether each node is used once.
+    fn used_once(&self, marks: &Marks<NODES>) -> bool
+        ensures { result ≡ all_once marks.now self.now.count }
+    {
+        marks.all_once(self.count)
     }
 }
 
@@ -297,7 +267,7 @@ pub fn read_trees(s: &[u8], l: Layout) -> Result<(), Refusal>
     nodes.read_publics(l.publics_at, l.publics)?;
     nodes.read_definitions(l.definitions_at, l.definitions, &mut marks)?;
     nodes.read_expressions(l.expressions_at, l.expressions, &mut marks)?;
-    if marks.all_once(l.nodes) {
+    if nodes.used_once(&marks) {
         Ok(())
     } else {
         Err(Refusal::Uses)

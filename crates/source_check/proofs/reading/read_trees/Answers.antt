@@ -6,7 +6,7 @@ use Rattle.records.specs.declared.refusals.Refusal.{Refusal}
 use Rattle.source_check.proofs.Marks.{accepted}
 use Rattle.source_check.proofs.Answers.{room, shaped-is, trees-stop, trees-marked, trees-once, trees-not-once}
 use Rattle.source_check.proofs.reading.read_trees.Goals as goal
-use Rattle.source_check.proofs.reading.read_trees.Goals.{After-all_once}
+use Rattle.source_check.proofs.reading.read_trees.Goals.{After-used_once}
 
 pub invariant_of-nodes : goal.invariant_of-nodes
 invariant_of-nodes c = record { inside = (room c.args.s.now _ c.requires.0 c.requires.1.0).nodes-in; few = c.requires.1.1 }
@@ -44,7 +44,7 @@ returns-in_err-read_expressions c =
     (λ f. is ∙ rw (f, and-false, and-false, and-false))
 
 -- all fit, and the marks say whether each node is used once
-all-fit : (c : After-all_once) → shaped c.args.s.now ≡ true
+all-fit : (c : After-used_once) → shaped c.args.s.now ≡ true
 all-fit c = shaped-is c.args.s.now c.requires.0 ∙ rw (
   accepted Refusal.Entry _ c.read_nodes.ensures.0 c.in_ok-read_nodes.was,
   accepted Refusal.Entry _ c.read_publics.ensures c.in_ok-read_publics.was,
@@ -52,19 +52,19 @@ all-fit c = shaped-is c.args.s.now c.requires.0 ∙ rw (
   accepted Refusal.Entry _ c.read_expressions.ensures.0 c.in_ok-read_expressions.was,
 )
 
-marked : (c : After-all_once) → c.all_once.result ≡ used_once c.args.s.now
+marked : (c : After-used_once) → c.used_once.result ≡ used_once c.args.s.now
 marked c =
     trees-marked c.args.s.now c.requires.0 c.requires.1.1 c.new-marks.ensures (c.read_nodes.ensures.1 c.in_ok-read_nodes.was)
     (c.read_definitions.ensures.1 c.in_ok-read_definitions.was)
     (c.read_expressions.ensures.1 c.in_ok-read_expressions.was)
-    c.all_once.ensures
+    c.used_once.ensures
 
-pub returns-then-all_once : goal.returns-then-all_once
-returns-then-all_once c =
-    let after = (goal.at.returns-then-all_once c).After-all_once in
-    trees-once c.args.s.now (all-fit after) (marked after) c.if-all_once.true
+pub returns-then-used_once : goal.returns-then-used_once
+returns-then-used_once c =
+    let after = (goal.at.returns-then-used_once c).After-used_once in
+    trees-once c.args.s.now (all-fit after) (marked after) c.if-used_once.true
 
-pub returns-else-all_once : goal.returns-else-all_once
-returns-else-all_once c =
-    let after = (goal.at.returns-else-all_once c).After-all_once in
-    trees-not-once c.args.s.now (all-fit after) (marked after) c.if-all_once.false
+pub returns-else-used_once : goal.returns-else-used_once
+returns-else-used_once c =
+    let after = (goal.at.returns-else-used_once c).After-used_once in
+    trees-not-once c.args.s.now (all-fit after) (marked after) c.if-used_once.false
