@@ -2,6 +2,7 @@
 #![tactic(auto)]
 
 mod fingerprints;
+pub mod names;
 mod naming;
 pub mod nodes;
 mod reading;
@@ -11,7 +12,8 @@ ghost use Rattle.records.specs.SourceRecord.{DEFINITIONS, EXPRESSIONS, NAMES, NO
 ghost use Rattle.source.specs.Record.{source_of};
 ghost use Rattle.source_check.specs.Answer.{checked};
 
-use naming::{Names, names_fit};
+use names::Names;
+use naming::names_fit;
 use reading::read_trees;
 use records::refusals::Refusal;
 use records::source_record::{DEFINITIONS, EXPRESSIONS, HEADER, NAMES, NODES, PUBLICS};

@@ -7,6 +7,7 @@ ghost use Rattle.source_check.specs.Fingerprints.{Fingerprinted};
 ghost use Rattle.records.specs.SourceRecord.{HEADER, NAMES};
 
 use super::fingerprints::fingerprint;
+use super::names::Names;
 use records::source_record::{NAME_BYTES, NAMES};
 use source::lists::name_at;
 
@@ -62,28 +63,7 @@ pub fn names_fit(s: &[u8], text: usize, n: usize) -> bool
     s.len() == text + end
 }
 
-// The names of a record that fit: its bytes, the byte at which their text starts, and how many there are.
-#[derive(Clone, Copy)]
-pub struct Names<'a> {
-    pub bytes: &'a [u8],
-    pub text: usize,
-    pub count: usize,
-    ghost listed: { 4 * (HEADER + NAME-WORDS * count) ≤ length bytes.now },
-    ghost fit: { names_fit bytes.now text count ≡ true },
-    ghost few: { count ≤ NAMES },
-}
-
 impl Names<'_> {
-    // The bytes of name k.
-    fn name(&self, k: usize) -> &[u8]
-        requires { k < self.now.count }
-        ensures { result.now ≡ name_of self.now.bytes.now self.now.text k }
-    {
-        let name = name_at(self.bytes, k);
-        let start = self.text + name.offset as usize;
-        &self.bytes[start..start + name.size as usize]
-    }
-
     // Whether two names are equal.
     fn same(&self, j: usize, k: usize) -> bool
         requires { (j < self.now.count) × (k < self.now.count) }

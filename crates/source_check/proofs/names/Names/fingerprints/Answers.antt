@@ -1,7 +1,7 @@
--- `source_check::naming::Names::fingerprints` meets its contract. Assumes nothing.
+-- `source_check::names::Names::fingerprints` meets its contract. Assumes nothing.
 use Rattle.std.proofs.Common.{◌∙◌, ap, ◌≢◌, ◌<◌, length, arith, get_or-set_same, get_or-set_other, length-set, below_more}
 use Rattle.source_check.specs.Fingerprints.{fingerprint_of}
-use Rattle.source_check.proofs.naming.Names.fingerprints.Goals as goal
+use Rattle.source_check.proofs.names.Names.fingerprints.Goals as goal
 
 pub loop-k-preserved : goal.loop-k-preserved
 loop-k-preserved c =

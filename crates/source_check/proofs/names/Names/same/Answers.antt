@@ -1,6 +1,6 @@
--- `source_check::naming::Names::same` meets its contract. Assumes nothing.
+-- `source_check::names::Names::same` meets its contract. Assumes nothing.
 use Rattle.source_check.proofs.Prints.{same-is}
-use Rattle.source_check.proofs.naming.Names.same.Goals as goal
+use Rattle.source_check.proofs.names.Names.same.Goals as goal
 
 pub returns : goal.returns
 returns c =

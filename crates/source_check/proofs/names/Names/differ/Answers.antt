@@ -1,10 +1,10 @@
--- `source_check::naming::Names::differ` meets its contract. Assumes nothing.
+-- `source_check::names::Names::differ` meets its contract. Assumes nothing.
 use native.Mathlib.Omega.{arith}
 use Prim.Native.Nat.{◌<◌}
 use mathlib.Core.Path.{◌≡◌, ◌∙◌, sym}
 use Rattle.marks.proofs.Indices.{every-none, every_more}
 use Rattle.source.proofs.Names.{differ-fails, differ-all}
-use Rattle.source_check.proofs.naming.Names.differ.Goals as goal
+use Rattle.source_check.proofs.names.Names.differ.Goals as goal
 
 pub loop-k-init : goal.loop-k-init
 loop-k-init c = every-none _

@@ -1,4 +1,4 @@
--- `source_check::naming::Names::is_new` meets its contract. Assumes nothing.
+-- `source_check::names::Names::is_new` meets its contract. Assumes nothing.
 use Prim.Native.Nat.{◌<◌}
 use native.Mathlib.Omega.{arith}
 use mathlib.Core.Path.{◌≡◌, ap, sym, ◌∙◌}
@@ -7,9 +7,9 @@ use Rattle.marks.proofs.Indices.{every-none, every_more}
 use Rattle.source.specs.Names.{same_name}
 use Rattle.source.proofs.Names.{new-fails, new-all}
 use Rattle.source_check.proofs.Prints.{prints-differ}
-use Rattle.source_check.proofs.naming.Names.is_new.Goals as goal
-use Rattle.source_check.proofs.naming.Names.is_new.Goals.{Joined-else-prints-j}
-use Rattle.source_check.proofs.naming.Names.is_new.Goals.{else-prints-j-via-then-prints-j+else-same, else-prints-j-via-else-prints-j}
+use Rattle.source_check.proofs.names.Names.is_new.Goals as goal
+use Rattle.source_check.proofs.names.Names.is_new.Goals.{Joined-else-prints-j}
+use Rattle.source_check.proofs.names.Names.is_new.Goals.{else-prints-j-via-then-prints-j+else-same, else-prints-j-via-else-prints-j}
 
 pub loop-j-init : goal.loop-j-init
 loop-j-init c = every-none _

@@ -1,4 +1,4 @@
--- `source_check::naming::Names::name` meets its contract. Assumes nothing.
+-- `source_check::names::Names::name` meets its contract. Assumes nothing.
 use Prim.Native.Nat.{◌+◌, ◌-◌, ◌≤◌}
 use native.Mathlib.Omega.{arith}
 use mathlib.Core.Path.{◌≡◌}
@@ -6,8 +6,8 @@ use lib.ListN.{length}
 use Rattle.source.specs.Names.{name_of, offset_of, length_of}
 use Rattle.source.proofs.Parts.{offset-is, size_is}
 use Rattle.source.proofs.Names.{named-at, inside}
-use Rattle.source_check.proofs.naming.Names.name.Goals as goal
-use Rattle.source_check.proofs.naming.Names.name.Goals.{After-name_at-name}
+use Rattle.source_check.proofs.names.Names.name.Goals as goal
+use Rattle.source_check.proofs.names.Names.name.Goals.{After-name_at-name}
 
 -- the bytes of the name that was read lie in the file
 name-inside : (c : After-name_at-name) →
