@@ -206,9 +206,13 @@ module _ (b : List ℕ) (Q : Readable b) where
 -- the same by a layout in a local
 module _ (b : List ℕ) (Q : Readable b) (l : Layout) (e : l ≡ layout_of b) where
   pub publics-asked : ((4 * (l.publics_at + l.publics) ≤ length b) × (publics_fit b l.names l.publics_at l.publics ≡ true))
-      × ((l.names ≤ 512) × (l.publics ≤ 64))
+      × (l.publics ≤ 64)
   unfolding layout_of
-  publics-asked = rw e ((omega (arith, Q.long), Q.publics-fit), (Q.names-few, Q.publics-few))
+  publics-asked = rw e ((omega (arith, Q.long), Q.publics-fit), Q.publics-few)
+
+  pub nodes-asked : (4 * (l.nodes_at + 4 * l.nodes) ≤ length b) × (l.nodes ≤ 2048)
+  unfolding layout_of
+  nodes-asked = rw e (Q.long, Q.nodes-few)
 
   pub definitions-asked : (s : Scopes) → s.next ≤ 9 + l.publics → s.top ≡ 0 →
       let list = l.definitions_at in

@@ -34,23 +34,6 @@ same-pointwise [] (d ∷ s) = refl
 same-pointwise (c ∷ t) [] = refl
 same-pointwise (c ∷ t) (d ∷ s) = ap (λ (r : Bool). eqb c d && r) (same-pointwise t s)
 
--- ---- names
-
-name-ends : (b : List ℕ) (text n k : ℕ) → every n (name_fits b text) ≡ true → k < n → offset_of b k + length_of b k ≤ end_of b n
-unfolding every name_fits end_of
-name-ends b text zero k f l = absurd (omega arith)
-name-ends b text (suc n) k f l =
-    ⊎_elim
-    (λ (q : k < n).
-    omega (arith, name-ends b text n k (and_left _ _ f) q, eqb-true (offset_of b n) (end_of b n) (and_left _ _ (and_right (every n (name_fits b text)) _ f))))
-    (λ (q : n ≤ k). let e : k ≡ n = omega arith in rw e (omega arith))
-    (cases_lt k n)
-
-pub name-within : (b : List ℕ) (text n k : ℕ) → names_fit b text n ≡ true → k < n → text + offset_of b k + length_of b k ≤ length b
-unfolding names_fit
-name-within b text n k f l =
-    omega (arith, name-ends b text n k (and_left _ _ f) l, eqb-true (text + end_of b n) (length b) (and_right (every n (name_fits b text)) _ f))
-
 module _ (b t : List ℕ) (text count id : ℕ) where
   all : Ids
   all = named t id 0 (rows count 0 (name_of b text))
@@ -86,20 +69,9 @@ module _ (b t : List ℕ) (text count id : ℕ) where
       let w : named t id 0 (rows count 0 (name_of b text)) ≡ [] = sym q ∙ ap (named t id k) (rows_none count k (name_of b text) l) in
       record { rest = only-globals s; same_next = refl; holds = λ gs h. rw w h }
 
--- the name at its two words, compared with a text
-pub text_at : (b t : List ℕ) (text k : ℕ) {offset n : ℕ} {r : Bool} → offset ≡ (name_entry b k).offset → n ≡ (name_entry b k).size →
-    r ≡ pointwise eqb t (take (text + offset + n - (text + offset)) (drop (text + offset) b)) → r ≡ same_text t (name_of b text k)
-unfolding name_of offset_of length_of
-text_at b t text k {offset} {n} p q e =
-    let z : text + offset + n - (text + offset) ≡ n = omega arith in
-    e ∙ ap (λ (m : ℕ). pointwise eqb t (take m (drop (text + offset) b))) z
-    ∙ same-pointwise t (take n (drop (text + offset) b))
-    ∙ ap₂ (λ (x y : ℕ). same_text t (take y (drop (text + x) b))) p q
-
-pub text-fits : (b : List ℕ) (text n k : ℕ) {offset m : ℕ} → names_fit b text n ≡ true → k < n → offset ≡ (name_entry b k).offset →
-    m ≡ (name_entry b k).size → text + offset + m ≤ length b
-unfolding offset_of length_of
-text-fits b text n k f l p q = omega (arith, name-within b text n k f l)
+-- a name, compared with a text
+pub text_is : (t : Text) {u n : Text} {r : Bool} → r ≡ pointwise eqb t u → u ≡ n → r ≡ same_text t n
+text_is t {u = u} p q = p ∙ same-pointwise t u ∙ ap (same_text t) q
 
 -- ---- publics
 module _ (b : List ℕ) (list count : ℕ) where

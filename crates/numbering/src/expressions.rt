@@ -4,9 +4,10 @@ ghost use Rattle.source.specs.declared.Chain.TheVariants.{Arms, Items};
 ghost use Rattle.source.specs.Nodes.{is_expression, is_pattern};
 ghost use Rattle.numbering.specs.Walks.{Ready, ReadyTwo, ReadyFunction, ReadyChain, ExpressionWalk, ScopeWalk, FunctionWalk, ItemWalk, ArmWalk};
 
-use super::rows::{Nodes, Scopes};
+use super::rows::Scopes;
 use records::source_record::NO_LINK;
 use source::{Form, Node};
+use source_check::nodes::Nodes;
 
 impl Scopes {
     // The expression of node y in the scope of the pattern of node p; at its end the rows are as they were.

@@ -16,9 +16,11 @@ ghost use Rattle.records.specs.SourceRecord.{NODES, PUBLICS};
 
 use records::refusals::Refusal;
 use records::source_record::{NODES, PUBLICS};
-use rows::{Nodes, Scopes};
+use rows::Scopes;
 use source::layout_of;
 use source_check::check_source;
+use source_check::names::Names;
+use source_check::nodes::Nodes;
 
 // The next free id, or the record's refusal; the id of every node that has a name at its index, that of every public at its position, 0 elsewhere.
 #[derive(Drop)]
@@ -46,14 +48,20 @@ fn number_checked(s: &[u8]) -> Numbering
     ensures { Outcome s.now no_entries no_publics result.answer result.ids result.publics }
 {
     let l = layout_of(s);
+    let names = Names {
+        bytes: s,
+        text: l.text_at,
+        count: l.names,
+    };
     let nodes = Nodes {
         bytes: s,
         at: l.nodes_at,
         count: l.nodes,
+        names: l.names,
     };
     let mut scopes = Scopes::new();
-    scopes.register_intrinsics(s, l);
-    let publics = scopes.number_publics(s, l);
+    scopes.register_intrinsics(&names);
+    let publics = scopes.number_publics(&names, l.publics_at, l.publics);
     scopes.number_definitions(&nodes, l.definitions_at, l.definitions);
     scopes.number_expressions(&nodes, l.expressions_at, l.expressions);
     answered(&scopes, publics)

@@ -4,8 +4,9 @@ ghost use Rattle.source.specs.Layout.{DEFINITION-WORDS};
 ghost use Rattle.source.specs.Nodes.{is_pattern, definitions_fit, expressions_fit};
 ghost use Rattle.numbering.specs.Walks.{ReadyTwo, ReadyDefinitions, ReadyExpressions, DefinitionWalk, DefinitionsWalk, ExpressionsWalk};
 
-use super::rows::{Nodes, Scopes};
+use super::rows::Scopes;
 use source::lists::{definition_at, expression_at};
+use source_check::nodes::Nodes;
 
 impl Scopes {
     // The definition of pattern p by value v: its value before its pattern, whose names stay bound and so leave the undo list.

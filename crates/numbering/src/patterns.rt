@@ -4,9 +4,10 @@ ghost use Rattle.source.specs.declared.Chain.TheVariants.{Parameters};
 ghost use Rattle.source.specs.Nodes.{is_pattern};
 ghost use Rattle.numbering.specs.Walks.{Ready, ReadyChain, PatternWalk, ParameterWalk};
 
-use super::rows::{Nodes, Scopes};
+use super::rows::Scopes;
 use records::source_record::NO_LINK;
 use source::{Node, Shape};
+use source_check::nodes::Nodes;
 
 impl Scopes {
     // The pattern of node k. An `as` draws its id after its pattern.

@@ -1,33 +1,11 @@
 // The rows: a name's id plus one, or 0; the undo list has each bound name, and what its row held before.
-ghost use Rattle.std.specs.Prelude.{◌≡◌, ℕ, ◌+◌, ◌-◌, ◌*◌, ◌≤◌, ◌<◌, length, IsSome};
-ghost use Rattle.source.specs.Nodes.{entry_of};
-ghost use Rattle.records.specs.Kinds.{NODE-WORDS};
+ghost use Rattle.std.specs.Prelude.{◌≡◌, ℕ, ◌≤◌, ◌<◌};
 ghost use Rattle.numbering.specs.Walks.{Sized, Chosen, undone, no_scopes, bound_to, unwound_to};
 ghost use Rattle.records.specs.FlatRecord.{IDS};
 ghost use Rattle.records.specs.SourceRecord.{NAMES, NODES};
 
 use records::intrinsics::FIRST_FREE_ID;
 use records::source_record::{NAMES, NODES};
-use source::{Node, node_at};
-
-// The nodes of a record: its bytes, the word at which the first starts, and how many there are.
-#[derive(Clone, Copy)]
-pub struct Nodes<'a> {
-    pub bytes: &'a [u8],
-    pub at: usize,
-    pub count: usize,
-}
-
-impl Nodes<'_> {
-    // Node k, which is one.
-    pub fn node(&self, k: usize) -> Node
-        requires inside { 4 * (self.now.at + NODE-WORDS * k + NODE-WORDS) ≤ length self.now.bytes.now }
-        requires read { IsSome (entry_of self.now.bytes.now self.now.at k) }
-        ensures { Some result ≡ entry_of self.now.bytes.now self.now.at k }
-    {
-        node_at(self.bytes, self.at, k).unwrap()
-    }
-}
 
 // A name that a pattern bound, and what its row held before.
 #[derive(Clone, Copy)]

@@ -1,5 +1,5 @@
 // The nodes of a record, read by their indices.
-ghost use Rattle.std.specs.Prelude.{◌≡◌, ◌+◌, ◌*◌, ◌≤◌, ◌<◌, length};
+ghost use Rattle.std.specs.Prelude.{◌≡◌, ◌+◌, ◌*◌, ◌≤◌, ◌<◌, length, IsSome};
 ghost use Rattle.records.specs.Kinds.{NODE-WORDS};
 ghost use Rattle.records.specs.SourceRecord.{NODES};
 ghost use Rattle.source.specs.Nodes.{entry_of};
@@ -19,11 +19,20 @@ pub struct Nodes<'a> {
 
 impl Nodes<'_> {
     // Node k, if its words are those of one.
-    pub fn node(&self, k: usize) -> Option<Node>
+    pub fn entry(&self, k: usize) -> Option<Node>
         requires { k < self.now.count }
         ensures { result ≡ entry_of self.now.bytes.now self.now.at k }
     {
         node_at(self.bytes, self.at, k)
+    }
+
+    // Node k, which is one.
+    pub fn node(&self, k: usize) -> Node
+        requires below { k < self.now.count }
+        requires read { IsSome (entry_of self.now.bytes.now self.now.at k) }
+        ensures { Some result ≡ entry_of self.now.bytes.now self.now.at k }
+    {
+        self.entry(k).unwrap()
     }
 
     // The first k nodes.

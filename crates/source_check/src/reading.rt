@@ -43,7 +43,7 @@ impl Nodes<'_> {
         requires { k < self.now.count }
         ensures { result ≡ ok_or (entry_of self.now.bytes.now self.now.at k) Refusal.Entry }
     {
-        self.node(k).ok_or(Refusal::Entry)
+        self.entry(k).ok_or(Refusal::Entry)
     }
 
     // x is used, which must be one of the nodes, of the sort.

@@ -5,7 +5,7 @@ use Rattle.numbering.specs.Outcome.{Outcome}
 use Rattle.numbering.specs.Walks.{Holds, no_entries, no_publics}
 use Rattle.numbering.specs.declared.rows.Scopes.{Scopes}
 use Rattle.numbering.specs.declared.Numbering.{Numbering}
-use Rattle.numbering.proofs.Entire.{no-row-holds, names-asked, publics-asked, definitions-asked, expressions-asked, entire-at}
+use Rattle.numbering.proofs.Entire.{no-row-holds, names-asked, nodes-asked, publics-asked, definitions-asked, expressions-asked, entire-at}
 use Rattle.numbering.proofs.number_checked.Goals as goal
 use Rattle.numbering.proofs.number_checked.Goals.{After-register_intrinsics, After-number_publics-publics}
 
@@ -22,9 +22,11 @@ top_none : (c : After-number_publics-publics) → c.number_publics-publics.new.s
 top_none c =
     c.number_publics-publics.ensures.rest.same_top ∙ c.register_intrinsics.ensures.rest.0.same_top ∙ ap (λ (s : Scopes). s.top) c.new-scopes.ensures
 
-pub register_intrinsics-requires : goal.register_intrinsics-requires
-register_intrinsics-requires c =
-    let w = names-asked _ c.requires.1 _ c.layout_of-l.ensures in record { long = w.0.1; fit = w.0.0; few = w.1 }
+pub invariant_of-names : goal.invariant_of-names
+invariant_of-names c = let w = names-asked _ c.requires.1 _ c.layout_of-l.ensures in record { listed = w.0.1; fit = w.0.0; few = w.1 }
+
+pub invariant_of-nodes : goal.invariant_of-nodes
+invariant_of-nodes c = let w = nodes-asked _ c.requires.1 _ c.layout_of-l.ensures in record { inside = w.0; few = w.1 }
 
 pub number_publics-publics-requires : goal.number_publics-publics-requires
 number_publics-publics-requires c =

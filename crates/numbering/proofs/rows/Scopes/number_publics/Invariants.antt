@@ -7,6 +7,6 @@ abbrev pub invariant-loop-i : goal.invariant-loop-i
 invariant-loop-i l = record {
   few : l.self.next ≤ l.initial.self.next + l.i;
   long : length l.publics ≡ 64;
-  left : (s : Scopes) (p : List ℕ) → Published l.s l.l.publics_at (l.l.publics - l.i) l.i l.self l.publics s p
-      → Published l.s l.l.publics_at l.l.publics 0 l.initial.self no_publics s p;
+  left : (s : Scopes) (p : List ℕ) → Published l.names.bytes.now l.list (l.count - l.i) l.i l.self l.publics s p
+      → Published l.names.bytes.now l.list l.count 0 l.initial.self no_publics s p;
 }
