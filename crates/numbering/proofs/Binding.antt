@@ -38,7 +38,7 @@ number_two make p q locals = do
   (q', two) ← number_pattern_variables q one
   return (make p' q', two)
 
-module _ (b : List ℕ) (at n k : ℕ) {s : Scopes} (R : Ready b at n is_pattern k s) where
+module _ {b : List ℕ} {at n k : ℕ} {s : Scopes} (R : Ready b at n is_pattern k s) where
   -- a child that is a pattern
   child : {x : ℕ} {s₁ : Scopes} → (x < k) × (is_pattern (entry_of b at x) ≡ true) → Room (λ own. weight b at own x) s₁.next s₁.top
       → (x < k) × Ready b at n is_pattern x s₁
@@ -164,7 +164,7 @@ module _ (b : List ℕ) (at n k : ℕ) {s : Scopes} (R : Ready b at n is_pattern
   leaf-way e (inr (inr i)) = leaf Pat.nil_p (e ∙ ap (λ (f : Shape). Some (Node.Pattern f)) i) (λ _. refl) (λ _. refl) (λ _. refl)
 
 -- parameters
-module _ (b : List ℕ) (at n l : ℕ) {s : Scopes} (R : ReadyChain b at n Chain.Parameters l s) {x y z : ℕ} (e : entry_of b at l ≡ Some (Node.Link x y z)) where
+module _ {b : List ℕ} {at n l : ℕ} {s : Scopes} (R : ReadyChain b at n Chain.Parameters l s) {x y z : ℕ} (e : entry_of b at l ≡ Some (Node.Link x y z)) where
   facts : Link-facts b at n R.walk Chain.Parameters l x y z
   facts = link-facts b at n R.walk Chain.Parameters l R.below R.chained e
 

@@ -15,24 +15,25 @@ use Rattle.source.specs.Children.{Child, Children}
 use Rattle.marks.specs.Indices.{pick}
 use Rattle.source.specs.Nodes.{entry_of, children_of, three, is_expression, is_pattern, expression_fits}
 use Rattle.source.specs.Nodes.{pattern_fits, item_fits, result_fits, link_fits, chain_fits, child_fits, children_fit}
-use Rattle.numbering.specs.Walks.{weight, chain_weight, Walkable}
+use Rattle.numbering.specs.Walks.{weight, chain_weight, Walkable, Ready, ReadyChain}
+use Rattle.numbering.specs.declared.rows.Scopes.{Scopes}
 use Rattle.marks.proofs.Indices.{and_left, and_right}
 use Rattle.numbering.proofs.Laws.{or-second, not-both}
 use Rattle.numbering.proofs.Weights.{Linked, child_weight, result_weight, children-fit, grows, chain_first, chain-grows, item-below}
 
 -- a node that is read
-pub some-is : {n m : Node} → Some n ≡ Some m → n ≡ m
+some-is : {n m : Node} → Some n ≡ Some m → n ≡ m
 some-is e = cc
 
-pub expression-read : (e : Option Node) → is_expression e ≡ true → IsSome e
+sorted-expression : (e : Option Node) → is_expression e ≡ true → IsSome e
 unfolding is_expression
-expression-read (Some n) s = refl
-expression-read None s = absurd (not-both refl s)
+sorted-expression (Some n) s = refl
+sorted-expression None s = absurd (not-both refl s)
 
-pub pattern-read : (e : Option Node) → is_pattern e ≡ true → IsSome e
+sorted-pattern : (e : Option Node) → is_pattern e ≡ true → IsSome e
 unfolding is_pattern
-pattern-read (Some n) s = refl
-pattern-read None s = absurd (not-both refl s)
+sorted-pattern (Some n) s = refl
+sorted-pattern None s = absurd (not-both refl s)
 
 -- a sort that a node has not
 pub no-pattern-expression : (b : List ℕ) (at k : ℕ) {f : Form} → is_pattern (entry_of b at k) ≡ true → entry_of b at k ≡ Some (Node.Expression f) → ⊥
@@ -60,14 +61,14 @@ unfolding is_expression
 no-expression-bad b at k s q = not-both (ap is_expression q) s
 
 -- the sort that it has
-pub has-pattern : (e : Option Node) → is_pattern e ≡ true → ((f : Shape) → e ≡ Some (Node.Pattern f) → ⊥) → ⊥
+has-pattern : (e : Option Node) → is_pattern e ≡ true → ((f : Shape) → e ≡ Some (Node.Pattern f) → ⊥) → ⊥
 unfolding is_pattern
 has-pattern (Some (Node.Expression f)) s h = not-both refl s
 has-pattern (Some (Node.Pattern f)) s h = h f refl
 has-pattern (Some (Node.Link x y z)) s h = not-both refl s
 has-pattern None s h = not-both refl s
 
-pub has-expression : (e : Option Node) → is_expression e ≡ true → ((f : Form) → e ≡ Some (Node.Expression f) → ⊥) → ⊥
+has-expression : (e : Option Node) → is_expression e ≡ true → ((f : Form) → e ≡ Some (Node.Expression f) → ⊥) → ⊥
 unfolding is_expression
 has-expression (Some (Node.Expression f)) s h = h f refl
 has-expression (Some (Node.Pattern f)) s h = not-both refl s
@@ -177,7 +178,7 @@ pub no-chain-bad : (b : List ℕ) (at : ℕ) (h : Chain) (l : ℕ) → chain_fit
 unfolding chain_fits link_fits
 no-chain-bad b at h l c e = not-both (ap (link_fits b at h (chain_fits b at h l) l) e) (rw (eq-eqb l l refl, chain_fits) at c)
 
-pub has-link : (b : List ℕ) (at : ℕ) (h : Chain) (l : ℕ) → chain_fits b at h (suc l) l ≡ true → ((x y z : ℕ) → entry_of b at l ≡ Some (Node.Link x y z) → ⊥) → ⊥
+has-link : (b : List ℕ) (at : ℕ) (h : Chain) (l : ℕ) → chain_fits b at h (suc l) l ≡ true → ((x y z : ℕ) → entry_of b at l ≡ Some (Node.Link x y z) → ⊥) → ⊥
 has-link b at h l c f = go (entry_of b at l) refl
   where
     go : (e : Option Node) → entry_of b at l ≡ e → ⊥
@@ -186,9 +187,30 @@ has-link b at h l c f = go (entry_of b at l) refl
     go (Some (Node.Link x y z)) q = f x y z q
     go None q = no-chain-bad b at h l c q
 
-pub link-read : (b : List ℕ) (at : ℕ) (h : Chain) (l : ℕ) → chain_fits b at h (suc l) l ≡ true → IsSome (entry_of b at l)
-link-read b at h l c = go (entry_of b at l) refl
-  where
-    go : (e : Option Node) → entry_of b at l ≡ e → IsSome e
-    go (Some n) q = refl
-    go None q = absurd (no-chain-bad b at h l c q)
+-- ---- what a walk reads, where it is asked
+
+-- a link, at the head of a chain
+module _ {b : List ℕ} {at n : ℕ} {h : Chain} {l : ℕ} {s : Scopes} (R : ReadyChain b at n h l s) where
+  pub link-read : IsSome (entry_of b at l)
+  link-read = go (entry_of b at l) refl
+    where
+      go : (e : Option Node) → entry_of b at l ≡ e → IsSome e
+      go (Some m) q = refl
+      go None q = absurd (no-chain-bad b at h l R.chained q)
+
+  pub link-alone : {m : Node} → Some m ≡ entry_of b at l → ((x y z : ℕ) → m ≡ Node.Link x y z → ⊥) → ⊥
+  link-alone q f = has-link b at h l R.chained (λ x y z e. f x y z (some-is (q ∙ e)))
+
+-- a pattern, an expression
+module _ {b : List ℕ} {at n k : ℕ} {s : Scopes} where
+  pub pattern-read : Ready b at n is_pattern k s → IsSome (entry_of b at k)
+  pattern-read R = sorted-pattern _ R.sorted
+
+  pub pattern-alone : Ready b at n is_pattern k s → {m : Node} → Some m ≡ entry_of b at k → ((f : Shape) → m ≡ Node.Pattern f → ⊥) → ⊥
+  pattern-alone R q f = has-pattern _ R.sorted (λ g e. f g (some-is (q ∙ e)))
+
+  pub expression-read : Ready b at n is_expression k s → IsSome (entry_of b at k)
+  expression-read R = sorted-expression _ R.sorted
+
+  pub expression-alone : Ready b at n is_expression k s → {m : Node} → Some m ≡ entry_of b at k → ((f : Form) → m ≡ Node.Expression f → ⊥) → ⊥
+  expression-alone R q f = has-expression _ R.sorted (λ g e. f g (some-is (q ∙ e)))

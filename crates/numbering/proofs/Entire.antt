@@ -1,10 +1,10 @@
 -- All of numbering: what its parts leave is the numbered module. Assumes nothing.
 use Prim.Native.Nat.{ℕ, zero, suc, ◌+◌, ◌*◌, ◌≤◌, ◌<◌}
 use mathlib.Core.Path.{◌≡◌, refl, sym, ap, ap₂, ◌∙◌}
-use mathlib.Core.List.{List, [], ◌∷◌, ◌++◌}
+use mathlib.Core.List.{List, []}
 use mathlib.Core.Bool.{true}
 use native.Mathlib.Omega.{arith}
-use lib.ListN.{length, get_or, replicate}
+use lib.ListN.{length, get_or}
 use borrow.Author.Tests.{eqb-true}
 use Rattle.std.proofs.lemmas.List.{append-nil, get_or-replicate}
 use Rattle.source.specs.declared.Layout.{Layout}
@@ -21,7 +21,7 @@ use Rattle.source.specs.Readable.{Readable}
 use Rattle.std.specs.Prelude.{Err}
 use Rattle.records.specs.declared.refusals.Refusal.{Refusal}
 use Rattle.source_check.specs.Answer.{checked}
-use Rattle.numbering.specs.Numbering.{Ids, Names, Numbered, ◌>>=◌, return, found, named, fresh_text, iter_text}
+use Rattle.numbering.specs.Numbering.{Names, Numbered, ◌>>=◌, return, found, named, fresh_text, iter_text}
 use Rattle.numbering.specs.Numbering.{fold_text, registered, number_module_variables, names_of, numbered}
 use Rattle.numbering.specs.Numbers.{NumberedIn, numbered_module, numbered_definition, numbered_expression}
 use Rattle.numbering.specs.Walks.{weight, each, coded, Holds, names as both, no_row, Room}
@@ -85,7 +85,7 @@ total-each (suc n) = omega (arith, total-each n)
 
 module _ (b : List ℕ) (Q : Readable b) where
   pub walk : Walkable b (nodes_offset b) (nodes b)
-  walk = record { count = names b; fit = Q.nodes-fit; long = Q.long; few-names = Q.names-few; few-nodes = Q.nodes-few }
+  walk = record { count = names b; fit = Q.nodes-fit; few-names = Q.names-few; few-nodes = Q.nodes-few }
 
   pattern-root : (j : ℕ) → j < definitions b → (definition_entry b (definitions_offset b) j).pattern < nodes b
   unfolding definitions_fit

@@ -1,26 +1,24 @@
 -- The ways of what is bound first: texts, and publics. Assumes nothing.
-use Prim.Native.Nat.{ℕ, zero, suc, ◌+◌, ◌-◌, ◌≤◌, ◌<◌}
-use mathlib.Core.Path.{◌≡◌, refl, sym, ap, ap₂, ◌∙◌}
+use Prim.Native.Nat.{ℕ, suc, ◌+◌, ◌-◌, ◌≤◌, ◌<◌}
+use mathlib.Core.Path.{◌≡◌, refl, sym, ap, ◌∙◌}
 use mathlib.Core.List.{List, [], ◌∷◌}
 use mathlib.Core.Bool.{Bool, true, false, ◌&&◌, cond}
-use mathlib.Core.Logic.{⊎_elim}
 use native.Mathlib.Numerals.{add-one}
 use native.Mathlib.Omega.{arith}
-use lib.ListN.{length, get_or, set, take, drop}
+use lib.ListN.{length, get_or, set}
 use lib.Seq.{get_or-set_same, get_or-set_other}
 use lib.Dec.{eqb}
 use lib.Pointwise.{pointwise}
-use borrow.Author.Tests.{eqb-true, ltb-true}
+use borrow.Author.Tests.{ltb-true}
 use Rattle.source.specs.Trees.{Text}
-use Rattle.marks.specs.Indices.{every, rows}
-use Rattle.source.specs.Names.{offset_of, length_of, end_of, name_fits, names_fit, name_of}
+use Rattle.marks.specs.Indices.{rows}
+use Rattle.source.specs.Names.{name_of}
 use Rattle.source.specs.Nodes.{publics_fit}
-use Rattle.source.specs.Layout.{name_entry, public_at}
+use Rattle.source.specs.Layout.{public_at}
 use Rattle.numbering.specs.Numbering.{Ids, ◌>>=◌, return, same_text, named, number_publics}
 use Rattle.numbering.specs.Walks.{names, Chosen, Published, Registered}
 use Rattle.numbering.specs.declared.rows.Scopes.{Scopes}
-use Rattle.std.proofs.lemmas.Bool.{cases_lt}
-use Rattle.marks.proofs.Indices.{and_left, and_right, every-at}
+use Rattle.marks.proofs.Indices.{every-at}
 use Rattle.numbering.proofs.Held.{held_more, only-globals}
 use Rattle.numbering.proofs.Listed.{rows_step, rows_none}
 

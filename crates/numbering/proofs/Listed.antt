@@ -39,7 +39,7 @@ unfolding rows
 rows_none n i f l = let e : n - i ≡ 0 = omega arith in ap (λ (m : ℕ). rows m i f) e
 
 -- ---- one definition
-module _ (b : List ℕ) (at n p v : ℕ) {s : Scopes} (R : ReadyTwo b at n is_pattern p v s) where
+module _ {b : List ℕ} {at n p v : ℕ} {s : Scopes} (R : ReadyTwo b at n is_pattern p v s) where
   def-parts : Parts (λ own. weight b at own p + weight b at own v) (λ own. weight b at own v) (λ own. weight b at own p)
   def-parts = record { hold = λ own. omega arith }
 

@@ -5,7 +5,6 @@ use mathlib.Core.Bool.{Bool, true, false}
 use mathlib.Core.Logic.{⊎_elim}
 use native.Mathlib.Nat.{add-mul, one-mul, zero-mul}
 use native.Mathlib.Omega.{arith}
-use borrow.Author.Tests.{eq-eqb, ne_eqb}
 use Rattle.marks.specs.Indices.{total, pick, same}
 use Rattle.marks.proofs.Indices.{same-no, same-yes}
 use Rattle.std.proofs.lemmas.Bool.{cases_eq}

@@ -35,18 +35,18 @@ whole_parts u v = record { hold = λ own. omega arith }
 
 -- ---- a pattern, or parameters, and an expression in their scope
 
-pub scope-way : (b : List ℕ) (at n p y : ℕ) {s s₁ s₂ s₃ : Scopes} → ReadyTwo b at n is_pattern p y s → PatternWalk b at n p s s₁
+pub scope-way : {b : List ℕ} {at n p y : ℕ} {s s₁ s₂ s₃ : Scopes} → ReadyTwo b at n is_pattern p y s → PatternWalk b at n p s s₁
     → ExpressionWalk b at n y s₁ s₂ → s₃ ≡ unwound_to s.top s₂ → ScopeWalk b at n p y s s₃
 unfolding number_scope ◌>>=◌ return
-scope-way b at n p y R u v w = walked-scope _ _ (λ p q. (p, q)) (whole_parts _ _) R.room (λ l t p l₁ t₁ q t₂ g h. rw (g, h)) (λ t. refl) u v w
+scope-way R u v w = walked-scope _ _ (λ p q. (p, q)) (whole_parts _ _) R.room (λ l t p l₁ t₁ q t₂ g h. rw (g, h)) (λ t. refl) u v w
 
-pub body-way : (b : List ℕ) (at n l y : ℕ) {s s₁ s₂ s₃ : Scopes} → ReadyFunction b at n l y s → ParameterWalk b at n l s s₁
+pub body-way : {b : List ℕ} {at n l y : ℕ} {s s₁ s₂ s₃ : Scopes} → ReadyFunction b at n l y s → ParameterWalk b at n l s s₁
     → ExpressionWalk b at n y s₁ s₂ → s₃ ≡ unwound_to s.top s₂ → FunctionWalk b at n l y s s₃
 unfolding number_function ◌>>=◌ return
-body-way b at n l y R u v w = walked-scope _ _ (λ p q. (p, q)) (whole_parts _ _) R.room (λ l t p l₁ t₁ q t₂ g h. rw (g, h)) (λ t. refl) u v w
+body-way R u v w = walked-scope _ _ (λ p q. (p, q)) (whole_parts _ _) R.room (λ l t p l₁ t₁ q t₂ g h. rw (g, h)) (λ t. refl) u v w
 
 -- ---- items
-module _ (b : List ℕ) (at n l : ℕ) {s : Scopes} (R : ReadyChain b at n Chain.Items l s) {x y z : ℕ} (e : entry_of b at l ≡ Some (Node.Link x y z)) where
+module _ {b : List ℕ} {at n l : ℕ} {s : Scopes} (R : ReadyChain b at n Chain.Items l s) {x y z : ℕ} (e : entry_of b at l ≡ Some (Node.Link x y z)) where
   items-facts : Link-facts b at n R.walk Chain.Items l x y z
   items-facts = link-facts b at n R.walk Chain.Items l R.below R.chained e
 
@@ -89,7 +89,7 @@ module _ (b : List ℕ) (at n l : ℕ) {s : Scopes} (R : ReadyChain b at n Chain
       u v
 
 -- ---- arms
-module _ (b : List ℕ) (at n l : ℕ) {s : Scopes} (R : ReadyChain b at n Chain.Arms l s) {x y z : ℕ} (e : entry_of b at l ≡ Some (Node.Link x y z)) where
+module _ {b : List ℕ} {at n l : ℕ} {s : Scopes} (R : ReadyChain b at n Chain.Arms l s) {x y z : ℕ} (e : entry_of b at l ≡ Some (Node.Link x y z)) where
   arms-facts : Link-facts b at n R.walk Chain.Arms l x y z
   arms-facts = link-facts b at n R.walk Chain.Arms l R.below R.chained e
 
@@ -170,7 +170,7 @@ operands (inr (inl e)) = rw e refl
 operands (inr (inr (inl (o, e)))) = rw e refl
 operands (inr (inr (inr e))) = rw e refl
 
-module _ (b : List ℕ) (at n k : ℕ) {s : Scopes} (R : Ready b at n is_expression k s) where
+module _ {b : List ℕ} {at n k : ℕ} {s : Scopes} (R : Ready b at n is_expression k s) where
   -- a child that is an expression
   child : {x : ℕ} {s₁ : Scopes} → (x < k) × (is_expression (entry_of b at x) ≡ true) → Room (λ own. weight b at own x) s₁.next s₁.top
       → (x < k) × Ready b at n is_expression x s₁

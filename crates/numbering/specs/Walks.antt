@@ -124,7 +124,6 @@ each k = 1
 pub record Walkable (b : List ℕ) (at n : ℕ) : Type 0 where
   pub count : ℕ
   pub fit : nodes_fit b at count n ≡ true
-  pub long : 4 * (at + 4 * n) ≤ length b
   pub few-names : count ≤ NAMES
   pub few-nodes : n ≤ NODES
 

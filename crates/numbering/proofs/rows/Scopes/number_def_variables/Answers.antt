@@ -2,4 +2,4 @@ use Rattle.numbering.proofs.Listed.{def-way}
 use Rattle.numbering.proofs.rows.Scopes.number_def_variables.Goals as goal
 
 pub returns : goal.returns
-returns c = def-way _ _ _ _ _ c.requires c.number_expr_variables.ensures c.number_pattern_variables.ensures
+returns c = def-way c.requires c.number_expr_variables.ensures c.number_pattern_variables.ensures
