@@ -19,7 +19,8 @@ use Rattle.constraint.specs.Trees.{Side, Equality, ConstraintModule, operation, 
 use Rattle.constraint.specs.Record.{number_word, term_words, operation_word, written_words, equality_words, equalities_words}
 use Rattle.constraint.specs.Record.{definitions_words, definitions_trees, header_words, constraint_words, constraint_bytes}
 use Rattle.constraint.specs.Record.{EQUALITY-WORDS, KEPT-WORDS}
-use Rattle.constraint.specs.Reading.{HEADER, next, publics, provers, equalities, kept, nodes, provers_offset, equalities_offset, kept_offset, nodes_offset, size}
+use Rattle.constraint.specs.Reading.{HEADER, next, publics, provers, equalities, kept, nodes}
+use Rattle.constraint.specs.Reading.{provers_offset, equalities_offset, kept_offset, nodes_offset, size}
 use Rattle.constraint.specs.Reading.{term_at, side_for, equality_for, equality_at, constraint_of}
 use Rattle.constraint.specs.Reading.{SignedTerm, SignedSide, SignedEquality, SignedTree, ReadBack}
 use Rattle.constraint.proofs.Lengths.{length-term, length-equality, length-equalities, length-definitions, length-bytes}

@@ -133,7 +133,8 @@ module _ {b : List ℕ} (r : Readable b) where
       → ((definition_entry b (definitions_offset b) k).id < next b) × ((definition_entry b (definitions_offset b) k).node < nodes b)
   definition-below = definition-at b (definitions_offset b) (definitions b) (next b) (nodes b) r.definitions-fit
 
-  pub equation-below : (k : ℕ) → k < equations b → ((equation_entry b (equations_offset b) k).left < nodes b) × ((equation_entry b (equations_offset b) k).right < nodes b)
+  pub equation-below : (k : ℕ) → k < equations b
+      → ((equation_entry b (equations_offset b) k).left < nodes b) × ((equation_entry b (equations_offset b) k).right < nodes b)
   equation-below = equation-at b (equations_offset b) (equations b) (nodes b) r.equations-fit
 
   -- the trees of the lists, as a walk from their nodes meets them
@@ -178,7 +179,8 @@ pub rising-from : (b : List ℕ) (at n : ℕ) → ((k : ℕ) → k + 1 < n → w
 unfolding rising
 rising-from b at n h = every-from (n - 1) _ (λ k l. lt-ltb _ _ (h k (omega arith)))
 
-pub definitions-from : (b : List ℕ) (at n limit count : ℕ) → ((k : ℕ) → k < n → ((definition_entry b at k).id < limit) × ((definition_entry b at k).node < count))
+pub definitions-from : (b : List ℕ) (at n limit count : ℕ)
+    → ((k : ℕ) → k < n → ((definition_entry b at k).id < limit) × ((definition_entry b at k).node < count))
     → definitions_fit b at n limit count ≡ true
 unfolding definitions_fit
 definitions-from b at n limit count h =

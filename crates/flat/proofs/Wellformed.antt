@@ -79,7 +79,8 @@ module _ {b : List ℕ} (r : Readable b) where
 
   pub readable-rising : Rising (module_of b).provers
   unfolding module_of
-  readable-rising = rise _ (provers b) 0 (λ k l g. let e : provers_offset b + (k + 1) ≡ provers_offset b + k + 1 = omega arith in rw e (prover-rises r k (omega arith)))
+  readable-rising = rise _ (provers b) 0
+      (λ k l g. let e : provers_offset b + (k + 1) ≡ provers_offset b + k + 1 = omega arith in rw e (prover-rises r k (omega arith)))
 
   pub readable-definitions : All (λ d. (d.id < next b) × Every (λ v. v < next b) d.right) (module_of b).definitions
   unfolding module_of definition_at

@@ -26,7 +26,8 @@ source = record {
       ∷ (
         variable_p 6,
         letting (variable_p 0) (binary Multiply (variable 0) (variable 6))
-            (sequence (variable 0 then last (matching (variable 0) (arm (product_p (variable_p 7) (variable_p 7)) (variable 7) (arm unit_p (variable 2) no_arm))))),
+            (sequence (variable 0 then last (matching (variable 0)
+            (arm (product_p (variable_p 7) (variable_p 7)) (variable 7) (arm unit_p (variable 2) no_arm))))),
       )
       ∷ [];
   expressions = binary Equal (variable 6) (negate (variable 0)) ∷ [];

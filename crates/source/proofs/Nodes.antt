@@ -51,7 +51,8 @@ settled b at (suc n) k l =
     (λ (g : n ≤ k). let e : suc n ≡ k + 1 = omega arith in ap (λ (m : ℕ). tree b at m k) e) (cases_lt k n)
 
 -- a node's tree as an expression or a pattern, by the trees before it
-pub expression-is : (b : List ℕ) (at k : ℕ) {f : Form} → entry_of b at k ≡ Some (Node.Expression f) → (node_tree b at k).expression ≡ expression_of (tree b at k) f
+pub expression-is : (b : List ℕ) (at k : ℕ) {f : Form} → entry_of b at k ≡ Some (Node.Expression f)
+    → (node_tree b at k).expression ≡ expression_of (tree b at k) f
 unfolding grown
 expression-is b at k e = ap (λ (t : Tree). t.expression) (tree_is b at k ∙ ap (grown (tree b at k)) e)
 

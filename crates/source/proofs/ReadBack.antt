@@ -372,7 +372,9 @@ module _ (m : Module) (w : Writable m) (b : List ℕ) (c0 : names b ≡ length m
 
   module _ (hp : Holds b 5 (pair_words 0 m.names)) (text : drop (text_offset b) b ≡ joined m.names) where
     the-names : NamesAt b (text_offset b) 0 0 m.names
-    the-names = let e : text_offset b + 0 ≡ text_offset b = omega arith in names_at b (text_offset b) 0 0 m.names w.names-fit hp (ap (λ (n : ℕ). drop n b) e ∙ text)
+    the-names =
+        let e : text_offset b + 0 ≡ text_offset b = omega arith in
+        names_at b (text_offset b) 0 0 m.names w.names-fit hp (ap (λ (n : ℕ). drop n b) e ∙ text)
 
     names-read : rows (names b) 0 (name_of b (text_offset b)) ≡ m.names
     names-read = ap (λ (n : ℕ). rows n 0 (name_of b (text_offset b))) c0 ∙ the-names.read
@@ -419,12 +421,14 @@ module _ (m : Module) (w : Writable m) (b : List ℕ) (c0 : names b ≡ length m
     definitions-good : definitions_fit b (nodes_offset b) (nodes b) (definitions_offset b) (definitions b) ≡ true
     definitions-good =
         let e : definitions b ≡ 0 + length m.definitions = omega arith in
-        ap (definitions_fit b (nodes_offset b) (nodes b) (definitions_offset b)) e ∙ the-definitions.fits (none-defined b (nodes_offset b) (nodes b) (definitions_offset b))
+        ap (definitions_fit b (nodes_offset b) (nodes b) (definitions_offset b)) e
+        ∙ the-definitions.fits (none-defined b (nodes_offset b) (nodes b) (definitions_offset b))
 
     expressions-good : expressions_fit b (nodes_offset b) (nodes b) (expressions_offset b) (expressions b) ≡ true
     expressions-good =
         let e : expressions b ≡ 0 + length m.expressions = omega arith in
-        ap (expressions_fit b (nodes_offset b) (nodes b) (expressions_offset b)) e ∙ the-expressions.fits (none-listed b (nodes_offset b) (nodes b) (expressions_offset b))
+        ap (expressions_fit b (nodes_offset b) (nodes b) (expressions_offset b)) e
+        ∙ the-expressions.fits (none-listed b (nodes_offset b) (nodes b) (expressions_offset b))
 
     definitions-back : rows (definitions b) 0 (definition_at b (nodes_offset b) (nodes b) (definitions_offset b)) ≡ m.definitions
     definitions-back = ap (λ (i : ℕ). rows i 0 (definition_at b (nodes_offset b) (nodes b) (definitions_offset b))) c2 ∙ the-definitions.read
@@ -453,7 +457,8 @@ module _ (m : Module) (w : Writable m) (b : List ℕ) (c0 : names b ≡ length m
         let e : definitions b ≡ 0 + length m.definitions = omega arith in
         let f : expressions b ≡ 0 + length m.expressions = omega arith in
         eq-eqb
-        (by_nodes b (nodes_offset b) (nodes b) k + (by_definitions b (definitions_offset b) (definitions b) k + by_expressions b (expressions_offset b) (expressions b) k)) 1
+        (by_nodes b (nodes_offset b) (nodes b) k
+        + (by_definitions b (definitions_offset b) (definitions b) k + by_expressions b (expressions_offset b) (expressions b) k)) 1
         (omega (
           arith,
           the-nodes.uses k,

@@ -126,7 +126,8 @@ module _ (b : List ℕ) (at names : ℕ) where
   node-uses t j = total-more t (λ i. children_use b at i (children_of (entry_of b at i)) j)
 
   -- a node that uses what was owed is owed itself
-  pub span-node : {s t : ℕ} {f : ℕ → ℕ} {n : Option Node} → s ≤ t → Span b at names s t f → entry_of b at t ≡ n → children_fit b at names t (children_of n) ≡ true
+  pub span-node : {s t : ℕ} {f : ℕ → ℕ} {n : Option Node} → s ≤ t → Span b at names s t f → entry_of b at t ≡ n
+      → children_fit b at names t (children_of n) ≡ true
       → ((j : ℕ) → children_use b at t (children_of n) j ≡ f j) → Span b at names s (t + 1) (same t)
   span-node {s} {t} p x e c u = record {
     fits = λ h. node-fits t (ap (λ (i : Option Node). children_fit b at names t (children_of i)) e ∙ c) (x.fits h);
@@ -142,7 +143,8 @@ module _ (b : List ℕ) (at names : ℕ) where
   }
 
   -- a node that uses nothing leaves what was owed, and is owed itself
-  pub span-link : {s t : ℕ} {f : ℕ → ℕ} {n : Option Node} → s ≤ t → Span b at names s t f → entry_of b at t ≡ n → children_fit b at names t (children_of n) ≡ true
+  pub span-link : {s t : ℕ} {f : ℕ → ℕ} {n : Option Node} → s ≤ t → Span b at names s t f → entry_of b at t ≡ n
+      → children_fit b at names t (children_of n) ≡ true
       → ((j : ℕ) → children_use b at t (children_of n) j ≡ 0) → Span b at names s (t + 1) (λ j. same t j + f j)
   span-link {s} {t} p x e c u = record {
     fits = λ h. node-fits t (ap (λ (i : Option Node). children_fit b at names t (children_of i)) e ∙ c) (x.fits h);

@@ -291,7 +291,8 @@ module _ (b : List ℕ) (at names : ℕ) where
     expr-below = ap (λ (i : Tree). i.expression) (settled b at t (root_of s n) expr-early) ∙ x.grows
 
   -- two expressions under a node
-  expr-two : (s m n : ℕ) {x y z : Expr} (c : Form) → ExprAt b at names s m x → ExprAt b at names (s + m) n y → entry_of b at (s + m + n) ≡ Some (Node.Expression c)
+  expr-two : (s m n : ℕ) {x y z : Expr} (c : Form) → ExprAt b at names s m x → ExprAt b at names (s + m) n y
+      → entry_of b at (s + m + n) ≡ Some (Node.Expression c)
       → form_children c ≡ record { first = Child.Expression (root_of s m); second = Child.Expression (root_of (s + m) n); third = Child.Nothing }
       → expression_of (tree b at (s + m + n)) c ≡ z → ExprAt b at names s (m + n + 1) z
   unfolding children_fit child_fits children_use child_uses
@@ -405,7 +406,8 @@ module _ (b : List ℕ) (at names : ℕ) where
       (λ j. omega arith)
       (rw (expr-below b at names z t l, v))
 
-  expr-sequence : (s m : ℕ) {is : Items} → s + m ≤ 2048 → ItemsAt b at names s m is → entry_of b at (s + m) ≡ Some (Node.Expression (Form.Sequence (root_of s m)))
+  expr-sequence : (s m : ℕ) {is : Items} → s + m ≤ 2048 → ItemsAt b at names s m is
+      → entry_of b at (s + m) ≡ Some (Node.Expression (Form.Sequence (root_of s m)))
       → ExprAt b at names s (m + 1) (Expr.sequence is)
   unfolding children_fit child_fits children_use child_uses expression_of
   expr-sequence s m few y e =
@@ -536,7 +538,8 @@ module _ (b : List ℕ) (at names : ℕ) where
         (expr-at x (s + n) f.0 (omega arith) (holds-left b (at + 4 * (s + n)) (expr_nodes (s + n) x) _ h1))
         (node-held b at (s + n + m) (nodes-after b at (s + n) m (expr_nodes (s + n) x) _ (expr-length (s + n) x) h1))
 
-    arms_at : (rs : Arms) (s : ℕ) → ArmsFit names rs → s + arms_count rs ≤ 2048 → Holds b (at + 4 * s) (arms_nodes s rs) → ArmsAt b at names s (arms_count rs) rs
+    arms_at : (rs : Arms) (s : ℕ) → ArmsFit names rs → s + arms_count rs ≤ 2048 → Holds b (at + 4 * s) (arms_nodes s rs)
+        → ArmsAt b at names s (arms_count rs) rs
     arms_at Arms.no_arm s f few h = arms_none b at names s
     arms_at (Arms.arm p x rs) s f few h =
         let n = arms_count rs in

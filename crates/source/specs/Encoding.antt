@@ -77,7 +77,8 @@ pat_nodes s (Pat.constant_p z) = node CONSTANT-PATTERN (of_z w32 z) 0 0
 
 unfoldable pub pats_nodes : ℕ → List Pat → List ℕ
 pats_nodes s [] = []
-pats_nodes s (p ∷ ps) = pats_nodes s ps ++ (pat_nodes (s + pats_count ps) p ++ node LINK (root_of (s + pats_count ps) (pat_count p)) (link_to s (pats_count ps)) 0)
+pats_nodes s (p ∷ ps) =
+    pats_nodes s ps ++ (pat_nodes (s + pats_count ps) p ++ node LINK (root_of (s + pats_count ps) (pat_count p)) (link_to s (pats_count ps)) 0)
 
 -- two expressions and a node over them
 abbrev pub pair_of : ℕ → ℕ → ℕ → ℕ → ℕ → List ℕ

@@ -160,7 +160,8 @@ module _ (b : List ℕ) (at : ℕ) where
 
   -- n definitions, n expressions from word `list` on: pairs of a pattern and an expression, and expressions, of the first `nodes` nodes
   unfoldable pub definitions_fit : ℕ → ℕ → ℕ → Bool
-  definitions_fit nodes list n = every n (λ k. pattern_fits nodes (definition_entry b list k).pattern && expression_fits nodes (definition_entry b list k).value)
+  definitions_fit nodes list n =
+      every n (λ k. pattern_fits nodes (definition_entry b list k).pattern && expression_fits nodes (definition_entry b list k).value)
 
   unfoldable pub expressions_fit : ℕ → ℕ → ℕ → Bool
   expressions_fit nodes list n = every n (λ k. expression_fits nodes (expression_root b list k))

@@ -1,6 +1,7 @@
 -- What a walk over an accepted source record relies on. That an accepted record is readable: `accepted-readable` in proofs/Accepted.antt.
 use Rattle.std.specs.Prelude.{ℕ, ◌≤◌, ◌≡◌, List, true, length}
-use Rattle.source.specs.Layout.{names, publics, definitions, expressions, nodes, publics_offset, definitions_offset, expressions_offset, nodes_offset, text_offset}
+use Rattle.source.specs.Layout.{names, publics, definitions, expressions, nodes}
+use Rattle.source.specs.Layout.{publics_offset, definitions_offset, expressions_offset, nodes_offset, text_offset}
 use Rattle.source.specs.Names.{names_fit, names_differ}
 use Rattle.source.specs.Nodes.{nodes_fit, publics_fit, definitions_fit, expressions_fit}
 use Rattle.source.specs.Record.{used_once}

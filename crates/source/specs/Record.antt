@@ -7,7 +7,8 @@ use Rattle.source.specs.declared.Form.{Form}
 use Rattle.source.specs.declared.Shape.{Shape}
 use Rattle.source.specs.Trees.{Pat, Expr, Items, Arms, Env, Module}
 use Rattle.marks.specs.Indices.{every, rows}
-use Rattle.source.specs.Layout.{names, publics, definitions, expressions, nodes, publics_offset, definitions_offset, expressions_offset, nodes_offset, text_offset}
+use Rattle.source.specs.Layout.{names, publics, definitions, expressions, nodes}
+use Rattle.source.specs.Layout.{publics_offset, definitions_offset, expressions_offset, nodes_offset, text_offset}
 use Rattle.source.specs.Layout.{public_at, definition_entry, expression_root, counted, listed}
 use Rattle.source.specs.Names.{names_fit, names_differ, name_of}
 use Rattle.source.specs.Nodes.{entry_of, nodes_fit, publics_fit, definitions_fit, expressions_fit}
@@ -90,7 +91,8 @@ node_tree b at k = tree b at (k + 1) k
 -- ---- the module
 
 unfoldable pub definition_at : List ℕ → ℕ → ℕ → ℕ → ℕ → Pat × Expr
-definition_at b at count list k = ((tree b at count (definition_entry b list k).pattern).pattern, (tree b at count (definition_entry b list k).value).expression)
+definition_at b at count list k =
+    ((tree b at count (definition_entry b list k).pattern).pattern, (tree b at count (definition_entry b list k).value).expression)
 
 unfoldable pub expression_at : List ℕ → ℕ → ℕ → ℕ → ℕ → Expr
 expression_at b at count list k = (tree b at count (expression_root b list k)).expression
@@ -117,7 +119,8 @@ shaped b =
 unfoldable pub used_once : List ℕ → Bool
 used_once b =
     every (nodes b) (λ k.
-    eqb (by_nodes b (nodes_offset b) (nodes b) k + (by_definitions b (definitions_offset b) (definitions b) k + by_expressions b (expressions_offset b) (expressions b) k)) 1)
+    eqb (by_nodes b (nodes_offset b) (nodes b) k
+    + (by_definitions b (definitions_offset b) (definitions b) k + by_expressions b (expressions_offset b) (expressions b) k)) 1)
 
 pub data Read : Type 0 where
   module-of : Module → Read

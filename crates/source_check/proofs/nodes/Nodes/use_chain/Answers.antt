@@ -43,19 +43,23 @@ returns-in_err-use_result c =
 pub returns-then-next-eq-NO_LINK : goal.returns-then-next-eq-NO_LINK
 returns-then-next-eq-NO_LINK c =
     let e = c.first-before.ensures in
+    let item = rw (e.same.0, e.same.1.0, e.count) at c.use_item.ensures in
+    let result = rw (e.same.0, e.same.1.0, e.count) at c.use_result.ensures in
     let w =
     way_end c.loop-link.invariant.way c.loop-link-test.true
-    (is-link (goal.at.returns-then-next-eq-NO_LINK c).In-Link) c.add.ensures (rw (e.same.0, e.same.1.0, e.count) at c.use_item.ensures) c.in_ok-use_item.was (rw (e.same.0, e.same.1.0, e.count) at c.use_result.ensures)
-    c.in_ok-use_result.was c.loop-link.invariant.onward c.if-next-eq-NO_LINK.true in
+    (is-link (goal.at.returns-then-next-eq-NO_LINK c).In-Link) c.add.ensures item c.in_ok-use_item.was result c.in_ok-use_result.was
+    c.loop-link.invariant.onward c.if-next-eq-NO_LINK.true in
     judged-yes _ w.0 w.1
 
 pub loop-link-preserved : goal.loop-link-preserved
 loop-link-preserved c =
     let e = c.first-before.ensures in
+    let item = rw (e.same.0, e.same.1.0, e.count) at c.use_item.ensures in
+    let result = rw (e.same.0, e.same.1.0, e.count) at c.use_result.ensures in
     let w =
     way_on c.loop-link.invariant.way c.loop-link-test.true
-    (is-link (goal.at.loop-link-preserved c).In-Link) c.add.ensures (rw (e.same.0, e.same.1.0, e.count) at c.use_item.ensures) c.in_ok-use_item.was (rw (e.same.0, e.same.1.0, e.count) at c.use_result.ensures)
-    c.in_ok-use_result.was c.loop-link.invariant.onward c.if-next-eq-NO_LINK.false in
+    (is-link (goal.at.loop-link-preserved c).In-Link) c.add.ensures item c.in_ok-use_item.was result c.in_ok-use_result.was
+    c.loop-link.invariant.onward c.if-next-eq-NO_LINK.false in
     record { way = w.0; onward = w.1; below = omega arith }
 
 pub returns : goal.returns
