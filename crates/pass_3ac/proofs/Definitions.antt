@@ -1,21 +1,23 @@
 -- Definitions: one by whether it is used and whether its id is the prover's, a list by its first. Assumes nothing.
 use mathlib.Core.Path.{◌≡◌, refl, sym, ap, ap₂, ◌∙◌}
-use mathlib.Core.List.{List, [], ◌∷◌, ◌++◌}
+use mathlib.Core.List.{List, [], ◌∷◌}
 use mathlib.Core.Bool.{Bool, true, false}
 use Prim.Native.Nat.{ℕ, ◌+◌}
 use native.Mathlib.Omega.{arith}
 use lib.ListN.{length}
-use Rattle.std.specs.Prelude.{Option as Maybe, Some}
+use Rattle.std.specs.Prelude.{Some}
 use Rattle.flat.specs.Trees.{Flat, Definition, tree_nodes, definitions_nodes}
 use Rattle.flat.specs.Record.{module_of}
 use Rattle.constraint.specs.declared.Term.{Term}
 use Rattle.pass_trees.specs.declared.Usage.{Usage}
 use Rattle.pass_trees.specs.Passes.{member, keep_if, those, is_never, usage, Substitutions, copy_propagate_def}
 use Rattle.pass_trees.specs.Passes.{copy_propagate_defs, Cuts, cuts_of, joined, flatten_def_to_3ac, flatten_defs}
-use Rattle.pass_trees.proofs.Loops.{those-append, copies-append, defs-append}
+use Rattle.pass_trees.proofs.Loops.{copies-append, defs-append}
+use Rattle.pass_classify.proofs.Whole.{used-first, says-used, says-prover}
 use Rattle.pass_classify.specs.Arrays.{usage_of, marked, Classified}
+use Rattle.pass_copies.specs.declared.Substitute.{Substitute}
 use Rattle.pass_copies.specs.Substituted.{option_of, subst_of, put_definition, put_definitions}
-use Rattle.pass_copies.proofs.After.{put-none, put_first, put-unused, put-prover, put-counted, Storable, definitions-say}
+use Rattle.pass_copies.proofs.After.{put-none, put_first, put-unused, put-prover, put-counted, Storable, after-says}
 use Rattle.pass_3ac.specs.declared.Cut.{Cut}
 use Rattle.pass_3ac.specs.declared.Place.{Place}
 use Rattle.pass_classify.specs.Arrays.{provers_of, used_of, counted_of}
@@ -23,16 +25,6 @@ use Rattle.pass_3ac.specs.Cutting.{tree_cut, put_equalities, place_from, defs_cu
 use Rattle.pass_3ac.proofs.Trees.{cut-few, cut-ids}
 use Rattle.pass_3ac.proofs.Ways.{Leaves}
 use Rattle.pass_3ac.proofs.Joining.{place-next, puts_none, puts-tree, puts-join, joined-none, Few, few-none, few-join, few-less, room-puts}
-
--- ---- what the arrays say of an id
-
-module _ {b : List ℕ} {us : List Usage} {ps : List Bool} (c : Classified b us ps) (id : ℕ) where
-  says-used : {t : Bool} → is_never (usage_of us id) ≡ t → is_never (usage (module_of b) id) ≡ t
-  says-used e = sym (ap (λ (f : ℕ → Usage). is_never (f id)) c.used) ∙ e
-
-  says-prover : {t : Bool} → marked ps id ≡ t → member id (provers_of b) ≡ t
-  unfolding provers_of
-  says-prover e = sym (ap (λ (f : ℕ → Bool). f id) c.proved) ∙ e
 
 -- ---- one definition
 
@@ -80,10 +72,6 @@ module _ (b : List ℕ) (k : ℕ) (s : Substitutions) (id : ℕ) (e : Flat) (n :
 -- ---- lists
 
 module _ (b : List ℕ) (k : ℕ) where
-  used-first : (d : Definition) (ds : List Definition) → used_of b (d ∷ ds) ≡ used_of b (d ∷ []) ++ used_of b ds
-  unfolding used_of
-  used-first d ds = those-append _ (d ∷ []) ds
-
   pub defs-none : (s : Substitutions) (n : ℕ) → defs_cut b k s [] n ≡ record { next = n; equalities = [] }
   unfolding defs_cut used_of those copy_propagate_defs flatten_defs
   defs-none s n = refl
@@ -91,7 +79,7 @@ module _ (b : List ℕ) (k : ℕ) where
   pub defs-first : (s : Substitutions) (d : Definition) (ds : List Definition) (n : ℕ)
       → defs_cut b k s (d ∷ ds) n ≡ joined (defs_cut b k s (d ∷ []) n).equalities (defs_cut b k (defs_after b k s (d ∷ [])) ds (defs_cut b k s (d ∷ []) n).next)
   unfolding defs_cut defs_after
-  defs-first s d ds n = rw (used-first d ds, copies-append (provers_of b) k (used_of b (d ∷ [])) (used_of b ds) s) (defs-append (provers_of b) _ _ n)
+  defs-first s d ds n = rw (used-first b d ds, copies-append (provers_of b) k (used_of b (d ∷ [])) (used_of b ds) s) (defs-append (provers_of b) _ _ n)
 
   pub few-defs : (s : Substitutions) (ds : List Definition) (n : ℕ) → Few (defs_cut b k s ds n) (definitions_nodes ds) n
   unfolding definitions_nodes
@@ -101,7 +89,7 @@ module _ (b : List ℕ) (k : ℕ) where
 -- ---- what is left of cut definitions: the body, the answer, the substitutions
 
 -- nothing from there on
-pub leave_none : (b : List ℕ) (k : ℕ) (m : List (Maybe Term)) (c : List ℕ) (at n : ℕ) → DefsPut b k [] m m c c at n (record { next = n; at = at })
+pub leave_none : (b : List ℕ) (k : ℕ) (m : List Substitute) (c : List ℕ) (at n : ℕ) → DefsPut b k [] m m c c at n (record { next = n; at = at })
 leave_none b k m c at n =
     let p = puts_none c at n in (
       p.0 ∙ ap (λ (x : Cuts). put_equalities c at x.equalities) (sym (defs-none b k (subst_of m) n)),
@@ -110,35 +98,30 @@ leave_none b k m c at n =
       sym (put-none b k m),
     )
 
--- what the array after one says
-after-says : (b : List ℕ) (k : ℕ) (d : Definition) (m : List (Maybe Term)) {m1 : List (Maybe Term)} → length m ≡ 65536 → Storable d →
-    m1 ≡ put_definitions k m (counted_of b (d ∷ [])) → subst_of m1 ≡ defs_after b k (subst_of m) (d ∷ [])
-unfolding defs_after
-after-says b k d m long s e = ap subst_of e ∙ definitions-say b k m (d ∷ []) long (s, tt)
-
 -- one, and then the others
-pub leave-join : (b : List ℕ) (k : ℕ) (d : Definition) (ds : List Definition) (m m1 m2 : List (Maybe Term)) (c : List ℕ) {c1 c2 : List ℕ}
+pub leave-join : (b : List ℕ) (k : ℕ) (d : Definition) (ds : List Definition) (m m1 m2 : List Substitute) (c : List ℕ) {c1 c2 : List ℕ}
     (at n : ℕ) {r1 r2 : Place} →
     length m ≡ 65536 → Storable d → DefsPut b k (d ∷ []) m m1 c c1 at n r1 → DefsPut b k ds m1 m2 c1 c2 r1.at r1.next r2 →
     DefsPut b k (d ∷ ds) m m2 c c2 at n r2
+unfolding defs_after
 leave-join b k d ds m m1 m2 c at n {r1 = r1} long s l1 l2 =
     let C : Cuts = defs_cut b k (subst_of m) (d ∷ []) n in
     let D : Cuts = defs_cut b k (subst_of m1) ds r1.next in
-    let a : subst_of m1 ≡ defs_after b k (subst_of m) (d ∷ []) = after-says b k d m long s l1.2 in
+    let a : subst_of m1 ≡ defs_after b k (subst_of m) (d ∷ []) = after-says b k m d long s l1.2 in
     let w : defs_cut b k (subst_of m) (d ∷ ds) n ≡ joined C.equalities D = defs-first b k (subst_of m) d ds n
     ∙ ap₂ (λ (x : Substitutions) (y : ℕ). joined C.equalities (defs_cut b k x ds y)) (sym a) (sym (place-next at C l1.1)) in
     let p = puts-join c at C D (l1.0, l1.1) (l2.0, l2.1) in
-    (rw w p.0, rw w p.1, l2.2 ∙ ap (λ (x : List (Maybe Term)). put_definitions k x (counted_of b ds)) l1.2 ∙ sym (put_first b k m d ds))
+    (rw w p.0, rw w p.1, l2.2 ∙ ap (λ (x : List Substitute). put_definitions k x (counted_of b ds)) l1.2 ∙ sym (put_first b k m d ds))
 
 -- the room that they leave
-pub room-defs : (b : List ℕ) (k : ℕ) (ds : List Definition) (m m' : List (Maybe Term)) {c c' : List ℕ} {at n : ℕ} {r : Place} (p : ℕ) →
+pub room-defs : (b : List ℕ) (k : ℕ) (ds : List Definition) (m m' : List Substitute) {c c' : List ℕ} {at n : ℕ} {r : Place} (p : ℕ) →
     DefsPut b k ds m m' c c' at n r → Room (definitions_nodes ds + p) at n c → Room p r.at r.next c'
 room-defs b k ds m m' {n = n} p l h = room-puts (defs_cut b k (subst_of m) ds n) (definitions_nodes ds) p (few-defs b k (subst_of m) ds n) (l.0, l.1) h
 
 -- ---- the ways through one definition
 
-module _ {b : List ℕ} {us : List Usage} {ps : List Bool} (c : Classified b us ps) (k : ℕ) (m : List (Maybe Term)) (body : List ℕ) (at n id : ℕ) (e : Flat) where
-  abbrev Leaving : List (Maybe Term) → List ℕ → Place → Type 0
+module _ {b : List ℕ} {us : List Usage} {ps : List Bool} (c : Classified b us ps) (k : ℕ) (m : List Substitute) (body : List ℕ) (at n id : ℕ) (e : Flat) where
+  abbrev Leaving : List Substitute → List ℕ → Place → Type 0
   Leaving m' body' r = DefsPut b k (record { id = id; right = e } ∷ []) m m' body body' at n r
 
   skipped : defs_cut b k (subst_of m) (record { id = id; right = e } ∷ []) n ≡ record { next = n; equalities = [] } →
@@ -154,7 +137,7 @@ module _ {b : List ℕ} {us : List Usage} {ps : List Bool} (c : Classified b us 
       let p = says-prover c id g in
       skipped (cut-prover b k (subst_of m) id e n u p) (put-prover b k m (record { id = id; right = e }) u p)
 
-  pub way-counted : (m' : List (Maybe Term)) {body' : List ℕ} {r : Cut} → is_never (usage_of us id) ≡ false → marked ps id ≡ false →
+  pub way-counted : (m' : List Substitute) {body' : List ℕ} {r : Cut} → is_never (usage_of us id) ≡ false → marked ps id ≡ false →
       Leaves body body' at (tree_cut (Some (Term.Variable id)) k (subst_of m) e n) r → m' ≡ put_definition k m (record { id = id; right = e }) →
       Leaving m' body' r.place
   way-counted m' h g l a =

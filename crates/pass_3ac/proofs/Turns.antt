@@ -13,8 +13,7 @@ use Rattle.pass_trees.specs.Passes.{Substitutions}
 use Rattle.pass_classify.proofs.Lists.{definitions_from, equations_from, definitions-none, equations-none, definitions-whole}
 use Rattle.pass_classify.proofs.Lists.{equations-whole, definitions-more, equations-more}
 use Rattle.pass_classify.specs.Readable.{tree_of}
-use Rattle.constraint.specs.declared.Term.{Term}
-use Rattle.std.specs.Prelude.{Option}
+use Rattle.pass_copies.specs.declared.Substitute.{Substitute}
 use Rattle.pass_copies.specs.Substituted.{subst_of}
 use Rattle.pass_3ac.specs.declared.Place.{Place}
 use Rattle.pass_3ac.specs.Cutting.{defs_cut, equations_cut, DefsPut, Room}
@@ -26,11 +25,11 @@ use Rattle.pass_3ac.proofs.Equations.{put-equations-none, put-equations-join, fe
 -- ---- definitions
 
 -- what the definitions from index j on leave of the present state, all of them leave of the first one
-abbrev pub DefsFrom : List ℕ → ℕ → List (Option Term) → List ℕ → ℕ → ℕ → List (Option Term) → List ℕ → ℕ → ℕ → ℕ → Type 0
-DefsFrom b k m₀ c₀ at₀ n₀ m c at n j = (m' : List (Option Term)) (c' : List ℕ) (r : Place) → DefsPut b k (definitions_from b j) m m' c c' at n r →
+abbrev pub DefsFrom : List ℕ → ℕ → List Substitute → List ℕ → ℕ → ℕ → List Substitute → List ℕ → ℕ → ℕ → ℕ → Type 0
+DefsFrom b k m₀ c₀ at₀ n₀ m c at n j = (m' : List Substitute) (c' : List ℕ) (r : Place) → DefsPut b k (definitions_from b j) m m' c c' at n r →
     DefsPut b k (module_of b).definitions m₀ m' c₀ c' at₀ n₀ r
 
-pub defs-start : (b : List ℕ) (k : ℕ) (m : List (Option Term)) (c : List ℕ) (at n : ℕ) → DefsFrom b k m c at n m c at n 0
+pub defs-start : (b : List ℕ) (k : ℕ) (m : List Substitute) (c : List ℕ) (at n : ℕ) → DefsFrom b k m c at n m c at n 0
 defs-start b k m c at n m' c' r l = rw (definitions-whole b) l
 
 pub room-start : (b : List ℕ) {at n : ℕ} {c : List ℕ} → Room (definitions_nodes (module_of b).definitions) at n c
@@ -38,7 +37,7 @@ pub room-start : (b : List ℕ) {at n : ℕ} {c : List ℕ} → Room (definition
 room-start b h = rw (definitions-whole b) at h
 
 module _ (b : List ℕ) {j : ℕ} where
-  pub defs-end : definitions b ≤ j → (k : ℕ) (m₀ : List (Option Term)) (c₀ : List ℕ) (at₀ n₀ : ℕ) (m : List (Option Term)) (c : List ℕ) (at n : ℕ) →
+  pub defs-end : definitions b ≤ j → (k : ℕ) (m₀ : List Substitute) (c₀ : List ℕ) (at₀ n₀ : ℕ) (m : List Substitute) (c : List ℕ) (at n : ℕ) →
       DefsFrom b k m₀ c₀ at₀ n₀ m c at n j → DefsPut b k (module_of b).definitions m₀ m c₀ c at₀ n₀ (record { next = n; at = at })
   defs-end h k m₀ c₀ at₀ n₀ m c at n f = f m c _ (rw (definitions-none b j h) (leave_none b k m c at n))
 
@@ -57,8 +56,8 @@ module _ (b : List ℕ) {j : ℕ} where
     pub room-def : {at n : ℕ} {c : List ℕ} → Room (definitions_nodes (definitions_from b j)) at n c → Room (tree_nodes right) at n c
     room-def g = room-less _ g (omega (arith, size))
 
-    module _ (k : ℕ) (m m1 : List (Option Term)) (c : List ℕ) {c1 : List ℕ} (at n : ℕ) {a : Place} (l1 : DefsPut b k (this ∷ []) m m1 c c1 at n a) where
-      pub defs-turn : length m ≡ 65536 → (m₀ : List (Option Term)) (c₀ : List ℕ) (at₀ n₀ : ℕ) → DefsFrom b k m₀ c₀ at₀ n₀ m c at n j →
+    module _ (k : ℕ) (m m1 : List Substitute) (c : List ℕ) {c1 : List ℕ} (at n : ℕ) {a : Place} (l1 : DefsPut b k (this ∷ []) m m1 c c1 at n a) where
+      pub defs-turn : length m ≡ 65536 → (m₀ : List Substitute) (c₀ : List ℕ) (at₀ n₀ : ℕ) → DefsFrom b k m₀ c₀ at₀ n₀ m c at n j →
           DefsFrom b k m₀ c₀ at₀ n₀ m1 c1 a.at a.next (j + 1)
       defs-turn long m₀ c₀ at₀ n₀ f m' c' z l2 =
           f m' c' z (rw (definitions-more b h read within) (leave-join b k this (definitions_from b (j + 1)) m m1 m' c at n long within.0 l1 l2))

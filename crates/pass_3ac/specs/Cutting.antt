@@ -10,6 +10,7 @@ use Rattle.constraint.specs.Record.{EQUALITY-WORDS, equalities_words}
 use Rattle.pass_trees.specs.Passes.{Substitutions, copy_propagate_expr, copy_propagate_defs, after_defs, copy_propagate_equations}
 use Rattle.pass_trees.specs.Passes.{alive, flatten_expr_to_3ac, flatten_defs, flatten_equations, Cut as Cutting, Cuts}
 use Rattle.pass_classify.specs.Arrays.{provers_of, used_of, counted_of}
+use Rattle.pass_copies.specs.declared.Substitute.{Substitute}
 use Rattle.pass_copies.specs.Substituted.{option_of, subst_of, put_definitions}
 use Rattle.pass_3ac.specs.declared.Cut.{Cut}
 use Rattle.pass_3ac.specs.declared.Place.{Place}
@@ -66,7 +67,7 @@ unfoldable pub defs_after : List ℕ → ℕ → Substitutions → List Definiti
 defs_after b steps s ds = after_defs (provers_of b) steps s (used_of b ds)
 
 -- what cut definitions leave: the body after them, the answer, and the array of the substitutions, in which the counted ones have theirs
-abbrev pub DefsPut : List ℕ → ℕ → List Definition → List (Option Term) → List (Option Term) → List ℕ → List ℕ → ℕ → ℕ → Place → Type 0
+abbrev pub DefsPut : List ℕ → ℕ → List Definition → List Substitute → List Substitute → List ℕ → List ℕ → ℕ → ℕ → Place → Type 0
 DefsPut b steps ds subs subs' body body' at next r =
     (body' ≡ put_equalities body at (defs_cut b steps (subst_of subs) ds next).equalities)
     × (r ≡ place_from at (defs_cut b steps (subst_of subs) ds next))
@@ -77,10 +78,10 @@ unfoldable pub equations_cut : ℕ → Substitutions → List Equation → ℕ �
 equations_cut steps s es next = flatten_equations (alive (copy_propagate_equations steps s es)) next
 
 -- all definitions and all equations of the record with the bytes b, with the substitutions that an array has: cut
-abbrev pub record_defs : List ℕ → ℕ → List (Option Term) → ℕ → Cuts
+abbrev pub record_defs : List ℕ → ℕ → List Substitute → ℕ → Cuts
 record_defs b steps subs next = defs_cut b steps (subst_of subs) (module_of b).definitions next
 
-abbrev pub record_equations : List ℕ → ℕ → List (Option Term) → ℕ → Cuts
+abbrev pub record_equations : List ℕ → ℕ → List Substitute → ℕ → Cuts
 record_equations b steps subs next = equations_cut steps (subst_of subs) (module_of b).equations next
 
 -- which side of an equation is the left term, by the sides' roots: a left variable, else a right variable, else a left constant, else a right constant

@@ -1,7 +1,7 @@
 -- The parts of classify_defs together, and what the arrays after it say of its module. Assumes nothing.
 use Prim.Native.Nat.{ℕ, zero, suc, ◌+◌, ◌≤◌, ◌<◌}
 use mathlib.Core.Path.{◌≡◌, refl, sym, ap, ◌∙◌, fun_ext}
-use mathlib.Core.List.{List, [], ◌∷◌}
+use mathlib.Core.List.{List, [], ◌∷◌, ◌++◌}
 use mathlib.Core.Bool.{Bool, true, false, not, ◌&&◌, ◌||◌}
 use mathlib.Core.Logic.{⊎_elim}
 use native.Mathlib.Omega.{arith}
@@ -22,7 +22,8 @@ use Rattle.pass_trees.specs.declared.Usage.TheVariants.{Never, Constraint}
 use Rattle.pass_trees.specs.Passes.{member, keep_if, those, is_never, is_witness, counted}
 use Rattle.pass_trees.specs.Passes.{mark_used, override, classify_def, used_in, classified, usage, ids_from, classify_defs}
 use Rattle.pass_trees.proofs.Lists.{update_other}
-use Rattle.pass_classify.specs.Arrays.{usage_of, marked, Uses, Marks, provers_of, usages_of, marks_of, Classified}
+use Rattle.pass_trees.proofs.Loops.{those-append}
+use Rattle.pass_classify.specs.Arrays.{usage_of, marked, Uses, Marks, provers_of, used_of, usages_of, marks_of, Classified}
 use Rattle.pass_classify.proofs.Arrays.{table_is}
 
 -- ---- an id among those that pass a test
@@ -198,7 +199,19 @@ module _ {b : List ℕ} {m : List Usage} {p : List Bool} (c : Classified b m p) 
 
 -- ---- what the arrays say of the module after classify_defs
 
+pub used-first : (b : List ℕ) (d : Definition) (ds : List Definition) → used_of b (d ∷ ds) ≡ used_of b (d ∷ []) ++ used_of b ds
+unfolding used_of
+used-first b d ds = those-append _ (d ∷ []) ds
+
 module _ {b : List ℕ} {usages : List Usage} {provers : List Bool} (c : Classified b usages provers) where
+  -- of an id
+  pub says-used : (id : ℕ) {t : Bool} → is_never (usage_of usages id) ≡ t → is_never (usage (module_of b) id) ≡ t
+  says-used id e = sym (ap (λ (f : ℕ → Usage). is_never (f id)) c.used) ∙ e
+
+  pub says-prover : (id : ℕ) {t : Bool} → marked provers id ≡ t → member id (provers_of b) ≡ t
+  unfolding provers_of
+  says-prover id e = sym (ap (λ (f : ℕ → Bool). f id) c.proved) ∙ e
+
   -- its prover ids are the marked ones
   pub classified-provers : (classify_defs (module_of b)).provers ≡ ids_from (marked provers) 0 (next b)
   unfolding classify_defs module_of

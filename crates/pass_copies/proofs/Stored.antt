@@ -6,6 +6,7 @@ use mathlib.Core.Option.{none, some}
 use mathlib.Core.Logic.{⊎_elim}
 use Prim.Native.Nat.{ℕ, ◌≤◌, ◌<◌}
 use native.Mathlib.Omega.{arith}
+use lib.IntN.{ℤ}
 use lib.Dec.{eqb}
 use lib.ListN.{length, set, length-set, length-replicate, get_or-replicate}
 use lib.Seq.{get_or-set_same, get_or-set_other}
@@ -18,25 +19,29 @@ use Rattle.flat.specs.Record.{pick}
 use Rattle.constraint.specs.declared.Term.{Term}
 use Rattle.pass_trees.specs.Passes.{substituting}
 use Rattle.pass_trees.proofs.Lists.{update_same, update_other}
-use Rattle.pass_copies.specs.Substituted.{option_of, subst_of, no_substitutions, copied_of, put_term, put_root}
+use Rattle.pass_copies.specs.declared.Substitute.{Substitute}
+use Rattle.pass_copies.specs.Substituted.{term_of, standing, subst_of, no_substitutions, copied_of, put_term, put_root}
 use Rattle.pass_copies.proofs.Walks.{stands-past, stands-none}
 
 -- what the code leaves of the array, by the root of the copied right side
-module _ (m : List (Option Term)) (v : ℕ) {x : Option Term} where
+module _ (m : List Substitute) (v : ℕ) {x : Option Term} where
   pub put-none : x ≡ None → m ≡ put_root m v x
   unfolding put_root
   put-none q = sym (ap (put_root m v) q)
 
-  pub put-itself : (t : Term) → x ≡ Some t → t ≡ Term.Variable v → m ≡ put_root m v x
+  pub put-itself : (w : ℕ) → x ≡ Some (Term.Variable w) → w ≡ v → m ≡ put_root m v x
   unfolding put_root pick
-  put-itself t q h = rw (q, h, eq-eqb v v refl)
+  put-itself w q h = rw (q, h, eq-eqb v v refl)
 
-  pub put-other : (t : Term) → x ≡ Some t → (t ≡ Term.Variable v → ⊥) → set m v (Some t) ≡ put_root m v x
-  unfolding put_root put_term pick
-  put-other (Term.Variable w) q n = rw (q, ne_eqb w v (λ e. n (ap Term.Variable e)))
-  put-other (Term.Constant c) q n = rw q
+  pub put-variable : (w : ℕ) → x ≡ Some (Term.Variable w) → (w ≡ v → ⊥) → set m v (Substitute.Variable w) ≡ put_root m v x
+  unfolding put_root put_term standing pick
+  put-variable w q n = rw (q, ne_eqb w v n)
 
-pub put-length : (m : List (Option Term)) (v : ℕ) (x : Option Term) → length (put_root m v x) ≡ length m
+  pub put-constant : (c : ℤ) → x ≡ Some (Term.Constant c) → set m v (Substitute.Constant c) ≡ put_root m v x
+  unfolding put_root put_term standing
+  put-constant c q = rw q
+
+pub put-length : (m : List Substitute) (v : ℕ) (x : Option Term) → length (put_root m v x) ≡ length m
 unfolding put_root put_term pick
 put-length m v None = refl
 put-length m v (Some (Term.Constant c)) = simp length-set
@@ -47,12 +52,17 @@ put-length m v (Some (Term.Variable w)) = go (eqb w v)
     go false = simp length-set
 
 -- THE ARRAY after a definition says what the substitutions after it are
-module _ (m : List (Option Term)) (v : ℕ) (inside : v < length m) where
+module _ (m : List Substitute) (v : ℕ) (inside : v < length m) where
+  term-is : (t : Term) → term_of (standing t) ≡ some t
+  unfolding term_of standing
+  term-is (Term.Variable w) = refl
+  term-is (Term.Constant c) = refl
+
   term-says : (t : Term) → subst_of (put_term m v t) ≡ update (subst_of m) v (some t)
-  unfolding put_term subst_of option_of
+  unfolding put_term subst_of
   term-says t = fun_ext (λ w. ⊎_elim
-      (λ (e : w ≡ v). rw e (ap option_of (get_or-set_same {A = Option Term} m v (Some t) None inside) ∙ sym (update_same (subst_of m) v (some t))))
-      (λ (n : w ≡ v → ⊥). ap option_of (get_or-set_other {A = Option Term} m v w (Some t) None n) ∙ sym (update_other (subst_of m) v (some t) w n))
+      (λ (e : w ≡ v). rw e (ap term_of (get_or-set_same {A = Substitute} m v (standing t) Substitute.Itself inside) ∙ term-is t ∙ sym (update_same (subst_of m) v (some t))))
+      (λ (n : w ≡ v → ⊥). ap term_of (get_or-set_other {A = Substitute} m v w (standing t) Substitute.Itself n) ∙ sym (update_other (subst_of m) v (some t) w n))
       (cases_eq w v))
 
   pub root-says : (e : Flat) → subst_of (put_root m v (copied_of e)) ≡ substituting false v e (subst_of m)
@@ -68,11 +78,11 @@ module _ (m : List (Option Term)) (v : ℕ) (inside : v < length m) where
 
 pub none-length : length no_substitutions ≡ 65536
 unfolding no_substitutions
-none-length = length-replicate {A = Option Term} 65536 None
+none-length = length-replicate {A = Substitute} 65536 Substitute.Itself
 
 pub none_is : subst_of no_substitutions ≡ (λ _. none)
 unfolding no_substitutions
 none_is = fun_ext (λ v. ⊎_elim
-    (λ (l : v < 65536). stands-none no_substitutions v (get_or-replicate 65536 v None None l))
+    (λ (l : v < 65536). stands-none no_substitutions v (get_or-replicate 65536 v Substitute.Itself Substitute.Itself l))
     (λ (l : 65536 ≤ v). stands-past no_substitutions v (omega (arith, none-length)))
     (cases_lt v 65536))

@@ -6,27 +6,31 @@ use Prim.Native.Nat.{ℕ, suc, ◌-◌, ◌≤◌, ◌<◌}
 use native.Mathlib.Omega.{arith}
 use lib.IntN.{ℤ}
 use lib.ListN.{length, get_or, get_or-eq_default}
-use Rattle.std.specs.Prelude.{Option, None, Some}
 use Rattle.constraint.specs.declared.Term.{Term}
 use Rattle.pass_trees.specs.Passes.{walk}
 use Rattle.pass_trees.proofs.Loops.{walk_step, walk-resolved}
-use Rattle.pass_copies.specs.Substituted.{option_of, subst_of}
+use Rattle.pass_copies.specs.declared.Substitute.{Substitute}
+use Rattle.pass_copies.specs.Substituted.{term_of, subst_of}
 
 -- what stands for an id
-pub stands-past : (m : List (Option Term)) (v : ℕ) → length m ≤ v → subst_of m v ≡ none
-unfolding subst_of option_of
-stands-past m v h = ap option_of (get_or-eq_default m None {n = v} h)
+pub stands-past : (m : List Substitute) (v : ℕ) → length m ≤ v → subst_of m v ≡ none
+unfolding subst_of term_of
+stands-past m v h = ap term_of (get_or-eq_default m Substitute.Itself {n = v} h)
 
-pub stands-none : (m : List (Option Term)) (v : ℕ) → get_or m v None ≡ None → subst_of m v ≡ none
-unfolding subst_of option_of
-stands-none m v e = ap option_of e
+pub stands-none : (m : List Substitute) (v : ℕ) → get_or m v Substitute.Itself ≡ Substitute.Itself → subst_of m v ≡ none
+unfolding subst_of term_of
+stands-none m v e = ap term_of e
 
-pub stands-some : (m : List (Option Term)) (v : ℕ) (t : Term) → get_or m v None ≡ Some t → subst_of m v ≡ some t
-unfolding subst_of option_of
-stands-some m v t e = ap option_of e
+pub stands-variable : (m : List Substitute) (v : ℕ) {w : ℕ} → get_or m v Substitute.Itself ≡ Substitute.Variable w → subst_of m v ≡ some (Term.Variable w)
+unfolding subst_of term_of
+stands-variable m v e = ap term_of e
+
+pub stands-constant : (m : List Substitute) (v : ℕ) {c : ℤ} → get_or m v Substitute.Itself ≡ Substitute.Constant c → subst_of m v ≡ some (Term.Constant c)
+unfolding subst_of term_of
+stands-constant m v e = ap term_of e
 
 -- a walk to t from an id with `left` steps left
-module _ (m : List (Option Term)) (t : Term) (left id : ℕ) (from : walk left (subst_of m) (Term.Variable id) ≡ t) where
+module _ (m : List Substitute) (t : Term) (left id : ℕ) (from : walk left (subst_of m) (Term.Variable id) ≡ t) where
   pub ends-none : subst_of m id ≡ none → Term.Variable id ≡ t
   ends-none e = sym (walk-resolved left (subst_of m) (Term.Variable id) e) ∙ from
 
@@ -39,7 +43,5 @@ module _ (m : List (Option Term)) (t : Term) (left id : ℕ) (from : walk left (
       let s : suc (left - 1) ≡ left = omega arith in
       sym (walk_step (left - 1) (subst_of m) id u e) ∙ ap (λ (k : ℕ). walk k (subst_of m) (Term.Variable id)) s ∙ from
 
-  pub ends-some : (u : Term) → subst_of m id ≡ some u → 0 < left → {c : ℤ} → u ≡ Term.Constant c → u ≡ t
-  ends-some u e l {c} q =
-      let k : Term.Constant c ≡ t = sym (walk-resolved (left - 1) (subst_of m) (Term.Constant c) tt) ∙ turns (Term.Constant c) (rw q at e) l in
-      q ∙ k
+  pub ends-constant : {c : ℤ} → subst_of m id ≡ some (Term.Constant c) → 0 < left → Term.Constant c ≡ t
+  ends-constant {c} e l = sym (walk-resolved (left - 1) (subst_of m) (Term.Constant c) tt) ∙ turns (Term.Constant c) e l

@@ -18,10 +18,19 @@ use pass_classify::Classes;
 use pass_classify::record::Record;
 use records::flat_record::ID_COUNT;
 
-// The term that stands for an id, and by how many steps an id is followed at most.
+// What stands for an id. Kept an enum of its own: an Option of a Term takes 12 bytes in place of 8, and the pages more took an eighth of the time of a
+// small record.
+#[derive(Clone, Copy)]
+pub enum Substitute {
+    Itself,
+    Variable(u32),
+    Constant(i32),
+}
+
+// What stands for each id, and by how many steps an id is followed at most.
 #[derive(Drop)]
 pub struct Substitutions {
-    pub terms: [Option<Term>; ID_COUNT],
+    pub terms: [Substitute; ID_COUNT],
     pub steps: usize,
     pub ghost long: { length terms ≡ IDS } by { long-prop terms },
 }
@@ -32,7 +41,7 @@ impl Substitutions {
         ensures { (result.terms ≡ no_substitutions) × (result.steps ≡ steps) }
     {
         Substitutions {
-            terms: [None; ID_COUNT],
+            terms: [Substitute::Itself; ID_COUNT],
             steps,
         }
     }
@@ -41,7 +50,7 @@ impl Substitutions {
     pub fn clear(&mut self)
         ensures { (self.new.terms ≡ no_substitutions) × (self.new.steps ≡ self.old.steps) }
     {
-        self.terms = [None; ID_COUNT];
+        self.terms = [Substitute::Itself; ID_COUNT];
     }
 
     // The term that stands for id v.
@@ -55,13 +64,11 @@ impl Substitutions {
             if ID_COUNT <= i {
                 return Term::Variable(id);
             }
-            let Some(term) = self.terms[i] else {
-                return Term::Variable(id);
-            };
-            let Term::Variable(w) = term else {
-                return term;
-            };
-            id = w;
+            match self.terms[i] {
+                Substitute::Itself => return Term::Variable(id),
+                Substitute::Constant(c) => return Term::Constant(c),
+                Substitute::Variable(w) => id = w,
+            }
         }
         Term::Variable(id)
     }
@@ -85,11 +92,14 @@ impl Substitutions {
         ensures { (self.new.terms ≡ put_definition self.old.steps self.old.terms (record { id = d.id; right = tree_of record.now.bytes.now d.node }))
             × (self.new.steps ≡ self.old.steps) }
     {
-        let Some(term) = self.copy_expr(record, d.node) else {
-            return;
-        };
-        if term != Term::Variable(d.id) {
-            self.terms[d.id as usize] = Some(term);
+        match self.copy_expr(record, d.node) {
+            None => {}
+            Some(Term::Constant(c)) => self.terms[d.id as usize] = Substitute::Constant(c),
+            Some(Term::Variable(w)) => {
+                if w != d.id {
+                    self.terms[d.id as usize] = Substitute::Variable(w);
+                }
+            }
         }
     }
 }

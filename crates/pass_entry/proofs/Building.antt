@@ -28,7 +28,7 @@ use Rattle.pass_3ac.proofs.Joining.{Puts, Few, place_at, place-next}
 use Rattle.pass_3ac.proofs.Definitions.{few-defs}
 use Rattle.pass_3ac.proofs.Equations.{few-equations}
 use Rattle.pass_3ac.proofs.Trees.{copied-nodes}
-use Rattle.std.specs.Prelude.{Option}
+use Rattle.pass_copies.specs.declared.Substitute.{Substitute}
 use Rattle.constraint.specs.declared.Term.{Term}
 use Rattle.pass_trees.specs.declared.Usage.{Usage}
 use Rattle.pass_copies.specs.Substituted.{subst_of, no_substitutions, put_definitions}
@@ -164,13 +164,13 @@ unfolding module_of
 definitions-count b = length-rows _ (definitions b) 0
 
 -- what flatten_defs leaves, in the order of its promises
-abbrev pub DefsLeave : List ℕ → ℕ → List (Option Term) → List (Option Term) → List ℕ → List ℕ → ℕ → ℕ → Place → Type 0
+abbrev pub DefsLeave : List ℕ → ℕ → List Substitute → List Substitute → List ℕ → List ℕ → ℕ → ℕ → Place → Type 0
 DefsLeave b k m m' c c' at n r =
     (c' ≡ put_equalities c at (defs_cut b k (subst_of m) (module_of b).definitions n).equalities)
     × ((r ≡ place_from at (defs_cut b k (subst_of m) (module_of b).definitions n)) × (m' ≡ put_definitions k m (counted (module_of b))))
 
 -- what keep_defs leaves of the body, of the list and as its answer
-abbrev pub KeptLeave : List ℕ → ℕ → ℕ → List (Option Term) → List (Option Term) → List ℕ → List ℕ → List ℕ → List ℕ → Kept → Type 0
+abbrev pub KeptLeave : List ℕ → ℕ → ℕ → List Substitute → List Substitute → List ℕ → List ℕ → List ℕ → List ℕ → Kept → Type 0
 KeptLeave b k at m m' body body' list list' o =
     (body' ≡ put_kept body at 0 (kept_of b k (subst_of m) (module_of b).definitions))
     × ((list' ≡ put_nodes list 0 (kept_of b k (subst_of m) (module_of b).definitions))
@@ -194,7 +194,7 @@ module _ {b : List ℕ} {us : List Usage} {ps : List Bool} (r : Readable b) (c :
   room-definitions n e = record { words = omega (arith, first-long, start_small, nodes-few); ids = omega (arith, nodes-few, r.next_small) }
 
   -- after the definitions, which left the body body3 and the place p
-  module _ (n : ℕ) (en : n ≡ next b) (m0 m1 : List (Option Term)) (z : m0 ≡ no_substitutions) (body3 : List ℕ) (p : Place)
+  module _ (n : ℕ) (en : n ≡ next b) (m0 m1 : List Substitute) (z : m0 ≡ no_substitutions) (body3 : List ℕ) (p : Place)
       (d : DefsLeave b k m0 m1 body2 body3 start n p) where
     none-say : subst_of m0 ≡ none_yet b k
     none-say = ap subst_of z ∙ none_is
@@ -271,7 +271,7 @@ module _ {b : List ℕ} {us : List Usage} {ps : List Bool} (r : Readable b) (c :
       room-of-nodes g = record { long = omega (arith, nodes-few); few = omega (arith, nodes-few) }
 
       -- after the kept definitions, worked out again from no substitutions
-      module _ (body5 list list1 : List ℕ) (m2 m3 : List (Option Term)) (y : m2 ≡ no_substitutions) (o : Kept)
+      module _ (body5 list list1 : List ℕ) (m2 m3 : List Substitute) (y : m2 ≡ no_substitutions) (o : Kept)
           (w : KeptLeave b k q.at m2 m3 body4 body5 list list1 o) where
         kept-are : kept_of b k (subst_of m2) (module_of b).definitions ≡ kept_definitions b k
         kept-are = ap (λ (x : Substitutions). kept_of b k x (module_of b).definitions) (ap subst_of y ∙ none_is)

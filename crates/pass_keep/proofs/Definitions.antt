@@ -10,8 +10,8 @@ use Rattle.flat.specs.Trees.{Flat, Definition, tree_nodes, definitions_nodes}
 use Rattle.flat.specs.Record.{module_of}
 use Rattle.constraint.specs.Record.{KEPT-WORDS, root_from, next_from, definition_words, definitions_words, definitions_trees, nodes_from}
 use Rattle.pass_trees.specs.Passes.{member, keep_if, those, is_never, usage, Substitutions, copy_propagate_expr, copy_propagate_def, copy_propagate_defs}
-use Rattle.std.specs.Prelude.{Option}
-use Rattle.constraint.specs.declared.Term.{Term}
+use Rattle.pass_classify.proofs.Whole.{says-used, says-prover}
+use Rattle.pass_copies.specs.declared.Substitute.{Substitute}
 use Rattle.pass_trees.specs.declared.Usage.{Usage}
 use Rattle.pass_classify.specs.Arrays.{usage_of, marked, Classified}
 use Rattle.pass_copies.specs.Substituted.{subst_of, put_definition, put_definitions}
@@ -20,15 +20,6 @@ use Rattle.pass_keep.specs.declared.Kept.{Kept}
 use Rattle.pass_classify.specs.Arrays.{provers_of, used_of, counted_of}
 use Rattle.pass_keep.specs.Keeping.{kept_of, put_tree, put_kept, put_nodes, kept_from, Keeps, NodeRoom}
 use Rattle.pass_keep.proofs.Nodes.{copied-nodes, next-is}
-
--- what the arrays say of an id
-module _ {b : List ℕ} {u : List Usage} {p : List Bool} (c : Classified b u p) (id : ℕ) where
-  says-used : {t : Bool} → is_never (usage_of u id) ≡ t → is_never (usage (module_of b) id) ≡ t
-  says-used e = sym (ap (λ (f : ℕ → Usage). is_never (f id)) c.used) ∙ e
-
-  says-prover : {t : Bool} → marked p id ≡ t → member id (provers_of b) ≡ t
-  unfolding provers_of
-  says-prover e = sym (ap (λ (f : ℕ → Bool). f id) c.proved) ∙ e
 
 -- what is kept of it
 module _ (b : List ℕ) (steps : ℕ) (s : Substitutions) (d : Definition) where
@@ -79,9 +70,9 @@ after_plus : (base : ℕ) (e : Flat) (after : ℕ) → after ≡ next_from base 
 unfolding next_from root_from
 after_plus base e after q = omega arith
 
-module _ (b : List ℕ) (steps : ℕ) (ds : List Definition) (at base : ℕ) (m : List (Option Term)) (body list : List ℕ) where
+module _ (b : List ℕ) (steps : ℕ) (ds : List Definition) (at base : ℕ) (m : List Substitute) (body list : List ℕ) where
   -- nothing is kept
-  pub keeps-none : (m' : List (Option Term)) → kept_of b steps (subst_of m) ds ≡ [] → m' ≡ put_definitions steps m (counted_of b ds) →
+  pub keeps-none : (m' : List Substitute) → kept_of b steps (subst_of m) ds ≡ [] → m' ≡ put_definitions steps m (counted_of b ds) →
       Keeps b steps ds at base m body list m' body list (record { at = at; nodes = base })
   unfolding put_kept put_nodes kept_from definitions_words definitions_trees definitions_nodes set_words
   keeps-none m' e f =
@@ -95,7 +86,7 @@ module _ (b : List ℕ) (steps : ℕ) (ds : List Definition) (at base : ℕ) (m 
       }
 
   -- one definition is kept
-  pub keeps-one : (m' : List (Option Term)) {body' list' : List ℕ} {after : ℕ} (d : Definition) → kept_of b steps (subst_of m) ds ≡ d ∷ [] →
+  pub keeps-one : (m' : List Substitute) {body' list' : List ℕ} {after : ℕ} (d : Definition) → kept_of b steps (subst_of m) ds ≡ d ∷ [] →
       list' ≡ put_tree list base d.right → after ≡ next_from base d.right → body' ≡ set_words body at (definition_words d.id (after - 1)) →
       m' ≡ put_definitions steps m (counted_of b ds) → Keeps b steps ds at base m body list m' body' list' (record { at = at + KEPT-WORDS; nodes = after })
   unfolding put_kept put_nodes put_tree kept_from definitions_words definitions_trees definitions_nodes next_from root_from
@@ -114,12 +105,12 @@ module _ (b : List ℕ) (steps : ℕ) (ds : List Definition) (at base : ℕ) (m 
         subs-are = f;
       }
 
-module _ {b : List ℕ} {u : List Usage} {p : List Bool} (c : Classified b u p) (steps id : ℕ) (right : Flat) (at base : ℕ) (m : List (Option Term))
+module _ {b : List ℕ} {u : List Usage} {p : List Bool} (c : Classified b u p) (steps id : ℕ) (right : Flat) (at base : ℕ) (m : List Substitute)
     (body list : List ℕ) where
   abbrev definition : Definition
   definition = record { id = id; right = right }
 
-  abbrev Way : List (Option Term) → List ℕ → List ℕ → Kept → Type 0
+  abbrev Way : List Substitute → List ℕ → List ℕ → Kept → Type 0
   Way = Keeps b steps (definition ∷ []) at base m body list
 
   pub way-unused : is_never (usage_of u id) ≡ true → Way m body list (record { at = at; nodes = base })
@@ -128,7 +119,7 @@ module _ {b : List ℕ} {u : List Usage} {p : List Bool} (c : Classified b u p) 
       keeps-none b steps (definition ∷ []) at base m body list m (unused-kept b steps (subst_of m) definition n) (put-unused b steps m definition n)
 
   module _ (e : is_never (usage_of u id) ≡ false) where
-    pub way-other : (m' : List (Option Term)) → marked p id ≡ false → m' ≡ put_definition steps m definition →
+    pub way-other : (m' : List Substitute) → marked p id ≡ false → m' ≡ put_definition steps m definition →
         Way m' body list (record { at = at; nodes = base })
     way-other m' f w =
         let n = says-used c id e in
@@ -146,7 +137,7 @@ module _ {b : List ℕ} {u : List Usage} {p : List Bool} (c : Classified b u p) 
         (prover-kept b steps (subst_of m) definition n o) x y z (put-prover b steps m definition n o)
 
 -- the index after the root, of a tree that there is room for
-pub kept-root : (base steps : ℕ) (m : List (Option Term)) (right : Flat) (list : List ℕ) {after : ℕ} → NodeRoom (tree_nodes right) base list
+pub kept-root : (base steps : ℕ) (m : List Substitute) (right : Flat) (list : List ℕ) {after : ℕ} → NodeRoom (tree_nodes right) base list
     → after ≡ next_from base (copy_propagate_expr steps (subst_of m) right) → (0 < after) × (after ≤ 65536)
 kept-root base steps m right list r q =
     let e = q ∙ next-is base steps (subst_of m) right in

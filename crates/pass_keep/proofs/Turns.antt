@@ -10,28 +10,24 @@ use Rattle.words.proofs.Laws.{length-set_words, set_words-append}
 use Rattle.flat.specs.Trees.{Definition, tree_nodes, definitions_nodes}
 use Rattle.flat.specs.Layout.{definitions, nodes as count_nodes, definitions_offset, definition_entry}
 use Rattle.flat.specs.Record.{module_of}
-use Rattle.std.specs.Prelude.{Option}
-use Rattle.constraint.specs.declared.Term.{Term}
+use Rattle.pass_copies.specs.declared.Substitute.{Substitute}
 use Rattle.flat.specs.declared.entries.DefinitionEntry.{DefinitionEntry}
 use Rattle.constraint.specs.Record.{KEPT-WORDS, definitions_words, definitions_trees}
 use Rattle.constraint.proofs.Lengths.{length-definitions, length-definitions-trees, count-append, definitions-append, definitions-trees-append}
 use Rattle.pass_trees.specs.Passes.{member, those, classify_defs, copy_propagate, eliminate_dead_equalities}
 use Rattle.pass_trees.specs.Passes.{flatten_module_to_3ac, passes, Substitutions, copy_propagate_defs, after_defs}
 use Rattle.pass_trees.proofs.Loops.{those-append, copies-append}
+use Rattle.pass_classify.proofs.Whole.{used-first}
 use Rattle.pass_classify.proofs.Lists.{definitions_from, definitions-none, definitions-whole, definitions-more}
 use Rattle.pass_classify.specs.Readable.{tree_of}
 use Rattle.pass_copies.specs.Substituted.{subst_of, put_definitions}
-use Rattle.pass_copies.proofs.After.{put-none, put_first, Storable, definitions-say}
+use Rattle.pass_copies.proofs.After.{put-none, put_first, after-says}
 use Rattle.pass_keep.specs.declared.Kept.{Kept}
 use Rattle.pass_classify.specs.Arrays.{provers_of, used_of, counted_of}
 use Rattle.pass_keep.specs.Keeping.{kept_of, put_kept, put_nodes, kept_from, Keeps, NodeRoom, WordRoom}
 use Rattle.pass_keep.proofs.Definitions.{keeps-none, kept_small}
 
 -- ---- a list with one definition more
-
-used-first : (b : List ℕ) (d : Definition) (ds : List Definition) → used_of b (d ∷ ds) ≡ used_of b (d ∷ []) ++ used_of b ds
-unfolding used_of
-used-first b d ds = those-append _ (d ∷ []) ds
 
 module _ (b : List ℕ) (steps : ℕ) where
   -- the substitutions after definitions
@@ -45,11 +41,6 @@ module _ (b : List ℕ) (steps : ℕ) where
       ap (λ (l : List Definition). those (λ v. member v (provers_of b)) (copy_propagate_defs (provers_of b) steps s l)) (used-first b d ds)
       ∙ ap (those (λ v. member v (provers_of b))) (copies-append (provers_of b) steps (used_of b (d ∷ [])) (used_of b ds) s)
       ∙ those-append (λ v. member v (provers_of b)) (copy_propagate_defs (provers_of b) steps s (used_of b (d ∷ []))) _
-
-  after-says : (m : List (Option Term)) (d : Definition) {m1 : List (Option Term)} → length m ≡ 65536 → Storable d →
-      m1 ≡ put_definitions steps m (counted_of b (d ∷ [])) →
-      subst_of m1 ≡ after (subst_of m) (d ∷ [])
-  after-says m d long h q = ap subst_of q ∙ definitions-say b steps m (d ∷ []) long (h, tt)
 
 -- ---- places after a first part
 
@@ -92,12 +83,12 @@ kept-nil b steps s = refl
 
 -- ---- the loop
 
-module _ (b : List ℕ) (steps n at : ℕ) (m₀ : List (Option Term)) (body₀ list₀ : List ℕ) where
+module _ (b : List ℕ) (steps n at : ℕ) (m₀ : List Substitute) (body₀ list₀ : List ℕ) where
   abbrev kept : List Definition
   kept = kept_of b steps (subst_of m₀) (module_of b).definitions
 
   -- what is left from a state on, with room for it
-  pub record Going (to base k : ℕ) (m : List (Option Term)) (body list : List ℕ) : Type 0 where
+  pub record Going (to base k : ℕ) (m : List Substitute) (body list : List ℕ) : Type 0 where
     pub words : put_kept body to base (kept_of b steps (subst_of m) (definitions_from b k)) ≡ put_kept body₀ at 0 kept
     pub nodes : put_nodes list base (kept_of b steps (subst_of m) (definitions_from b k)) ≡ put_nodes list₀ 0 kept
     pub answer : kept_from to base (kept_of b steps (subst_of m) (definitions_from b k)) ≡ kept_from at 0 kept
@@ -124,7 +115,7 @@ module _ (b : List ℕ) (steps n at : ℕ) (m₀ : List (Option Term)) (body₀ 
         within = omega arith;
       }
 
-  module _ {to base k : ℕ} {m : List (Option Term)} {body list : List ℕ} (g : Going to base k m body list) where
+  module _ {to base k : ℕ} {m : List Substitute} {body list : List ℕ} (g : Going to base k m body list) where
     pub going_end : n ≡ definitions b → n ≤ k → Keeps b steps (module_of b).definitions at 0 m₀ body₀ list₀ m body list (record { at = to; nodes = base })
     going_end e l =
         let z : definitions_from b k ≡ [] = definitions-none b k (omega arith) in
@@ -158,7 +149,7 @@ module _ (b : List ℕ) (steps n at : ℕ) (m₀ : List (Option Term)) (body₀ 
         record { long = omega (arith, size, g.node-room.long); few = omega (arith, size, g.node-room.few) },
       )
 
-      pub going-turn : {m' : List (Option Term)} {body' list' : List ℕ} {a : Kept} → length m ≡ 65536
+      pub going-turn : {m' : List Substitute} {body' list' : List ℕ} {a : Kept} → length m ≡ 65536
           → Keeps b steps (first ∷ []) to base m body list m' body' list' a
           → Going a.at a.nodes (k + 1) m' body' list'
       unfolding kept_from
@@ -183,7 +174,7 @@ module _ (b : List ℕ) (steps n at : ℕ) (m₀ : List (Option Term)) (body₀ 
             words = pw ∙ sym (ap (put_kept body to base) both ∙ put-kept-append K₁ K₂ body to base) ∙ g.words;
             nodes = pn ∙ sym (ap (put_nodes list base) both ∙ put-nodes-append K₁ K₂ list base) ∙ g.nodes;
             answer = pa ∙ sym (ap (kept_from to base) both ∙ kept-from-append K₁ K₂ to base) ∙ g.answer;
-            after = ap (λ (x : List (Option Term)). put_definitions steps x (counted_of b (definitions_from b (k + 1)))) w.subs-are
+            after = ap (λ (x : List Substitute). put_definitions steps x (counted_of b (definitions_from b (k + 1)))) w.subs-are
                 ∙ sym (ap (λ (ds : List Definition). put_definitions steps m (counted_of b ds)) from_is
                 ∙ put_first b steps m first (definitions_from b (k + 1))) ∙ g.after;
             body-long = bl ∙ g.body-long;

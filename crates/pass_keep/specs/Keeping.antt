@@ -1,12 +1,12 @@
 -- What the code that keeps definitions answers, by the definitions of the passes and of the constraint record.
-use Rattle.std.specs.Prelude.{◌≡◌, List, ℕ, ◌+◌, ◌*◌, ◌≤◌, length, Option}
+use Rattle.std.specs.Prelude.{◌≡◌, List, ℕ, ◌+◌, ◌*◌, ◌≤◌, length}
 use Rattle.words.specs.Words.{set_words}
 use Rattle.flat.specs.Trees.{Flat, Definition, definitions_nodes}
 use Rattle.flat.specs.Record.{module_of}
-use Rattle.constraint.specs.declared.Term.{Term}
 use Rattle.constraint.specs.Record.{KEPT-WORDS, nodes_from, definitions_words, definitions_trees}
 use Rattle.pass_trees.specs.Passes.{member, those, Substitutions, copy_propagate_defs}
 use Rattle.pass_classify.specs.Arrays.{provers_of, used_of, counted_of}
+use Rattle.pass_copies.specs.declared.Substitute.{Substitute}
 use Rattle.pass_copies.specs.Substituted.{subst_of, put_definitions}
 use Rattle.pass_keep.specs.declared.Kept.{Kept}
 use Rattle.records.specs.FlatRecord.{IDS}
@@ -17,7 +17,7 @@ unfoldable pub kept_of : List ℕ → ℕ → Substitutions → List Definition 
 kept_of b steps s ds = those (λ v. member v (provers_of b)) (copy_propagate_defs (provers_of b) steps s (used_of b ds))
 
 -- those of the record with the bytes b, with the substitutions that an array has
-abbrev pub record_kept : List ℕ → ℕ → List (Option Term) → List Definition
+abbrev pub record_kept : List ℕ → ℕ → List Substitute → List Definition
 record_kept b steps subs = kept_of b steps (subst_of subs) (module_of b).definitions
 
 -- the list with the nodes of a tree from index `base` on, "children first, left to right": four words each
@@ -35,8 +35,8 @@ unfoldable pub kept_from : ℕ → ℕ → List Definition → Kept
 kept_from at base ds = record { at = at + KEPT-WORDS * length ds; nodes = base + definitions_nodes ds }
 
 -- what keeping definitions leaves, of substitutions, a body and a list: their later contents, and the code's answer
-pub record Keeps (b : List ℕ) (steps : ℕ) (ds : List Definition) (at base : ℕ) (subs : List (Option Term)) (body list : List ℕ)
-    (subs' : List (Option Term)) (body' list' : List ℕ) (r : Kept) : Type 0 where
+pub record Keeps (b : List ℕ) (steps : ℕ) (ds : List Definition) (at base : ℕ) (subs : List Substitute) (body list : List ℕ)
+    (subs' : List Substitute) (body' list' : List ℕ) (r : Kept) : Type 0 where
   pub body_is : body' ≡ put_kept body at base (kept_of b steps (subst_of subs) ds)
   pub list-is : list' ≡ put_nodes list base (kept_of b steps (subst_of subs) ds)
   pub answer-is : r ≡ kept_from at base (kept_of b steps (subst_of subs) ds)
