@@ -12,9 +12,9 @@ use Rattle.constraint_text.specs.Text.{number_text}
 use Rattle.constraint_text.proofs.Decimal.{signed-digits}
 
 -- the digits of the element of a number that went through 64 bits
-pub element-digits : (z e : ℤ) → mag z < 2 ^ 31 → mag e < 2 ^ 63 → e ≡ elem P (to_z w64 (of_z w64 (to_z w32 (of_z w32 z)))) →
+pub element-digits : (z x e : ℤ) → mag z < 2 ^ 31 → x ≡ to_z w32 (of_z w32 z) → mag e < 2 ^ 63 → e ≡ elem P (to_z w64 (of_z w64 x)) →
     signed_decimal (to_z w64 (of_z w64 e)) ≡ number_text (elem P z)
-element-digits z e f g h =
-    let narrow : SFits w32 z = record { sfits = f } in
-    let wide : SFits w64 (to_z w32 (of_z w32 z)) = subst⁻¹ (SFits w64) (to_z-of_z narrow) (record { sfits = omega (arith, f) }) in
-    ap signed_decimal (to_z-of_z {w = w64} (record { sfits = g })) ∙ signed-digits e g ∙ ap number_text (h ∙ ap (elem P) (to_z-of_z wide ∙ to_z-of_z narrow))
+element-digits z x e f k g h =
+    let same : x ≡ z = k ∙ to_z-of_z {w = w32} (record { sfits = f }) in
+    let wide : SFits w64 x = subst⁻¹ (SFits w64) same (record { sfits = omega (arith, f) }) in
+    ap signed_decimal (to_z-of_z {w = w64} (record { sfits = g })) ∙ signed-digits e g ∙ ap number_text (h ∙ ap (elem P) (to_z-of_z wide ∙ same))

@@ -35,7 +35,7 @@ fn push_term(line: &mut Line, term: Term)
             line.push_str("v");
             push_number(line, id);
         }
-        Term::Constant(number) => push_number(line, field::canonical(number as i64)),
+        Term::Constant(number) => push_number(line, field::canonical(i64::from(number))),
     }
 }
 
@@ -134,5 +134,5 @@ pub fn refused_line(number: u32, out: &mut [u8; LINE]) -> usize
     ensures value { (result ≡ length (refused_text number)) × (out.new ≡ set_bytes out.old 0 (refused_text number)) }
     ensures prefix_len { IsPrefixLen result out.new }
 {
-    put_line(out, "refused ", number as u64)
+    put_line(out, "refused ", u64::from(number))
 }

@@ -14,5 +14,5 @@ unfolding term_text
 returns-in-Constant-clause-value c =
     c.push_number-in-Constant.ensures.value
     ∙ ap (λ (t : List ℕ). c.args.line.now.bytes ++ t)
-    (element-digits c.in-Constant.number _ (search rules) c.canonical.type_inv c.canonical.ensures
+    (element-digits c.in-Constant.number _ _ (search rules) c.from.ensures c.canonical.type_inv c.canonical.ensures
     ∙ sym (ap term_text c.in-Constant.is))
