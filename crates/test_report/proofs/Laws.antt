@@ -1,57 +1,34 @@
 -- What holds of lines with counts in them. Assumes nothing.
-use Prim.Native.Nat.{ℕ, suc, ◌+◌, ◌≤◌, ◌<◌, min}
-use mathlib.Core.Path.{◌≡◌, refl, sym, subst, ◌∙◌}
-use mathlib.Core.Bool.{Bool, true, false}
-use mathlib.Core.List.{List, [], ◌∷◌, ◌++◌, append_assoc, append-nil}
+use Prim.Native.Nat.{ℕ, zero, suc, ◌+◌, ◌≤◌, ◌<◌}
+use mathlib.Core.Path.{◌≡◌, refl, ap, sym}
+use mathlib.Core.List.{List, [], ◌∷◌, ◌++◌, append_assoc}
 use native.Mathlib.Omega.{arith}
 use native.Mathlib.Numerals.{add-one}
-use lib.Dec.{ltb}
-use lib.ListN.{length, get_or, set, take, drop, length-append, length-set, drop_of_length-le, get_or-eq_default}
-use lib.Seq.{take-suc-set, take_all, take-suc, take-append-le, set_out, drop-cons, drop-drop, get_or-drop}
-use borrow.Author.Tests.{ltb-true, ltb-false, lt-ltb, le-ltb, eq-eqb, ne_eqb}
+use lib.ListN.{length, get_or, set, take, drop, drop_of_length-le, get_or-eq_default}
+use lib.Seq.{set_out, drop-cons, drop-drop, get_or-drop}
+use borrow.Author.Tests.{lt-ltb, le-ltb, eq-eqb, ne_eqb}
+use Rattle.std.specs.Prelude.{Result, Ok, Err}
+use Rattle.std.specs.Result.{IsOk, OnOk}
 use Rattle.constraint_text.specs.Text.{decimal}
-use Rattle.test_report.specs.Lines.{MARK, piece, takes, filled, Holds}
+use Rattle.test_report.specs.Lines.{MARK, piece, takes, filled}
 use Rattle.test_report.specs.Parts.{MANY, counted}
 
--- one byte more: there is room, or the line is full
-byte_at : (n : ℕ) (line t : List ℕ) (b : ℕ) (less : Bool) → ltb (length t) (length line) ≡ less → Holds n line t
-    → Holds (min (n + 1) (length line)) (set line n b) (t ++ (b ∷ []))
-byte_at n line t b true e (c, h) =
-    let few : length t < length line = ltb-true _ _ e in
-    let long : length (t ++ (b ∷ [])) ≡ length t + 1 = length-append t (b ∷ []) in
-    let same : n ≡ length t = omega arith in
-    let next : min (n + 1) (length line) ≡ suc n = omega arith in
-    let all : take (length line) t ≡ t = take_all (length line) t (omega arith) in
-    let more : take (length line) (t ++ (b ∷ [])) ≡ t ++ (b ∷ []) = take_all (length line) (t ++ (b ∷ [])) (omega arith) in
-    (rw length-set (omega arith), rw (length-set, next) (take-suc-set line n b (omega arith) ∙ rw (h, all, more)))
-byte_at n line t b false e (c, h) =
-    let many : length line ≤ length t = ltb-false _ _ e in
-    let long : length (t ++ (b ∷ [])) ≡ length t + 1 = length-append t (b ∷ []) in
-    let full : n ≡ length line = omega arith in
-    let next : min (n + 1) (length line) ≡ n = omega arith in
-    let kept : set line n b ≡ line = set_out line n b (omega arith) in
-    rw kept (omega arith, rw next (h ∙ sym (take-append-le (length line) t (b ∷ []) many)))
+-- a line that is cut, with more behind it
+pub cut-append : (n : ℕ) (t u : List ℕ) → take n (take n t ++ u) ≡ take n (t ++ u)
+cut-append zero t u = refl
+cut-append (suc n) [] u = refl
+cut-append (suc n) (x ∷ t) u = ap (λ (l : List ℕ). x ∷ l) (cut-append n t u)
 
-pub byte : (n m : ℕ) (line l t : List ℕ) (b : ℕ) → (m ≡ min (n + 1) (length line)) × (l ≡ set line n b) → Holds n line t → Holds m l (t ++ (b ∷ []))
-byte n m line l t b (e, f) h = rw (e, f) (byte_at n line t b (ltb (length t) (length line)) refl h)
+-- a text behind a line, as far as there is room
+pub room-append : (t u : List ℕ) (m : ℕ) → take (m + length t) (t ++ u) ≡ t ++ take m u
+room-append [] u m = let e : m + 0 ≡ m = omega arith in rw e
+room-append (x ∷ t) u m =
+    let e : m + suc (length t) ≡ suc (m + length t) = omega arith in rw e (ap (λ (l : List ℕ). x ∷ l) (room-append t u m))
 
--- a text behind what a line holds: none of it, one byte more, all of it
-pub text-none : (n : ℕ) (line t text : List ℕ) → Holds n line t → Holds n line (t ++ take 0 text)
-text-none n line t text h = rw (append-nil t) h
-
-pub text-next : (n m : ℕ) (line l t text : List ℕ) (k : ℕ) → k < length text
-    → (m ≡ min (n + 1) (length line)) × (l ≡ set line n (get_or text k 0)) → Holds n line (t ++ take k text) → Holds m l (t ++ take (k + 1) text)
-text-next n m line l t text k h made held =
-    let more : take (k + 1) text ≡ take k text ++ (get_or text k 0 ∷ []) = rw add-one (take-suc {A = ℕ} text k 0 h) in
-    rw (more, ← append_assoc) (byte n m line l (t ++ take k text) (get_or text k 0) made held)
-
-pub text-all : (n k : ℕ) (line t text : List ℕ) → length text ≤ k → Holds n line (t ++ take k text) → Holds n line (t ++ text)
-text-all n k line t text h held = rw (take_all k text h) at held
-
--- a text under another name
-pub renamed : (at n : ℕ) (line l x y : List ℕ) → x ≡ y → ((t : List ℕ) → Holds at line t → Holds n l (t ++ x))
-    → (t : List ℕ) → Holds at line t → Holds n l (t ++ y)
-renamed at n line l x y e = subst (λ (z : List ℕ). (t : List ℕ) → Holds at line t → Holds n l (t ++ z)) e
+-- what is said of an answer that is one
+pub on-ok : {T E P : Type 0} (r : Result T E) → IsOk r → OnOk r P → P
+on-ok (Ok x) o h = h
+on-ok (Err e) o h = cc
 
 -- a mark, and any other byte
 pub at_mark : (x n : ℕ) → x ≡ MARK → decimal n ≡ piece x n
@@ -83,13 +60,11 @@ pub filled-end : (text ns : List ℕ) (k j : ℕ) → length text ≤ k → fill
 unfolding filled
 filled-end text ns k j h = rw (drop_of_length-le {A = ℕ} text h)
 
-pub filled_more : (text ns t all : List ℕ) (k j n u : ℕ) → k < length text → n ≡ get_or ns j 0 → u ≡ takes (get_or text k 0)
-    → t ++ filled (drop k text) (drop j ns) ≡ all → (t ++ piece (get_or text k 0) n) ++ filled (drop (k + 1) text) (drop (j + u) ns) ≡ all
-filled_more text ns t all k j n u h e f g = rw (e, f, append_assoc, ← filled_next text ns k j h) g
-
-pub filled-all : (m : ℕ) (line text ns t : List ℕ) (k j : ℕ) → length text ≤ k → Holds m line t → t ++ filled (drop k text) (drop j ns) ≡ filled text ns
-    → Holds m line (filled text ns)
-filled-all m line text ns t k j h held e = subst (λ (l : List ℕ). Holds m line l) (sym (append-nil t) ∙ rw (← filled-end text ns k j h) e) held
+-- the next byte's piece behind a line, and then the rest
+pub filled_more : (n : ℕ) (line made text ns all : List ℕ) (k j u x : ℕ) → k < length text → x ≡ get_or ns j 0 → u ≡ takes (get_or text k 0)
+    → made ≡ take n (line ++ piece (get_or text k 0) x) → take n (line ++ filled (drop k text) (drop j ns)) ≡ all
+    → take n (made ++ filled (drop (k + 1) text) (drop (j + u) ns)) ≡ all
+filled_more n line made text ns all k j u x h e f g i = rw (g, cut-append, e, f, append_assoc, ← filled_next text ns k j h) i
 
 -- a count that is below the most, one that is not, and a place that is not there
 pub counted-more : (xs : List ℕ) (k : ℕ) → get_or xs k 0 < MANY → set xs k (get_or xs k 0 + 1) ≡ counted xs k

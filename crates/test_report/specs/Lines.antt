@@ -1,5 +1,5 @@
 -- Lines with counts in them, in ASCII.
-use Rattle.std.specs.Prelude.{ℕ, min, ◌≡◌, cond, List, [], ◌∷◌, ◌++◌, eqb, length, get_or, take, drop}
+use Rattle.std.specs.Prelude.{ℕ, cond, List, [], ◌∷◌, ◌++◌, eqb, get_or, drop}
 use Rattle.constraint_text.specs.Text.{decimal}
 
 -- a count stands for it: '#'
@@ -22,7 +22,3 @@ takes x = cond (eqb x MARK) 1 0
 unfoldable pub filled : List ℕ → List ℕ → List ℕ
 filled [] ns = []
 filled (x ∷ text) ns = piece x (get_or ns 0 0) ++ filled text (drop (takes x) ns)
-
--- a line holds a text in its first n bytes, as far as it goes
-abbrev pub Holds : ℕ → List ℕ → List ℕ → Type 0
-Holds n line text = (n ≡ min (length text) (length line)) × (take n line ≡ take (length line) text)

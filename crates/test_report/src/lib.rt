@@ -2,6 +2,7 @@
 // them. A read or a write that fails is said on standard error by the crate `streams`, and nothing is read or written after it.
 #![tactic(auto)]
 
+mod groups;
 mod line;
 
 ghost use Rattle.std.specs.Prelude.{◌≡◌, ◌≤◌, length, take, replicate, IfOk};
@@ -9,6 +10,7 @@ ghost use Rattle.streams.specs.Streams.{Whole};
 ghost use Rattle.test_report.specs.Parts.{Asked, Rest, Finish, counted, finished, verdict_of, run_kind, said_of, PARTS};
 ghost use Rattle.test_report.specs.Lines.{filled, LINE};
 
+pub use groups::{Groups, RUNS, Runs};
 use line::fill_line;
 use std::io;
 use streams::{Failed, close_output, read_standard, write_output};
@@ -68,9 +70,6 @@ pub fn said(word: u32) -> Result<u32, u32>
     }
 }
 
-// Room for every line of the test programs.
-const LINE: usize = 256;
-
 // More cases are not counted.
 const MANY: u64 = 10000000;
 
@@ -105,9 +104,8 @@ pub fn read_rest(rt: &(impl Input + Eprint), s: &mut [u8]) -> Result<(), Stop>
 pub fn tell(rt: &(impl Print + Eprint), text: &[u8], counts: &[u64]) -> Result<usize, Failed>
     ensures { Whole result (length (take LINE (filled text.now counts.now))) }
 {
-    let mut line = [0u8; LINE];
-    let n = fill_line(text, counts, &mut line);
-    write_output(rt, &mut io::writer(rt), &line[..n])
+    let line = fill_line(text, counts);
+    write_output(rt, &mut io::writer(rt), line.as_slice())
 }
 
 // The same for the last text: standard output is ended behind it.
@@ -176,7 +174,7 @@ impl<const KINDS: usize> Counts<KINDS> {
             tell(
                 rt,
                 b"group # run # differs: #\n",
-                &[group, run, answered as u64],
+                &[group, run, u64::from(answered)],
             )?;
         }
         Ok(())

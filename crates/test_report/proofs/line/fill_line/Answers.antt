@@ -1,34 +1,22 @@
--- `test_report::line::fill_line` meets its contract: the line holds what was made of the text up to a place, and with what the rest of the text makes with
--- the counts that are left it is all. Assumes nothing.
-use borrow.Author.Rules.{rules}
-use Prim.Native.Nat.{ℕ}
-use mathlib.Core.Path.{refl, sym}
-use mathlib.Core.List.{[], ◌++◌}
-use native.Mathlib.Omega.{arith}
-use lib.ListN.{length, get_or}
-use lib.Seq.{take-nil}
-use Rattle.streams.proofs.Laws.{prefix_len}
-use Rattle.test_report.specs.Lines.{piece}
-use Rattle.test_report.proofs.Laws.{filled_more, filled-all}
+use Rattle.std.proofs.Common.{◌≤◌, ◌∙◌, sym, length, arith}
+use mathlib.Core.List.{append-nil}
+use Rattle.std.proofs.lemmas.List.{take_all, length-take}
+use Rattle.test_report.specs.Lines.{LINE}
+use Rattle.test_report.proofs.Laws.{filled_more, filled-end}
 use Rattle.test_report.proofs.line.fill_line.Goals as goal
-
-pub loop-byte-init : goal.loop-byte-init
-loop-byte-init c = (([], (omega arith, sym (take-nil {A = ℕ} (length c.args.line.now))), refl), (refl, (omega arith, omega arith)))
 
 pub loop-byte-preserved : goal.loop-byte-preserved
 loop-byte-preserved c =
-    let text = c.args.text.now in
-    let x = get_or text c.loop-byte.byte-index 0 in
-    let t = c.loop-byte.invariant.0.0 in
+    let turn = c.loop-byte in
+    let made = c.push_next.ensures in
+    let taken = c.taken-next.ensures in
     let less = c.loop-byte-test.true in
-    let same = c.loop-byte.invariant.0.2 in
-    let more = filled_more text _ t _ c.loop-byte.byte-index c.loop-byte.next _ _ less c.count_at.ensures c.taken-next.ensures.0 same in
-    ((t ++ piece x c.count_at.result, c.put_next-end.ensures t c.loop-byte.invariant.0.1, more), search rules)
+    let same = filled_more LINE _ _ _ _ _ turn.byte-index turn.next _ _ less c.count_at.ensures taken.0 made turn.invariant.0 in
+    let few : length c.push_next.new.line.items ≤ LINE = rw (made, length-take) (omega arith) in
+    (same, (few, omega arith))
 
 pub returns : goal.returns
 returns c =
-    let text = c.args.text.now in
-    let given = c.args.counts.now in
-    let inv = c.loop-byte.invariant.0 in
-    let held = filled-all _ _ text given _ c.loop-byte.byte-index c.loop-byte.next c.loop-byte-test.false inv.1 inv.2 in
-    record { holds = held; prefix_len = prefix_len _ _ (omega (arith, held.0)) }
+    let end = filled-end c.args.text.now c.args.counts.now c.loop-byte.byte-index c.loop-byte.next c.loop-byte-test.false in
+    let all = take_all LINE c.loop-byte.line.items c.loop-byte.invariant.1.0 in
+    sym all ∙ rw (end, append-nil) at c.loop-byte.invariant.0
