@@ -29,6 +29,7 @@ const WORDS: usize = HEADER
 pub const BYTES: usize = 4 * WORDS + NAMES * NAME_BYTES;
 
 // The counts of the header, the word at which each list starts (the names' pairs start at word 5), and the byte at which the name text starts.
+// Kept as it is: one layout for this record and the flat one is no plainer, since its fields say other lists and their widths.
 #[derive(Clone, Copy)]
 pub struct Layout {
     pub names: usize,

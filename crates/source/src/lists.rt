@@ -26,6 +26,7 @@ pub struct DefinitionEntry {
 }
 
 // Name k.
+// Kept as it is: a form for this and definition_at is no plainer, since each names what its two words are.
 pub fn name_at(s: &[u8], k: usize) -> NameEntry
     requires { 4 * (HEADER + NAME-WORDS * k + NAME-WORDS) ≤ length s.now }
     ensures { result ≡ name_entry s.now k }
@@ -38,6 +39,7 @@ pub fn name_at(s: &[u8], k: usize) -> NameEntry
 }
 
 // The name of public k of those that start at word `at`.
+// Kept as it is: this, expression_at and a flat record's prover_at read one word; each names the list that its contract speaks of.
 pub fn public_at(s: &[u8], at: usize, k: usize) -> u32
     requires { 4 * (at + k + 1) ≤ length s.now }
     ensures { result ≡ public_at s.now at k }

@@ -4,7 +4,7 @@ use mathlib.Core.Path.{◌≡◌, refl, sym}
 use mathlib.Core.List.{List}
 use mathlib.Core.Bool.{Bool, true, and-true, and-false}
 use native.Mathlib.Omega.{arith}
-use Rattle.std.specs.Prelude.{Ok, Err}
+use Rattle.std.specs.Prelude.{Option, Some, Ok, Err}
 use Rattle.std.specs.Result.{IsErrAnd}
 use Rattle.marks.specs.declared.Uses.{Uses}
 use Rattle.marks.specs.Marks.{Adds}
@@ -13,7 +13,8 @@ use Rattle.marks.proofs.Indices.{every_more, every-fails, total-more}
 use Rattle.marks.proofs.Counted.{adds_none, adds-more}
 use Rattle.records.specs.declared.refusals.Refusal.{Refusal}
 use Rattle.source.specs.Children.{Child, Children}
-use Rattle.source.specs.Nodes.{three, child_fits, children_fit}
+use Rattle.source.specs.declared.Node.{Node}
+use Rattle.source.specs.Nodes.{three, children_of, child_fits, children_fit}
 use Rattle.source.specs.Uses.{child_uses, children_use}
 use Rattle.source_check.specs.Answer.{Checked}
 use Rattle.source_check.specs.Marks.{Judged}
@@ -56,6 +57,12 @@ module _ (n : Nodes) where
       → Uses-child r y m₁ m₂ → Uses-children r c m m₂
   unfolding children_fit children_use child_fits child_uses
   uses-two x y e i q j = rw e (judged-then _ _ i q (judged-as _ (sym (and-true _)) (λ l. omega arith) j))
+
+-- of a node that was read
+pub of_read : (n : Nodes) (k : ℕ) {o : Option Node} {x : Node} {r : Checked} {m m' : List Uses} → o ≡ Some x
+    → Judged r (children_fit n.bytes.now n.at n.names k (children_of (Some x))) m m' (children_use n.bytes.now n.at k (children_of (Some x)))
+    → Judged r (children_fit n.bytes.now n.at n.names k (children_of o)) m m' (children_use n.bytes.now n.at k (children_of o))
+of_read n k e j = rw e j
 
 -- ---- the loops over nodes, definitions and expressions: at their start, after one more that fits, and where one does not
 

@@ -23,9 +23,12 @@ module _ (b : List ℕ) (text n : ℕ) (h : names_fit b text n ≡ true) {j k : 
   pub same-no : (name_of b text j ≡ name_of b text k → ⊥) → same_name b text j k ≡ false
   same-no d = false_from_ne_true _ (λ e. d (same_text b text j k (named-at b text n j h p) (named-at b text n k h q) e))
 
-  pub same-is : (t : Bool) → t ≡ pointwise eqb (name_of b text j) (name_of b text k) → t ≡ same_name b text j k
+  same-is : (t : Bool) → t ≡ pointwise eqb (name_of b text j) (name_of b text k) → t ≡ same_name b text j k
   same-is true e = sym (same-yes ((bytes_decides _ _).0 (sym e)))
   same-is false e = sym (same-no (λ q. both_ways _ (sym e) ((bytes_decides _ _).1 q)))
+
+  pub compared : {x y : List ℕ} (t : Bool) → x ≡ name_of b text j → y ≡ name_of b text k → t ≡ pointwise eqb x y → t ≡ same_name b text j k
+  compared t u v e = same-is t (rw (u, v) at e)
 
   -- equal names have equal fingerprints
   pub prints-differ : (r : List ℕ) → Fingerprinted b text n r → (get_or r j 0 ≡ get_or r k 0 → ⊥) → same_name b text j k ≡ false

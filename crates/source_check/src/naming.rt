@@ -2,7 +2,7 @@
 ghost use Rattle.std.specs.Prelude.{◌≡◌, ◌+◌, ◌*◌, ◌≤◌, ◌<◌, ◌&&◌, true, length, leb};
 ghost use Rattle.std.specs.List.{list_all};
 ghost use Rattle.source.specs.Layout.{NAME-WORDS};
-ghost use Rattle.source.specs.Names.{end_of, name_of, name_fits, names_fit, same_name, name_new, names_differ, FIRST-BYTE, LAST-BYTE};
+ghost use Rattle.source.specs.Names.{end_of, name_of, name_fits, names_fit, name_new, names_differ, FIRST-BYTE, LAST-BYTE};
 ghost use Rattle.source_check.specs.Fingerprints.{Fingerprinted};
 ghost use Rattle.records.specs.SourceRecord.{HEADER, NAMES};
 
@@ -64,14 +64,6 @@ pub fn names_fit(s: &[u8], text: usize, n: usize) -> bool
 }
 
 impl Names<'_> {
-    // Whether two names are equal.
-    fn same(&self, j: usize, k: usize) -> bool
-        requires { (j < self.now.count) × (k < self.now.count) }
-        ensures { result ≡ same_name self.now.bytes.now self.now.text j k }
-    {
-        self.name(j) == self.name(k)
-    }
-
     // The fingerprint of each name at its index.
     fn fingerprints(&self) -> [u32; NAMES]
         ensures { Fingerprinted self.now.bytes.now self.now.text self.now.count result }
@@ -90,7 +82,7 @@ impl Names<'_> {
         ensures { result ≡ name_new self.now.bytes.now self.now.text k }
     {
         for j in 0..k {
-            if prints[j] == prints[k] && self.same(j, k) {
+            if prints[j] == prints[k] && self.name(j) == self.name(k) {
                 return false;
             }
         }

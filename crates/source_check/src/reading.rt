@@ -169,17 +169,15 @@ impl Nodes<'_> {
         }
     }
 
-    // Node k uses what its words name. A link by itself asks nothing: its chain does.
-    fn use_children(&self, k: usize, marks: &mut Marks<NODES>) -> Result<(), Refusal>
-        requires { k < self.now.count }
-        ensures { let node = entry_of self.now.bytes.now self.now.at k in
-            Judged result (children_fit self.now.bytes.now self.now.at self.now.names k (children_of node)) marks.old marks.new
-            (children_use self.now.bytes.now self.now.at k (children_of node)) }
+    // What the node behind the nodes names is used. A link by itself asks nothing: its chain does.
+    fn use_children(&self, node: Node, marks: &mut Marks<NODES>) -> Result<(), Refusal>
+        ensures { let children = children_of (Some node) in
+            Judged result (children_fit self.now.bytes.now self.now.at self.now.names self.now.count children) marks.old marks.new
+            (children_use self.now.bytes.now self.now.at self.now.count children) }
     {
-        let before = self.first(k);
-        match self.read(k)? {
-            Node::Expression(form) => before.use_form(form, marks),
-            Node::Pattern(shape) => before.use_shape(shape, marks),
+        match node {
+            Node::Expression(form) => self.use_form(form, marks),
+            Node::Pattern(shape) => self.use_shape(shape, marks),
             Node::Link(_, _, _) => Ok(()),
         }
     }
@@ -190,7 +188,8 @@ impl Nodes<'_> {
             (by_nodes self.now.bytes.now self.now.at self.now.count) }
     {
         for k in 0..self.count {
-            self.use_children(k, marks)?;
+            let node = self.read(k)?;
+            self.first(k).use_children(node, marks)?;
         }
         Ok(())
     }
