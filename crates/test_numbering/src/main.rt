@@ -9,7 +9,7 @@ use test_report::{
     CASES_TEXT, Cases, Counts, KINDS_OF_CASES, Stop, Verdict, read_part, read_rest, replay_all,
     said,
 };
-use words::word_at;
+use words::{count, word_at};
 
 // Bytes of a case's words, and room for every record and its entries.
 const HEAD: usize = 16;
@@ -24,23 +24,17 @@ const UNWRITTEN: u32 = 0;
 // Whether the first entries are these words, and the others unwritten.
 fn entries_are(entries: &[u32], words: &[u8]) -> bool {
     let n = words.len() / 4;
-    for (i, entry) in entries.iter().enumerate() {
+    entries.iter().enumerate().all(|(i, entry)| {
         let expected = if i < n { word_at(words, i) } else { UNWRITTEN };
-        if *entry != expected {
-            return false;
-        }
-    }
-    true
+        *entry == expected
+    })
 }
 
 // A record with its ids and publics.
 fn judge(image: &[u8], answer: u32, ids: &[u8], publics: &[u8]) -> Verdict {
     let expected = said(answer);
     let r = numbering::number_module_variables(image);
-    let got = match r.answer {
-        Ok(next) => Ok(next),
-        Err(refusal) => Err(refusal.number()),
-    };
+    let got = r.answer.map_err(|refusal| refusal.number());
     let same = entries_are(&r.ids, ids) && entries_are(&r.publics, publics);
     Verdict::of(got == expected && same, expected.is_ok())
 }
@@ -61,10 +55,10 @@ impl Cases<KINDS_OF_CASES> for Room {
     ) -> Result<(), Stop> {
         let mut head = [0u8; HEAD];
         read_part(rt, &mut head)?;
-        let length = word_at(&head, 0) as usize;
+        let length = count(&head, 0);
         let answer = word_at(&head, 1);
-        let ids = 4 * word_at(&head, 2) as usize;
-        let size = ids + 4 * word_at(&head, 3) as usize;
+        let ids = 4 * count(&head, 2);
+        let size = ids + 4 * count(&head, 3);
         if RECORD < length || ENTRIES < size {
             return Err(Stop::Broken);
         }

@@ -10,7 +10,7 @@ ghost use Rattle.std.specs.Prelude.{◌≤◌};
 use std::rt::Env;
 use streams::{Failed, open_standard};
 use test_report::{Cases, Counts, Stop, read_part, read_rest, replay_all, said};
-use words::{put_word, word_at};
+use words::{count, put_word, word_at};
 
 const BASE: u32 = 4294967295;
 
@@ -33,21 +33,13 @@ const RECORD: usize = 80000;
 fn judge(image: &[u8], answer: u32) -> usize {
     let expected = said(answer);
     let r = numbering::number_module_variables(image);
-    match r.answer {
-        Ok(next) => {
-            if expected == Ok(next) {
-                return ACCEPTED;
-            }
-        }
-        Err(refusal) => {
-            let number = refusal.number();
-            let none = r.ids.iter().all(|id| *id == 0) && r.publics.iter().all(|id| *id == 0);
-            if expected == Err(number) && none && (number as usize) < DIFFERENT {
-                return number as usize;
-            }
-        }
+    let none = r.ids.iter().chain(r.publics.iter()).all(|id| *id == 0);
+    let got = r.answer.map_err(|refusal| refusal.number());
+    match got {
+        Ok(_) if got == expected => ACCEPTED,
+        Err(number) if got == expected && none => (number as usize).min(DIFFERENT),
+        _ => DIFFERENT,
     }
-    DIFFERENT
 }
 
 // Word i becomes w; an index beyond the image says that no word does.
@@ -72,8 +64,8 @@ impl Records {
         let base = &self.base[..n];
         let image = &mut self.image[..];
         image[..n].copy_from_slice(base);
-        damage(image, word_at(head, 2) as usize, word_at(head, 3));
-        damage(image, word_at(head, 4) as usize, word_at(head, 5));
+        damage(image, count(head, 2), word_at(head, 3));
+        damage(image, count(head, 4), word_at(head, 5));
         judge(&image[..n], word_at(head, 1))
     }
 }
@@ -88,16 +80,16 @@ impl Cases<KINDS_OF_CASES> for Records {
     ) -> Result<(), Stop> {
         let mut head = [0u8; HEAD];
         read_part(rt, &mut head)?;
-        let first = word_at(&head, 0);
-        let n = if first == BASE {
-            word_at(&head, 1)
+        let is_base = word_at(&head, 0) == BASE;
+        let n = if is_base {
+            count(&head, 1)
         } else {
-            first
-        } as usize;
+            count(&head, 0)
+        };
         if RECORD < n {
             return Err(Stop::Broken);
         }
-        if first == BASE {
+        if is_base {
             return read_rest(rt, &mut self.base[..n]);
         }
         let kind = self.judge_damaged(&head, n);
