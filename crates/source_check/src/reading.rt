@@ -37,6 +37,7 @@ impl Sort {
     }
 }
 
+// The next node is the one with the index `count`: what it uses stands before it.
 impl Nodes<'_> {
     // Node k, which must be one.
     fn read(&self, k: usize) -> Result<Node, Refusal>
@@ -46,7 +47,7 @@ impl Nodes<'_> {
         self.entry(k).ok_or(Refusal::Entry)
     }
 
-    // x is used, which must be one of the nodes, of the sort.
+    // The next node uses x, which must be one of these, of the sort.
     fn use_node(&self, sort: Sort, x: usize, marks: &mut Marks<NODES>) -> Result<(), Refusal>
         ensures { Judged result (sort_fits self.now.bytes.now self.now.at sort self.now.count x) marks.old marks.new (same x) }
     {
@@ -60,7 +61,7 @@ impl Nodes<'_> {
         Ok(())
     }
 
-    // A name is used.
+    // The next node uses a name.
     fn use_name(&self, v: usize) -> Result<(), Refusal>
         ensures { result ≡ verdict Refusal.Entry (ltb v self.now.names) }
     {
@@ -71,7 +72,7 @@ impl Nodes<'_> {
         }
     }
 
-    // The link behind the nodes uses its item.
+    // The next node, a link, uses its item.
     fn use_item(&self, chain: Chain, x: usize, marks: &mut Marks<NODES>) -> Result<(), Refusal>
         ensures { Judged result (item_fits self.now.bytes.now self.now.at chain self.now.count x) marks.old marks.new (same x) }
     {
@@ -81,7 +82,7 @@ impl Nodes<'_> {
         }
     }
 
-    // The link behind the nodes uses its arm result, where its chain has such.
+    // The next node, a link, uses its arm result, where its chain has such.
     fn use_result(&self, chain: Chain, x: usize, marks: &mut Marks<NODES>) -> Result<(), Refusal>
         ensures { Judged result (result_fits self.now.bytes.now self.now.at chain self.now.count x) marks.old marks.new (result_uses chain x) }
     {
@@ -93,7 +94,7 @@ impl Nodes<'_> {
         }
     }
 
-    // A chain of links is used, from its first link on, with what they use. Each next link stands before the one that names it.
+    // The next node uses a chain of links, from its first link on, with what they use. Each next link stands before the one that names it.
     fn use_chain(&self, chain: Chain, first: usize, marks: &mut Marks<NODES>) -> Result<(), Refusal>
         ensures { Judged result (chain_fits self.now.bytes.now self.now.at chain self.now.count first) marks.old marks.new
             (chain_uses self.now.bytes.now self.now.at chain self.now.count first) }
@@ -117,7 +118,7 @@ impl Nodes<'_> {
         Err(Refusal::Entry)
     }
 
-    // The node behind the nodes is an expression of this form.
+    // The next node is an expression of this form.
     fn use_form(&self, form: Form, marks: &mut Marks<NODES>) -> Result<(), Refusal>
         ensures { Judged result (children_fit self.now.bytes.now self.now.at self.now.names self.now.count (form_children form)) marks.old marks.new
             (children_use self.now.bytes.now self.now.at self.now.count (form_children form)) }
@@ -150,7 +151,7 @@ impl Nodes<'_> {
         }
     }
 
-    // The node behind the nodes is a pattern of this shape.
+    // The next node is a pattern of this shape.
     fn use_shape(&self, shape: Shape, marks: &mut Marks<NODES>) -> Result<(), Refusal>
         ensures { Judged result (children_fit self.now.bytes.now self.now.at self.now.names self.now.count (shape_children shape)) marks.old marks.new
             (children_use self.now.bytes.now self.now.at self.now.count (shape_children shape)) }
@@ -169,7 +170,7 @@ impl Nodes<'_> {
         }
     }
 
-    // What the node behind the nodes names is used. A link by itself asks nothing: its chain does.
+    // The next node uses what its words name. A link by itself asks nothing: its chain does.
     fn use_children(&self, node: Node, marks: &mut Marks<NODES>) -> Result<(), Refusal>
         ensures { let children = children_of (Some node) in
             Judged result (children_fit self.now.bytes.now self.now.at self.now.names self.now.count children) marks.old marks.new
