@@ -4,7 +4,7 @@ use mathlib.Core.Path.{◌≡◌, refl, sym, ap, ◌∙◌}
 use mathlib.Core.List.{List}
 use mathlib.Core.Bool.{Bool, true, false, ◌&&◌, and-false}
 use native.Mathlib.Omega.{arith}
-use lib.Dec.{ltb}
+use lib.Dec.{leb, ltb}
 use borrow.Author.Tests.{eq-eqb, ne_eqb, lt-ltb, le-ltb}
 use Rattle.marks.specs.declared.Uses.{Uses}
 use Rattle.marks.specs.Marks.{Adds, used}
@@ -39,6 +39,11 @@ module _ (kind x y : ℕ) where
 
   pub children-none : (m : List Uses) → (kind ≡ 4 → ⊥) → (kind ≡ 5 → ⊥) → Adds m m (λ k. used_by k kind x y 0)
   children-none m n e = adds_none m _ (λ k. used-none k kind x y 0 n e)
+
+-- an infix node whose children stand before it
+pub infix-fits : (limit k kind x y z : ℕ) → kind ≡ 4 → x < k → ltb y k ≡ true → leb z 8 ≡ node_fits limit k kind x y z
+unfolding node_fits pick
+infix-fits limit k kind x y z e p q = rw (eq-eqb kind 4 e, lt-ltb x k p, q)
 
 -- a node that fits has its children before it
 pub children-below : (limit k : ℕ) (w : NodeEntry) {t : Bool} → t ≡ node_fits limit k w.kind w.a w.b w.c → t ≡ true → k < 16384

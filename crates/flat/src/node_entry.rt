@@ -33,13 +33,11 @@ impl From<NodeEntry> for Node {
 pub fn fits(n: NodeEntry, limit: usize, k: usize) -> bool
     ensures { result ≡ node_fits limit k n.kind n.a n.b n.c }
 {
-    let below = (n.a as usize) < k;
-    let alone = n.b == 0 && n.c == 0;
     match Kind::try_from(n.kind) {
-        Ok(Kind::Infix) => below && (n.b as usize) < k && n.c <= MODULO,
-        Ok(Kind::Negate) => below && alone,
-        Ok(Kind::Constant) => alone,
-        Ok(Kind::Variable) => (n.a as usize) < limit && alone,
+        Ok(Kind::Infix) => (n.a as usize) < k && (n.b as usize) < k && n.c <= MODULO,
+        Ok(Kind::Negate) => (n.a as usize) < k && n.b == 0 && n.c == 0,
+        Ok(Kind::Constant) => n.b == 0 && n.c == 0,
+        Ok(Kind::Variable) => (n.a as usize) < limit && n.b == 0 && n.c == 0,
         _ => false,
     }
 }
