@@ -50,10 +50,7 @@ pub fn entry(node: NodeEntry) -> Option<Node>
     let NodeEntry { kind, a, b, c } = node;
     let x = a as usize;
     let y = b as usize;
-    let Ok(kind) = Kind::try_from(kind) else {
-        return None;
-    };
-    match kind {
+    match Kind::try_from(kind).ok()? {
         Kind::Unit => blank(&[a, b, c], Node::Expression(Form::Unit)),
         Kind::Nil => blank(&[a, b, c], Node::Expression(Form::Nil)),
         Kind::Product => blank(&[c], Node::Expression(Form::Product(x, y))),
