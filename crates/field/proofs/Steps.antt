@@ -12,7 +12,8 @@ use lib.IntN.{ℤ, pos}
 pub use mir.Facts.{to_z-of_z}
 use Rattle.field.specs.Prime.{P}
 use Rattle.field.specs.Element.{res, centre, elem, inv}
-use Rattle.field.specs.Operations.{pick, sum, difference, product, opposite, inverse, quotient, checked_inverse, inverse_of, divide_of, divide_z_of, int_divide_of, modulo_of, exponentiate_of, raised, power, whole_quotient, checked_quotient}
+use Rattle.field.specs.Operations.{pick, sum, difference, product, opposite, inverse, quotient, raised, power, whole_quotient}
+use Rattle.field.specs.Operations.{checked_inverse, checked_quotient, inverse_of, divide_of, divide_z_of, int_divide_of, modulo_of, exponentiate_of}
 use native.Mathlib.Decide.{ℕ_discrete}
 use native.Mathlib.Nat.{pow-suc, mul-zero, pos_of_ne-zero}
 use borrow.Author.Tests.{eq-eqb, ne_eqb, ltb-true}
@@ -110,4 +111,19 @@ above-is a b e = go (elem P b) e
     go (negsuc n) e = absurd (subst T e tt)
 
 -- a signed number read back from its bits, and the operations by residues
-pub ruleset steps = (to_z-of_z, sum-is, difference-is, product-is, opposite-is, elem-is, inverse-is, divide-is, divide_z-is, int_divide-is, modulo-is, element-small, below-is, above-is)
+pub ruleset steps = (
+  to_z-of_z,
+  sum-is,
+  difference-is,
+  product-is,
+  opposite-is,
+  elem-is,
+  inverse-is,
+  divide-is,
+  divide_z-is,
+  int_divide-is,
+  modulo-is,
+  element-small,
+  below-is,
+  above-is,
+)

@@ -43,7 +43,9 @@ joined c = let a : ℕ = c.loop-left.product in
     ]
 
 pub loop-left-preserved : goal.loop-left-preserved
-loop-left-preserved c = ((joined (goal.at.loop-left-preserved c).Joined-left-eq1).0, mod-lt _ (omega arith), (joined (goal.at.loop-left-preserved c).Joined-left-eq1).1 ∙ c.loop-left.invariant.2)
+loop-left-preserved c =
+    let turn = joined (goal.at.loop-left-preserved c).Joined-left-eq1 in
+    (turn.0, mod-lt _ (omega arith), turn.1 ∙ c.loop-left.invariant.2)
 
 pub returns-clause-value : goal.returns-clause-value
 returns-clause-value c =
