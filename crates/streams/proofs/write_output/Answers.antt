@@ -13,3 +13,6 @@ joined a n xs =
 pub loop-written-preserved : goal.loop-written-preserved
 loop-written-preserved g c =
     (search rules, subst (Appends _ _) (joined _ _ _) (Appends-trans _ _ _ _ _ c.loop-written.invariant.1 c.in_ok-written.ensures.bytes))
+
+pub returns-clause-whole : goal.returns-clause-whole
+returns-clause-whole g c = omega arith
