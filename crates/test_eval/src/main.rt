@@ -1,28 +1,20 @@
-// Replays cases of evaluation: source records with the answers of the Rust, made by tools/evaluation_cases.py. A group on standard
-// input: the words record length, number of runs and length of the expected flat record; two words for each run, the length of the
-// store to lend and the expected answer (0 for accepted, else the number of the refusal); the record; the expected flat record.
-// A read or a write that fails is said on standard error.
+// Replays cases of evaluation: source records with the answers of the Rust, made by tools/evaluation_cases.py. Standard input is groups
+// (test_report/src/groups.rt), in which the record is a source record and a flat record is expected of it. Two words for each run: the
+// length of the store to lend and the expected answer. A read or a write that fails is said on standard error.
 #![tactic(auto)]
 
-use eval_entry::Answer;
 use eval_memory::{MOST_UNITS, UNIT_BYTES};
 use eval_write::FLAT_BYTES;
 use source::BYTES;
 use std::rt::Env;
 use streams::{Failed, open_standard};
-use test_report::{
-    CASES_TEXT, Cases, Counts, KINDS_OF_CASES, Stop, read_part, read_rest, replay_all,
-};
-use words::word_at;
+use test_report::{CASES_TEXT, Counts, Groups, RUNS, Runs, replay_all};
+use words::count;
 
-// Bytes of a group's head, and of each of its runs, of which there are at most eight.
-const HEAD: usize = 12;
-
+// Bytes of a run.
 const RUN: usize = 8;
 
-const RUNS: usize = 8 * RUN;
-
-// Room for every record, and for a store that is longer than can matter.
+// Room for a store that is longer than can matter.
 const STORE: usize = MOST_UNITS as usize * UNIT_BYTES + 32;
 
 // What stands in the store before a run.
@@ -31,85 +23,38 @@ const UNCLEARED: u8 = 90;
 // The answer of a run whose store does not fit here.
 const NONE: u32 = 4294967295;
 
-// A run with the first `held` bytes of the store: whether it came to what was wanted, 0 for accepted, else what was answered. An accepted
-// one gives the expected record.
-fn replay_run(
-    image: &[u8],
-    expected: &[u8],
-    store: &mut [u8],
-    held: usize,
-    wanted: u32,
-) -> Result<(), u32> {
-    if store.len() < held {
-        return Err(NONE);
-    }
-    let store = &mut store[..held];
-    store.fill(UNCLEARED);
-    let r = eval_entry::evaluate_source(image, store);
-    let (answered, same) = match r.answer {
-        Answer::Flat(n) => (0, n == expected.len() && r.bytes.starts_with(expected)),
-        Answer::Refused(number) => (number, number != 0),
-    };
-    let cleared = store.iter().all(|b| *b == 0);
-    if answered == wanted && same && cleared {
-        Ok(())
-    } else {
-        Err(answered)
-    }
-}
-
-// What is lent to the groups.
+// What is lent to a run.
 #[derive(Drop)]
 struct Lent {
-    image: [u8; BYTES],
-    expected: [u8; FLAT_BYTES],
     store: [u8; STORE],
-    runs: [u8; RUNS],
 }
 
-impl Cases<KINDS_OF_CASES> for Lent {
-    // The next group of the input.
-    fn replay<R: Input + Print + Eprint>(
-        &mut self,
-        rt: &R,
-        part: u64,
-        counts: &mut Counts<KINDS_OF_CASES>,
-    ) -> Result<(), Stop> {
-        let image = &mut self.image[..];
-        let expected = &mut self.expected[..];
-        let store = &mut self.store[..];
-        let runs = &mut self.runs[..];
-        let mut head = [0u8; HEAD];
-        read_part(rt, &mut head)?;
-        let length = word_at(&head, 0) as usize;
-        let size = RUN * (word_at(&head, 1) as usize);
-        let room = word_at(&head, 2) as usize;
-        if BYTES < length || FLAT_BYTES < room || RUNS < size {
-            return Err(Stop::Broken);
-        }
-        let (image, expected) = (&mut image[..length], &mut expected[..room]);
-        read_rest(rt, &mut runs[..size])?;
-        read_rest(rt, image)?;
-        read_rest(rt, expected)?;
-        for run in 0..size / RUN {
-            let held = word_at(runs, 2 * run) as usize;
-            let wanted = word_at(runs, 2 * run + 1);
-            let seen = replay_run(image, expected, store, held, wanted);
-            counts.count_run(rt, seen, wanted == 0, part, run as u64)?;
-        }
-        Ok(())
+impl Runs<RUN> for Lent {
+    // A run with the front of the store. An accepted one gives the expected record.
+    fn replay_run(&mut self, record: &[u8], expected: &[u8], run: &[u8; RUN]) -> (u32, bool) {
+        let Some(store) = self.store.get_mut(..count(run, 0)) else {
+            return (NONE, false);
+        };
+        store.fill(UNCLEARED);
+        let r = eval_entry::evaluate_source(record, store);
+        let (answered, same) = match r.answer {
+            Ok(n) => (0, n == expected.len() && r.bytes.starts_with(expected)),
+            Err(refusal) => (refusal.number(), true),
+        };
+        let cleared = store.iter().all(|b| *b == 0);
+        (answered, same && cleared)
     }
 }
 
 fn run(rt: &(impl Env + Input + Print + Eprint)) -> Result<u64, Failed> {
     open_standard(rt, "usage: test_eval < CASES\n")?;
-    let mut lent = Lent {
-        image: [0; BYTES],
+    let mut groups = Groups {
+        record: [0; BYTES],
         expected: [0; FLAT_BYTES],
-        store: [0; STORE],
-        runs: [0; RUNS],
+        runs: [[0; RUN]; RUNS],
+        lent: Lent { store: [0; STORE] },
     };
-    replay_all(rt, &mut lent, &mut Counts::of_verdicts(), CASES_TEXT)
+    replay_all(rt, &mut groups, &mut Counts::of_verdicts(), CASES_TEXT)
 }
 
 fn main(rt: HostRuntime) {
