@@ -5,11 +5,12 @@
 #![tactic(auto)]
 
 use answer_record::{at_most, lent_bytes, print_answer};
-use flatten_entry::buffers::{STORE_BYTES, output_buffer, record_buffer, store_buffer};
+use flatten_entry::buffers::{RECORD_BYTES, STORE_BYTES};
 use pass_entry::OUTPUT_BYTES;
 use std::io;
 use std::rt::Env;
 use streams::{Failed, has_argument, read_standard};
+use words::filled;
 
 // The program's own name counts as an argument.
 const MOST_ARGUMENTS: usize = 3;
@@ -20,15 +21,15 @@ fn flatten_input(
     store: &mut [u8],
     out: &mut [u8],
 ) -> Result<usize, Failed> {
-    let mut record = record_buffer();
+    let mut record: [u8; RECORD_BYTES] = filled(0);
     let n = read_standard(rt, &mut record)?;
     let answer = flatten_entry::flatten(&record[..n], store, out);
     print_answer(rt, &mut io::writer(rt), answer, out)
 }
 
 fn run(rt: &(impl Input + Print + Eprint), held: usize, room: usize) -> Result<usize, Failed> {
-    let mut store = store_buffer();
-    let mut out = output_buffer();
+    let mut store: [u8; STORE_BYTES] = filled(0);
+    let mut out: [u8; OUTPUT_BYTES] = filled(0);
     let bytes = at_most(held, STORE_BYTES);
     let most = at_most(room, OUTPUT_BYTES);
     flatten_input(rt, &mut store[..bytes], &mut out[..most])

@@ -21,7 +21,7 @@ use Rattle.pass_trees.specs.Statements.{SignedModule}
 use Rattle.pass_trees.proofs.Lists.{all_map}
 use Rattle.pass_trees.proofs.Agreement.{accepted}
 use Rattle.pass_trees.proofs.SignedConstants.{passes-keep-signed}
-use Rattle.pass_entry.specs.declared.Answer.TheVariants.{Written, Refused}
+use Rattle.std.specs.Prelude.{Result, Ok, Err}
 use Rattle.pass_entry.specs.Cut.{answer_for, output_for}
 use Rattle.numbering.specs.Numbering.{numbered}
 use Rattle.eval_trees.specs.Evaluation.{Evaluated, flat, refusal, evaluated}
@@ -35,10 +35,10 @@ use Rattle.flatten_entry.specs.Flatten.{flattened_read, flattened}
 use Rattle.flatten_entry.specs.Statement.{FlattenAgrees, FlattenNeverASecond, WrittenReadBack}
 use Rattle.flatten_entry.proofs.Answers.{refused-cut}
 
-written-path : (k n : ℕ) → Written k ≡ Written n → k ≡ n
+written-path : (k n : ℕ) → ◌≡◌ {A = Result ℕ ℕ} (Ok k) (Ok n) → k ≡ n
 written-path k n e = cc
 
-refused-written : (k n : ℕ) → Refused k ≡ Written n → ⊥
+refused-written : (k n : ℕ) → ◌≡◌ {A = Result ℕ ℕ} (Err k) (Ok n) → ⊥
 refused-written k n e = let o : ◌≡◌ {A = ℕ} 0 1 = cc in omega arith
 
 -- ---- constants fit 32 bits, so that the bytes can be read back
@@ -78,13 +78,13 @@ pub record Accepts (o : Outcome) (out : List ℕ) (n : ℕ) : Type 0 where
   pub bytes : take n (output_for out o) ≡ constraint_bytes list
   pub long : n ≡ length (constraint_bytes list)
 
-pub accepts : (o : Outcome) (out : List ℕ) (n : ℕ) → answer_for (length out) o ≡ Written n → Accepts o out n
+pub accepts : (o : Outcome) (out : List ℕ) (n : ℕ) → answer_for (length out) o ≡ Ok n → Accepts o out n
 unfolding answer_for output_for pick
 accepts (refused k) out n e = absurd (refused-written k n e)
 accepts (cut c) out n e = go (leb (length (constraint_bytes c)) (length out)) refl e
   where
     go : (t : Bool) → leb (length (constraint_bytes c)) (length out) ≡ t
-        → pick t (Written (length (constraint_bytes c))) (Refused 33) ≡ Written n → Accepts (cut c) out n
+        → pick {A = Result ℕ ℕ} t (Ok (length (constraint_bytes c))) (Err 33) ≡ Ok n → Accepts (cut c) out n
     go true l q =
         let z : length (constraint_bytes c) ≡ n = written-path _ n q in
         record { list = c; is_cut = refl; bytes = rw l (take_at (constraint_bytes c) (drop (length (constraint_bytes c)) out) n z); long = sym z }

@@ -17,9 +17,11 @@ use Rattle.numbering.specs.Numbering.{numbered}
 use Rattle.eval_trees.specs.Evaluation.{Evaluated, flat, refusal, evaluated}
 use Rattle.eval_trees.proofs.Made.{evaluated-is-made}
 use Rattle.flat.specs.Writer.{flat_bytes}
-use Rattle.eval_entry.specs.declared.Answer.{Answer}
+use Rattle.std.specs.Prelude.{Result, Ok, Err}
+use Rattle.records.specs.Refusals.{refusal_number}
+use Rattle.records.specs.declared.refusals.Refusal.{Refusal}
 use Rattle.eval_entry.specs.declared.FlatRecord.{FlatRecord}
-use Rattle.eval_entry.specs.Source.{capacity_of, evaluated_read, evaluated_source, answered}
+use Rattle.eval_entry.specs.Source.{capacity_of, evaluated_read, evaluated_source, answered, array_for, answer_of}
 use Rattle.eval_entry.proofs.Recorded.{next_fits, source-recorded, front-is}
 use Rattle.agreement.specs.Flattened.{passed, flattened_of}
 use Rattle.flatten_entry.specs.Flatten.{flattened_read, flattened}
@@ -27,13 +29,13 @@ use Rattle.flatten_entry.specs.Flatten.{flattened_read, flattened}
 flat-refusal : (f : FlatModule) (n : ℕ) → flat f ≡ refusal n → ⊥
 flat-refusal f n e = let z : ◌≡◌ {A = ℕ} 0 1 = cc in omega arith
 
-flat-refused : (n k : ℕ) → Answer.Flat n ≡ Answer.Refused k → ⊥
-flat-refused n k e = let z : ◌≡◌ {A = ℕ} 0 1 = cc in omega arith
+ok-refused : (n k : ℕ) → ◌≡◌ {A = Result ℕ ℕ} (Ok n) (Err k) → ⊥
+ok-refused n k e = let z : ◌≡◌ {A = ℕ} 0 1 = cc in omega arith
 
-flat-answers : (n k : ℕ) → Answer.Flat n ≡ Answer.Flat k → n ≡ k
-flat-answers n k e = cc
+ok-answers : (n k : ℕ) → ◌≡◌ {A = Result ℕ ℕ} (Ok n) (Ok k) → n ≡ k
+ok-answers n k e = cc
 
-refused-answers : (n k : ℕ) → Answer.Refused n ≡ Answer.Refused k → n ≡ k
+refused-answers : (n k : ℕ) → ◌≡◌ {A = Result ℕ ℕ} (Err n) (Err k) → n ≡ k
 refused-answers n k e = cc
 
 pub refused-cut : (n : ℕ) (c : ConstraintModule) → refused n ≡ cut c → ⊥
@@ -64,29 +66,33 @@ evaluated-small b len f e = go (source_of b) refl e
 
 -- ---- the answer
 
-module _ (b : List ℕ) (len : ℕ) (r : FlatRecord) (is : r ≡ answered (evaluated_source b len)) where
-  -- a flat record: it is the front of the array, and says what was evaluated
-  answered-flat : (n : ℕ) → r.answer ≡ Answer.Flat n
-      → (n ≤ BYTES) × (Readable (take n r.bytes) × (evaluated_source b len ≡ flat (module_of (take n r.bytes))))
-  unfolding answered
-  answered-flat n a = go (evaluated_source b len) refl is
-    where
-      go : (x : Evaluated) → evaluated_source b len ≡ x → r ≡ answered x
-          → (n ≤ BYTES) × (Readable (take n r.bytes) × (evaluated_source b len ≡ flat (module_of (take n r.bytes))))
-      go (flat m) e q =
-          let recorded = source-recorded b len m e in
-          let long = flat-answers n (length (flat_bytes m)) (sym a ∙ ap (λ (r : FlatRecord). r.answer) q) in
-          let front = front-is m n r.bytes long (ap (λ (r : FlatRecord). r.bytes) q) in
-          (rw long recorded.within, (rw front recorded.readable, e ∙ ap flat (sym (rw front recorded.says))))
-      go (refusal k) e q = absurd (flat-refused n k (sym a ∙ ap (λ (r : FlatRecord). r.answer) q))
+-- the code's answer and array are the evaluation's
+abbrev pub Evaluates : List ℕ → ℕ → FlatRecord → Type 0
+Evaluates b len r = (answer_of r.answer ≡ answered (evaluated_source b len)) × (r.bytes ≡ array_for (evaluated_source b len))
 
-  answered-refused : (n : ℕ) → r.answer ≡ Answer.Refused n → evaluated_source b len ≡ refusal n
-  unfolding answered
-  answered-refused n a = go (evaluated_source b len) refl is
+module _ (b : List ℕ) (len : ℕ) (r : FlatRecord) (is : Evaluates b len r) where
+  -- a flat record: it is the front of the array, and says what was evaluated
+  answered-flat : (n : ℕ) → r.answer ≡ Ok n
+      → (n ≤ BYTES) × (Readable (take n r.bytes) × (evaluated_source b len ≡ flat (module_of (take n r.bytes))))
+  unfolding answered array_for
+  answered-flat n a = go (evaluated_source b len) refl is.0 is.1
     where
-      go : (x : Evaluated) → evaluated_source b len ≡ x → r ≡ answered x → evaluated_source b len ≡ refusal n
-      go (flat m) e q = absurd (flat-refused _ n (sym (ap (λ (r : FlatRecord). r.answer) q) ∙ a))
-      go (refusal k) e q = e ∙ ap refusal (refused-answers k n (sym (ap (λ (r : FlatRecord). r.answer) q) ∙ a))
+      go : (x : Evaluated) → evaluated_source b len ≡ x → answer_of r.answer ≡ answered x → r.bytes ≡ array_for x
+          → (n ≤ BYTES) × (Readable (take n r.bytes) × (evaluated_source b len ≡ flat (module_of (take n r.bytes))))
+      go (flat m) e q h =
+          let recorded = source-recorded b len m e in
+          let long = ok-answers n (length (flat_bytes m)) (sym (ap answer_of a) ∙ q) in
+          let front = front-is m n r.bytes long h in
+          (rw long recorded.within, (rw front recorded.readable, e ∙ ap flat (sym (rw front recorded.says))))
+      go (refusal k) e q h = absurd (ok-refused n k (sym (ap answer_of a) ∙ q))
+
+  answered-refused : (x : Refusal) → r.answer ≡ Err x → evaluated_source b len ≡ refusal (refusal_number x)
+  unfolding answered
+  answered-refused x a = go (evaluated_source b len) refl is.0
+    where
+      go : (v : Evaluated) → evaluated_source b len ≡ v → answer_of r.answer ≡ answered v → evaluated_source b len ≡ refusal (refusal_number x)
+      go (flat m) e q = absurd (ok-refused _ (refusal_number x) (sym q ∙ ap answer_of a))
+      go (refusal k) e q = e ∙ ap refusal (refused-answers k (refusal_number x) (sym q ∙ ap answer_of a))
 
 -- a record: its bytes are within the array, the passes can read it, and what they give is meant
 pub record Passable (b : List ℕ) (len n : ℕ) (bytes : List ℕ) : Type 0 where
@@ -95,7 +101,7 @@ pub record Passable (b : List ℕ) (len n : ℕ) (bytes : List ℕ) : Type 0 whe
   pub small : module_nodes (module_of (take n bytes)) ≤ 16384
   pub gives : flattened b len ≡ cut_of (module_of (take n bytes))
 
-pub passable : (b : List ℕ) (len n : ℕ) (r : FlatRecord) → r ≡ answered (evaluated_source b len) → r.answer ≡ Answer.Flat n → Passable b len n r.bytes
+pub passable : (b : List ℕ) (len n : ℕ) (r : FlatRecord) → Evaluates b len r → r.answer ≡ Ok n → Passable b len n r.bytes
 unfolding passed
 passable b len n r is a =
     let w = answered-flat b len r is n a in
@@ -107,7 +113,7 @@ passable b len n r is a =
     }
 
 -- a refusal
-pub refused-gives : (b : List ℕ) (len n : ℕ) (r : FlatRecord) → r ≡ answered (evaluated_source b len) → r.answer ≡ Answer.Refused n
-    → flattened b len ≡ refused n
+pub refused-gives : (b : List ℕ) (len : ℕ) (x : Refusal) (r : FlatRecord) → Evaluates b len r → r.answer ≡ Err x
+    → flattened b len ≡ refused (refusal_number x)
 unfolding passed
-refused-gives b len n r is a = flattened-passed b len ∙ ap passed (answered-refused b len r is n a)
+refused-gives b len x r is a = flattened-passed b len ∙ ap passed (answered-refused b len r is x a)

@@ -130,14 +130,15 @@ answers (c ∷ cs) = c.answer ∷ answers cs
 -- EVERY CASE HOLDS
 pub cases-hold : worked-out cases ≡ answers cases
 unfolding answer_of flattened flattened_read flattened_of passed capacity_of update Passes.member Passes.keep_if Passes.those Passes.most Passes.is_never
-    Passes.is_witness Passes.mark_used Passes.used_in Passes.override Passes.classify_def Passes.classified Passes.usage Passes.ids_from Passes.classify_defs
-    Passes.follow Passes.walk Passes.to_expr Passes.copy_propagate_expr Passes.substituting Passes.copy_propagate_def Passes.after_def Passes.copy_propagate_defs
-    Passes.after_defs Passes.copy_propagate_equations Passes.copy_propagate Passes.same_number Passes.dead Passes.alive Passes.eliminate_dead_equalities Passes.is_one
-    Passes.is_zero Passes.when Passes.infix_op Passes.or_variable Passes.push_constraint_def Passes.copied Passes.flatten_expr_to_3ac Passes.cuts_of Passes.joined
-    Passes.flatten_def_to_3ac Passes.flatten_defs Passes.sides Passes.flatten_sides Passes.flatten_equations Passes.flatten_lists Passes.flatten_module_to_3ac
-    Passes.passes Passes.cuttable Passes.cuttable_expr Passes.cuttable_defs Passes.cuttable_equations Passes.counted Passes.unless Passes.fitting Passes.cut_of
-    word_at bytes_of every total rows pick Layout.counted listed offset_of length_of end_of printed name_fits names_fit same_bytes same_name name_new names_differ
-    name_of operator_of infix_for entry_for entry_of is_expression is_pattern expression_fits pattern_fits item_fits result_fits link_fits chain_fits child_fits children_fit
-    nodes_fit definitions_fit expressions_fit publics_fit same result_uses link_uses chain_uses child_uses children_use by_nodes by_definitions by_expressions expression_of
+    Passes.is_witness Passes.mark_used Passes.used_in Passes.override Passes.classify_def Passes.classified Passes.usage Passes.ids_from
+    Passes.classify_defs Passes.follow Passes.walk Passes.to_expr Passes.copy_propagate_expr Passes.substituting Passes.copy_propagate_def Passes.after_def
+    Passes.copy_propagate_defs Passes.after_defs Passes.copy_propagate_equations Passes.copy_propagate Passes.same_number Passes.dead Passes.alive
+    Passes.eliminate_dead_equalities Passes.is_one Passes.is_zero Passes.when Passes.infix_op Passes.or_variable Passes.push_constraint_def Passes.copied
+    Passes.flatten_expr_to_3ac Passes.cuts_of Passes.joined Passes.flatten_def_to_3ac Passes.flatten_defs Passes.sides Passes.flatten_sides
+    Passes.flatten_equations Passes.flatten_lists Passes.flatten_module_to_3ac Passes.passes Passes.cuttable Passes.cuttable_expr Passes.cuttable_defs
+    Passes.cuttable_equations Passes.counted Passes.unless Passes.fitting Passes.cut_of word_at bytes_of every total rows pick Layout.counted listed
+    offset_of length_of end_of printed name_fits names_fit same_bytes same_name name_new names_differ name_of operator_of infix_for entry_for entry_of
+    is_expression is_pattern expression_fits pattern_fits item_fits result_fits link_fits chain_fits child_fits children_fit nodes_fit definitions_fit
+    expressions_fit publics_fit same result_uses link_uses chain_uses child_uses children_use by_nodes by_definitions by_expressions expression_of
     pattern_of link_of grown tree definition_at expression_at module_of shaped used_once Record.unless source_of
 cases-hold = refl

@@ -31,7 +31,7 @@ use Rattle.constraint.specs.Record.{constraint_bytes}
 use Rattle.constraint.specs.Reading.{constraint_of}
 use Rattle.constraint.proofs.Lengths.{length-bytes}
 use Rattle.pass_trees.specs.Passes.{Outcome, refused}
-use Rattle.pass_entry.specs.declared.Answer.TheVariants.{Written}
+use Rattle.std.specs.Prelude.{Ok}
 use Rattle.pass_entry.specs.Cut.{answer_for, output_for}
 use Rattle.numbering.specs.Numbering.{found, same_text, named, registered}
 use Rattle.plain.specs.Plain.{is_plain, is_plain_body, is_arithmetic, is_free, is_plain_name, is_plain_pattern, is_plain_expr}
@@ -55,15 +55,16 @@ module-text = record {
 }
 
 pub is_read : source_of product ≡ Read.module-of module-text
-unfolding word_at bytes_of every total rows pick Layout.counted listed offset_of length_of end_of printed name_fits names_fit same_bytes same_name name_new names_differ
-    name_of operator_of infix_for entry_for entry_of is_expression is_pattern expression_fits pattern_fits item_fits result_fits link_fits chain_fits child_fits children_fit
-    nodes_fit definitions_fit expressions_fit publics_fit same result_uses link_uses chain_uses child_uses children_use by_nodes by_definitions by_expressions expression_of
-    pattern_of link_of grown tree definition_at expression_at module_of shaped used_once Record.unless source_of
+unfolding word_at bytes_of every total rows pick Layout.counted listed offset_of length_of end_of printed name_fits names_fit same_bytes same_name name_new
+    names_differ name_of operator_of infix_for entry_for entry_of is_expression is_pattern expression_fits pattern_fits item_fits result_fits link_fits
+    chain_fits child_fits children_fit nodes_fit definitions_fit expressions_fit publics_fit same result_uses link_uses chain_uses child_uses children_use
+    by_nodes by_definitions by_expressions expression_of pattern_of link_of grown tree definition_at expression_at module_of shaped used_once Record.unless
+    source_of
 is_read = refl
 
 is-plain : is_plain module-text ≡ true
-unfolding is_plain is_plain_body is_arithmetic is_free is_plain_name is_plain_pattern is_plain_expr is_equal is_plain_equation are_plain_publics are_plain_definitions
-    are_plain_equations found same_text named registered
+unfolding is_plain is_plain_body is_arithmetic is_free is_plain_name is_plain_pattern is_plain_expr is_equal is_plain_equation are_plain_publics
+    are_plain_definitions are_plain_equations found same_text named registered
 is-plain = refl
 
 is_cut : flattened product 1048560 ≡ product-cut
@@ -78,10 +79,10 @@ is-long : length (constraint_bytes product-list) ≡ 112
 unfolding definitions_nodes
 is-long = omega (arith, length-bytes product-list)
 
-is-written : (out : List ℕ) → 112 ≤ length out → answer_for (length out) (flattened product 1048560) ≡ Written 112
+is-written : (out : List ℕ) → 112 ≤ length out → answer_for (length out) (flattened product 1048560) ≡ Ok 112
 unfolding answer_for Flat.pick
 is-written out l =
-    ap (answer_for (length out)) is_cut ∙ rw (le-leb (length (constraint_bytes product-list)) (length out) (omega (arith, is-long))) (ap Written is-long)
+    ap (answer_for (length out)) is_cut ∙ rw (le-leb (length (constraint_bytes product-list)) (length out) (omega (arith, is-long))) (ap Ok is-long)
 
 -- the divisors: x
 not-zero : (ρ : ℕ → ℤ) → (Some (ρ 2) ≡ Some (pos 0) → ⊥) → NoDivisorZero module-text ρ

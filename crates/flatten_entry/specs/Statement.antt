@@ -1,6 +1,6 @@
 -- Demand 3, about the bytes: a plain source record and the constraint record that `flatten` writes for it say the same. Then what can be read back of any
 -- record, and what the programs rely on. Proved in proofs/ (Agreement, Long, Longest).
-use Rattle.std.specs.Prelude.{◌≡◌, true, List, ℕ, ◌≤◌, ◌<◌, ℤ, length, take}
+use Rattle.std.specs.Prelude.{◌≡◌, true, List, ℕ, ◌≤◌, ◌<◌, ℤ, length, take, Ok}
 use Rattle.field.specs.Prime.{P}
 use Rattle.field.specs.Element.{elem}
 use Rattle.source.specs.Trees.{Module}
@@ -9,7 +9,6 @@ use Rattle.constraint.specs.Trees.{ConstraintModule}
 use Rattle.constraint.specs.Record.{constraint_bytes}
 use Rattle.constraint.specs.Reading.{constraint_of}
 use Rattle.pass_trees.specs.Passes.{cut}
-use Rattle.pass_entry.specs.declared.Answer.TheVariants.{Written}
 use Rattle.pass_entry.specs.Cut.{answer_for, output_for}
 use Rattle.plain.specs.Plain.{is_plain_body}
 use Rattle.plain.specs.Meaning.{NoDivisorZero}
@@ -25,7 +24,7 @@ use Rattle.flatten_entry.specs.Buffers.{LONGEST-SOURCE, STORE-BYTES}
 abbrev pub FlattenAgrees : Type 0
 FlattenAgrees =
     (b out : List ℕ) (len n : ℕ) (m : Module) →
-    answer_for (length out) (flattened b len) ≡ Written n →
+    answer_for (length out) (flattened b len) ≡ Ok n →
     source_of b ≡ Read.module-of m →
     is_plain_body m ≡ true →
     let written = take n (output_for out (flattened b len)) in
@@ -39,7 +38,7 @@ FlattenAgrees =
 abbrev pub FlattenNeverASecond : Type 0
 FlattenNeverASecond =
     (b out : List ℕ) (len n : ℕ) (m : Module) →
-    answer_for (length out) (flattened b len) ≡ Written n →
+    answer_for (length out) (flattened b len) ≡ Ok n →
     source_of b ≡ Read.module-of m →
     is_plain_body m ≡ true →
     let written = take n (output_for out (flattened b len)) in
@@ -50,7 +49,7 @@ FlattenNeverASecond =
 abbrev pub WrittenReadBack : Type 0
 WrittenReadBack =
     (b out : List ℕ) (len n : ℕ) →
-    answer_for (length out) (flattened b len) ≡ Written n →
+    answer_for (length out) (flattened b len) ≡ Ok n →
     let written = take n (output_for out (flattened b len)) in
     (flattened b len ≡ cut (constraint_of written))
     × (constraint_bytes (constraint_of written) ≡ written)

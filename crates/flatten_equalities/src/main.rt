@@ -3,21 +3,23 @@
 #![tactic(auto)]
 
 use answer_text::print_answer;
-use flatten_entry::buffers::{output_buffer, record_buffer, store_buffer};
+use flatten_entry::buffers::{RECORD_BYTES, STORE_BYTES};
+use pass_entry::OUTPUT_BYTES;
 use std::io;
 use std::rt::{Env, Files};
 use streams::{Failed, open_input, read_opened};
+use words::filled;
 
 fn flatten_record(rt: &(impl Print + Eprint), record: &[u8]) -> Result<usize, Failed> {
-    let mut store = store_buffer();
-    let mut out = output_buffer();
+    let mut store: [u8; STORE_BYTES] = filled(0);
+    let mut out: [u8; OUTPUT_BYTES] = filled(0);
     let answer = flatten_entry::flatten(record, &mut store, &mut out);
     print_answer(rt, &mut io::writer(rt), answer, &out)
 }
 
 fn run<R: Env + Files + Input + Print + Eprint>(rt: &R) -> Result<usize, Failed> {
     let opened = open_input(rt, "usage: flatten_equalities [FILE]\n")?;
-    let mut record = record_buffer();
+    let mut record: [u8; RECORD_BYTES] = filled(0);
     let n = read_opened(rt, opened, &mut record)?;
     flatten_record(rt, &record[..n])
 }

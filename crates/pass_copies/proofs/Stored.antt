@@ -61,8 +61,12 @@ module _ (m : List Substitute) (v : ℕ) (inside : v < length m) where
   term-says : (t : Term) → subst_of (put_term m v t) ≡ update (subst_of m) v (some t)
   unfolding put_term subst_of
   term-says t = fun_ext (λ w. ⊎_elim
-      (λ (e : w ≡ v). rw e (ap term_of (get_or-set_same {A = Substitute} m v (standing t) Substitute.Itself inside) ∙ term-is t ∙ sym (update_same (subst_of m) v (some t))))
-      (λ (n : w ≡ v → ⊥). ap term_of (get_or-set_other {A = Substitute} m v w (standing t) Substitute.Itself n) ∙ sym (update_other (subst_of m) v (some t) w n))
+      (λ (e : w ≡ v).
+      let there = get_or-set_same {A = Substitute} m v (standing t) Substitute.Itself inside in
+      rw e (ap term_of there ∙ term-is t ∙ sym (update_same (subst_of m) v (some t))))
+      (λ (n : w ≡ v → ⊥).
+      let there = get_or-set_other {A = Substitute} m v w (standing t) Substitute.Itself n in
+      ap term_of there ∙ sym (update_other (subst_of m) v (some t) w n))
       (cases_eq w v))
 
   pub root-says : (e : Flat) → subst_of (put_root m v (copied_of e)) ≡ substituting false v e (subst_of m)

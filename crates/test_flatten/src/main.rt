@@ -5,7 +5,6 @@
 #![tactic(auto)]
 
 use eval_memory::{MOST_UNITS, UNIT_BYTES};
-use pass_entry::Answer;
 use source::BYTES;
 use std::rt::Env;
 use streams::{Failed, open_standard};
@@ -46,8 +45,8 @@ fn replay_run(
     store.fill(UNCLEARED);
     out.fill(UNWRITTEN);
     let (answered, same, written) = match flatten_entry::flatten(image, store, out) {
-        Answer::Written(n) => (0, n == expected.len() && out.starts_with(expected), n),
-        Answer::Refused(number) => (number, number != 0, 0),
+        Ok(n) => (0, n == expected.len() && out.starts_with(expected), n),
+        Err(refusal) => (refusal.number(), true, 0),
     };
     let untouched = out.iter().skip(written).all(|b| *b == UNWRITTEN);
     let cleared = store.iter().all(|b| *b == 0);
