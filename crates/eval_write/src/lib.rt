@@ -16,7 +16,7 @@ use flat::entries::{
     BYTES, DEFINITION_WORDS, EQUATION_WORDS, put_definition, put_equation, put_header,
 };
 use records::NODE_WORDS;
-use records::flat_record::{HEADER, IDS, PUBLICS};
+use records::flat_record::{HEADER, IDS};
 use trees::write_tree;
 use words::put_word;
 
@@ -25,20 +25,13 @@ pub const FLAT_BYTES: usize = BYTES;
 
 pub type FlatBytes = [u8; FLAT_BYTES];
 
-// Word i becomes w.
-fn put(out: &mut FlatBytes, i: usize, w: u32)
-    requires { i < WORDS }
-    ensures { out.new ≡ set_word out.old i w }
+// The public ids.
+fn write_publics(out: &mut FlatBytes, publics: &[u32])
+    requires { length publics.now ≤ PUBLICS }
+    ensures { out.new ≡ set_words out.old HEADER (firsts publics.now (length publics.now)) }
 {
-    put_word(out, i, w);
-}
-
-fn write_publics(out: &mut FlatBytes, publics: &[u32; PUBLICS], count: usize)
-    requires { count ≤ PUBLICS }
-    ensures { out.new ≡ set_words out.old HEADER (firsts publics.now count) }
-{
-    for i in 0..count {
-        put(out, HEADER + i, publics[i]);
+    for (i, id) in publics.iter().enumerate() {
+        put_word(out, HEADER + i, *id);
     }
 }
 
@@ -49,7 +42,7 @@ fn write_prover(out: &mut FlatBytes, memory: &Memory, to: usize, i: u32) -> usiz
         × ((result ≡ to + length (if_marked memory.now.marks i)) × (result ≤ to + 1)) }
 {
     if memory.is_prover(i) {
-        put(out, to, i);
+        put_word(out, to, i);
         return to + 1;
     }
     to
@@ -111,30 +104,28 @@ fn write_equations(
 }
 
 // The whole record: how many bytes it has.
-pub fn write_flat(
-    memory: &Memory,
-    publics: &[u32; PUBLICS],
-    count: u32,
-    out: &mut FlatBytes,
-) -> usize
-    requires { ((count ≤ PUBLICS) × (memory.now.state.provers ≤ LISTED)) × ((memory.now.state.definitions ≤ LISTED) × (memory.now.state.equations ≤ LISTED)) }
+pub fn write_flat(memory: &Memory, publics: &[u32], out: &mut FlatBytes) -> usize
+    requires { ((length publics.now ≤ PUBLICS) × (memory.now.state.provers ≤ LISTED))
+        × ((memory.now.state.definitions ≤ LISTED) × (memory.now.state.equations ≤ LISTED)) }
     ensures { (out.new ≡ (write_flat memory.now.fixed memory.now.store.now
-        memory.now.rows memory.now.marks memory.now.state publics.now count out.old).bytes)
-        × (result ≡ 4 * (nodes_from memory.now.state count + NODE-WORDS * (write_flat memory.now.fixed memory.now.store.now memory.now.rows memory.now.marks memory.now.state
-        publics.now count out.old).nodes)) }
+        memory.now.rows memory.now.marks memory.now.state publics.now (length publics.now) out.old).bytes)
+        × (result ≡ 4 * (nodes_from memory.now.state (length publics.now) + NODE-WORDS
+        * (write_flat memory.now.fixed memory.now.store.now memory.now.rows memory.now.marks memory.now.state
+        publics.now (length publics.now) out.old).nodes)) }
 {
     let s = memory.state;
+    let count = publics.len();
     put_header(
         out,
         s.next,
-        count,
+        count as u32,
         s.provers,
         s.definitions,
         s.equations,
         s.nodes,
     );
-    write_publics(out, publics, count as usize);
-    let provers = HEADER + count as usize;
+    write_publics(out, publics);
+    let provers = HEADER + count;
     write_provers(out, memory, provers);
     let list = provers + (s.provers as usize);
     let sides = list + DEFINITION_WORDS * (s.definitions as usize);

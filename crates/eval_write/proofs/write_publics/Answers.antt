@@ -9,7 +9,7 @@ unfolding firsts
 loop-i-init c = none_yet _ _ _
 
 pub loop-i-preserved : goal.loop-i-preserved
-loop-i-preserved c = firsts_more _ _ _ c.loop-i.invariant c.put.ensures
+loop-i-preserved c = firsts_more _ _ _ c.loop-i.invariant c.put_word.ensures
 
 pub returns : goal.returns
 unfolding firsts
