@@ -1,1 +1,2 @@
 pub mod Written
+pub mod Writers

@@ -1,24 +1,21 @@
 // The flat record, written from the evaluator's memory.
 #![tactic(auto)]
 
-mod trees;
+mod writer;
 
 ghost use Rattle.std.specs.Prelude.{◌≡◌, ◌+◌, ◌*◌, ◌≤◌, ◌<◌, length};
-ghost use Rattle.words.specs.Words.{set_word, set_words};
-ghost use Rattle.flat.specs.Layout.{LAST-PROVERS-AT, LAST-DEFINITIONS-AT, LAST-EQUATIONS-AT, LAST-NODES-AT, WORDS};
-ghost use Rattle.eval_write.specs.Written.{firsts, if_marked, marked, written, write_definitions, write_equations, nodes_from, write_flat};
-ghost use Rattle.records.specs.FlatRecord.{HEADER, IDS, LISTED, NODES, PUBLICS};
+ghost use Rattle.words.specs.Words.{set_words};
+ghost use Rattle.flat.specs.Layout.{LAST-PROVERS-AT, WORDS};
+ghost use Rattle.eval_write.specs.Written.{firsts, if_marked, marked, nodes_from, write_flat};
+ghost use Rattle.records.specs.FlatRecord.{HEADER, IDS, LISTED, PUBLICS};
 ghost use Rattle.records.specs.Kinds.{NODE-WORDS};
 
 use eval_memory::Memory;
-use eval_memory::columns::Row;
-use flat::entries::{
-    BYTES, DEFINITION_WORDS, EQUATION_WORDS, put_definition, put_equation, put_header,
-};
+use flat::entries::{BYTES, DEFINITION_WORDS, EQUATION_WORDS, put_header};
 use records::NODE_WORDS;
 use records::flat_record::{HEADER, IDS};
-use trees::write_tree;
 use words::put_word;
+use writer::Writer;
 
 // The longest flat record.
 pub const FLAT_BYTES: usize = BYTES;
@@ -59,51 +56,8 @@ fn write_provers(out: &mut FlatBytes, memory: &Memory, at: usize)
     }
 }
 
-// The definitions' ids and roots from word `list` on, and their nodes from word `at` on: how many nodes there are then.
-fn write_definitions(
-    memory: &Memory,
-    out: &mut FlatBytes,
-    at: usize,
-    list: usize,
-    count: u32,
-) -> u32
-    requires { (at ≤ LAST-NODES-AT) × ((list ≤ LAST-DEFINITIONS-AT) × (count ≤ LISTED)) }
-    ensures { (written result out.new
-        ≡ write_definitions memory.now.fixed memory.now.store.now at memory.now.rows list count (written 0 out.old)) × (result ≤ NODES) }
-{
-    let mut k = 0u32;
-    for d in 0..count {
-        k = write_tree(memory, out, at, memory.row(Row::DefinedNode, d), k);
-        let to = list + DEFINITION_WORDS * (d as usize);
-        put_definition(out, to, memory.row(Row::DefinedId, d), k.saturating_sub(1));
-    }
-    k
-}
-
-// The equations' roots and nodes, behind k nodes.
-fn write_equations(
-    memory: &Memory,
-    out: &mut FlatBytes,
-    at: usize,
-    list: usize,
-    count: u32,
-    from: u32,
-) -> u32
-    requires { ((at ≤ LAST-NODES-AT) × (from ≤ NODES)) × ((list ≤ LAST-EQUATIONS-AT) × (count ≤ LISTED)) }
-    ensures { (written result out.new
-        ≡ write_equations memory.now.fixed memory.now.store.now at memory.now.rows list count (written from out.old)) × (result ≤ NODES) }
-{
-    let mut k = from;
-    for e in 0..count {
-        let one = write_tree(memory, out, at, memory.row(Row::LeftSide, e), k);
-        k = write_tree(memory, out, at, memory.row(Row::RightSide, e), one);
-        let to = list + EQUATION_WORDS * (e as usize);
-        put_equation(out, to, one.saturating_sub(1), k.saturating_sub(1));
-    }
-    k
-}
-
 // The whole record: how many bytes it has.
+#[tactic(auto, unfolding(crate::specs::Written::write_flat, crate::specs::Written::write_ids))]
 pub fn write_flat(memory: &Memory, publics: &[u32], out: &mut FlatBytes) -> usize
     requires { ((length publics.now ≤ PUBLICS) × (memory.now.state.provers ≤ LISTED))
         × ((memory.now.state.definitions ≤ LISTED) × (memory.now.state.equations ≤ LISTED)) }
@@ -130,7 +84,13 @@ pub fn write_flat(memory: &Memory, publics: &[u32], out: &mut FlatBytes) -> usiz
     let list = provers + (s.provers as usize);
     let sides = list + DEFINITION_WORDS * (s.definitions as usize);
     let at = sides + EQUATION_WORDS * (s.equations as usize);
-    let one = write_definitions(memory, out, at, list, s.definitions);
-    let all = write_equations(memory, out, at, sides, s.equations, one);
-    4 * (at + NODE_WORDS * (all as usize))
+    let mut writer = Writer {
+        memory,
+        out,
+        at,
+        nodes: 0,
+    };
+    writer.definitions(list);
+    writer.equations(sides);
+    4 * (at + NODE_WORDS * (writer.nodes as usize))
 }
