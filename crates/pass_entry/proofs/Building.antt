@@ -11,6 +11,7 @@ use Rattle.words.specs.Words.{set_words}
 use Rattle.words.proofs.Laws.{set_words-append, length-set_words}
 use Rattle.flat.specs.Trees.{Definition, tree_nodes, definitions_nodes, equations_nodes, module_nodes}
 use Rattle.flat.specs.Layout.{public_at, next, publics, definitions}
+use Rattle.flat.specs.Layout.{publics as count_publics}
 use Rattle.flat.specs.Record.{rows, module_of}
 use Rattle.flat.specs.Readable.{Readable}
 use Rattle.records.specs.FlatRecord.{IDS, NODES, PUBLICS}
@@ -29,15 +30,14 @@ use Rattle.pass_3ac.proofs.Definitions.{few-defs}
 use Rattle.pass_3ac.proofs.Equations.{few-equations}
 use Rattle.pass_3ac.proofs.Trees.{copied-nodes}
 use Rattle.pass_copies.specs.declared.Substitute.{Substitute}
-use Rattle.constraint.specs.declared.Term.{Term}
 use Rattle.pass_trees.specs.declared.Usage.{Usage}
 use Rattle.pass_copies.specs.Substituted.{subst_of, no_substitutions, put_definitions}
 use Rattle.pass_copies.proofs.Stored.{none_is, none-length}
 use Rattle.pass_copies.proofs.After.{record-storable, definitions-say}
 use Rattle.pass_keep.specs.declared.Kept.{Kept}
 use Rattle.pass_keep.specs.Keeping.{kept_of, put_kept, put_nodes, kept_from, NodeRoom, WordRoom}
-use Rattle.pass_entry.specs.declared.body.Built.{Built}
-use Rattle.pass_entry.specs.Body.{BODY-BYTES, LIST-BYTES, body_words, built_of, put_body, put_list}
+use Rattle.pass_entry.specs.Sizes.{BODY-BYTES, LIST-BYTES}
+use Rattle.pass_entry.specs.Body.{body_words, Numbers, put_body, put_list}
 
 -- ---- the passes by their parts
 
@@ -67,11 +67,6 @@ module _ (b : List ℕ) (k : ℕ) where
   unfolding passes flatten_module_to_3ac eliminate_dead_equalities copy_propagate classify_defs flatten_lists joined defs_cut defs_after
       equations_cut provers_of used_of kept_of
   by_parts e = rw e
-
-built-same : {n n' s s' e e' k k' t t' : ℕ} → n ≡ n' → s ≡ s' → e ≡ e' → k ≡ k' → t ≡ t' →
-    ◌≡◌ {A = Built} (record { next = n; start = s; equalities = e; kept = k; nodes = t })
-    (record { next = n'; start = s'; equalities = e'; kept = k'; nodes = t' })
-built-same a b c d e = rw (a, b, c, d, e)
 
 -- ---- one list behind another
 
@@ -337,13 +332,16 @@ module _ {b : List ℕ} {us : List Usage} {ps : List Bool} (r : Readable b) (c :
         both_long = length-append (cut_definitions b k).equalities (cut_equations b k).equalities
 
         -- THE RECORD IS BUILT: the numbers, the body and the list
-        pub built : (record { next = q.next; start = start; equalities = q.at; kept = o.at; nodes = o.nodes } ≡ built_of (parts b k)) ×
-            ((body5 ≡ put_body body (parts b k)) × (list1 ≡ put_list list (parts b k)))
-        unfolding built_of put_body put_list
-        built =
-            let e : q.at ≡ length (module_of b).publics + length (provers_of b) + EQUALITY-WORDS * length
-            ((cut_definitions b k).equalities ++ (cut_equations b k).equalities) = omega (arith, third-place, second-place, start_is, both_long) in
-            let f : o.at ≡ length (module_of b).publics + length (provers_of b) + EQUALITY-WORDS * length
-            ((cut_definitions b k).equalities ++ (cut_equations b k).equalities) + KEPT-WORDS * length (kept_definitions b k) =
-            omega (arith, fourth-place, e) in
-            (built-same third-next start_is e f list-place, (body-written, list_written))
+        pub numbers : (publics : ℕ) → publics ≡ count_publics b → Numbers (parts b k) q.next publics start q.at o.at o.nodes
+        numbers publics e = record {
+          next-is = third-next;
+          publics-is = e ∙ sym publics-long;
+          start_is = start_is;
+          equalities-is = omega (arith, third-place, second-place, both_long);
+          kept-is = fourth-place;
+          nodes-is = list-place;
+        }
+
+        pub built : (body5 ≡ put_body body (parts b k)) × (list1 ≡ put_list list (parts b k))
+        unfolding put_body put_list
+        built = (body-written, list_written)

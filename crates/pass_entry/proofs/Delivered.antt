@@ -20,8 +20,8 @@ use Rattle.pass_entry.specs.declared.Need.{Need}
 use Rattle.records.specs.Refusals.{numbered}
 use Rattle.records.specs.declared.refusals.Refusal.{Refusal}
 use Rattle.std.specs.Prelude.{Ok, Err}
-use Rattle.pass_entry.specs.declared.body.Built.{Built}
-use Rattle.pass_entry.specs.Body.{body_words, built_of, Made}
+use Rattle.pass_entry.specs.declared.built.Built.{Built}
+use Rattle.pass_entry.specs.Body.{body_words, BuiltOf, Made}
 use Rattle.pass_entry.specs.Cut.{answer_for, output_for, need_of}
 
 -- ---- one piece behind another
@@ -72,7 +72,7 @@ in_parts c =
 
 module _ (c : ConstraintModule) (built : Built) (body list : List ℕ) (made : Made c built body list) where
   pub size_is : length (constraint_bytes c) ≡ 24 + 4 * built.kept + 16 * built.nodes
-  size_is = omega (arith, length-bytes c, made.start_is, made.equalities-is, made.kept-is, made.nodes-is)
+  size_is = omega (arith, length-bytes c, made.numbers.start_is, made.numbers.equalities-is, made.numbers.kept-is, made.numbers.nodes-is)
 
   -- no room
   pub not-delivered : (out : List ℕ) → length out < 24 + 4 * built.kept + 16 * built.nodes
@@ -80,19 +80,21 @@ module _ (c : ConstraintModule) (built : Built) (body list : List ℕ) (made : M
   unfolding answer_for output_for pick
   not-delivered out l = let z : length out < length (constraint_bytes c) = omega (arith, size_is) in (rw (lt-leb _ _ z), rw (lt-leb _ _ z))
 
-  module _ (publics equalities : ℕ) (e : publics ≡ length c.publics) (q : equalities ≡ (built.equalities - built.start) / EQUALITY-WORDS) where
+  module _ (equalities : ℕ) (q : equalities ≡ (built.equalities - built.start) / EQUALITY-WORDS) where
     -- the header as the code has it
     abbrev header : List ℕ
-    header = header_words built.next publics (built.start - publics) equalities ((built.kept - built.equalities) / KEPT-WORDS) built.nodes
+    header = header_words built.next built.publics (built.start - built.publics) equalities ((built.kept - built.equalities) / KEPT-WORDS) built.nodes
 
     header_is : header
         ≡ header_words c.next (length c.publics) (length c.provers) (length c.equalities) (length c.kept) (definitions_nodes c.kept)
     header_is =
-        let z1 : built.start - publics ≡ length c.provers = omega (arith, made.start_is) in
-        let z2 : equalities ≡ length c.equalities = omega (arith, made.equalities-is) in
-        let z3 : (built.kept - built.equalities) / KEPT-WORDS ≡ length c.kept = omega (arith, made.kept-is) in
-        let z0 = made.next-is in
-        let z4 = made.nodes-is in
+        let n = made.numbers in
+        let z0 = n.next-is in
+        let z1 = n.publics-is in
+        let z2 : built.start - built.publics ≡ length c.provers = omega (arith, n.start_is, n.publics-is) in
+        let z3 : equalities ≡ length c.equalities = omega (arith, n.equalities-is) in
+        let z4 : (built.kept - built.equalities) / KEPT-WORDS ≡ length c.kept = omega (arith, n.kept-is) in
+        let z5 = n.nodes-is in
         cc
 
     pub delivered : (size : ℕ) (out out1 out2 out3 : List ℕ) → size ≡ 24 + 4 * built.kept + 16 * built.nodes → size ≤ length out →
@@ -119,16 +121,12 @@ module _ (c : ConstraintModule) (built : Built) (body list : List ℕ) (made : M
             (ap₂ (λ (x y : List ℕ). x ++ y) (ap₂ (λ (x y : List ℕ). bytes_of x ++ y) header_is made.body_is) made.list-is ∙ sym (in_parts c))
 
 -- what it needs, by the numbers that were built
-pub needs-numbers : (c : ConstraintModule) {x : Built} {equalities bytes : ℕ} → x ≡ built_of c → equalities ≡ (x.equalities - x.start) / EQUALITY-WORDS →
+pub needs-numbers : (c : ConstraintModule) (x : Built) {equalities bytes : ℕ} → BuiltOf c x → equalities ≡ (x.equalities - x.start) / EQUALITY-WORDS →
     bytes ≡ 24 + 4 * x.kept + 16 * x.nodes → numbered (Ok (record { equalities = equalities; bytes = bytes })) ≡ need_of (cut c)
-unfolding built_of need_of
-needs-numbers c {x} {equalities} {bytes} q e s =
-    let start = ap (λ (y : Built). y.start) q in
-    let after = ap (λ (y : Built). y.equalities) q in
-    let kept = ap (λ (y : Built). y.kept) q in
-    let nodes = ap (λ (y : Built). y.nodes) q in
-    let e1 : equalities ≡ length c.equalities = omega (arith, start, after) in
-    let s1 : bytes ≡ length (constraint_bytes c) = omega (arith, length-bytes c, kept, nodes) in
+unfolding need_of
+needs-numbers c x {equalities} {bytes} n e s =
+    let e1 : equalities ≡ length c.equalities = omega (arith, n.start_is, n.equalities-is) in
+    let s1 : bytes ≡ length (constraint_bytes c) = omega (arith, length-bytes c, n.start_is, n.equalities-is, n.kept-is, n.nodes-is) in
     let z : ◌≡◌ {A = Need} (record { equalities = equalities; bytes = bytes })
     (record { equalities = length c.equalities; bytes = length (constraint_bytes c) }) = rw (e1, s1) in
     ap Ok z

@@ -1,2 +1,3 @@
+pub mod Sizes
 pub mod Body
 pub mod Cut

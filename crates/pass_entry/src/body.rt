@@ -1,30 +1,72 @@
-// The body of a constraint record, made in the port's own lists: its length is known only at the end, and a refused output stays untouched.
-ghost use Rattle.std.specs.Prelude.{◌≡◌, ◌≤◌, length};
+// A constraint record made in the port's own lists: its length is known only at the end, and a refused output stays untouched.
+ghost use Rattle.std.specs.Prelude.{◌≡◌, ◌+◌, ◌-◌, ◌*◌, ◌/◌, ◌≤◌, length};
 ghost use Rattle.flat.specs.Trees.{module_nodes};
 ghost use Rattle.flat.specs.Record.{module_of};
-ghost use Rattle.flat.specs.Readable.{Readable};
+ghost use Rattle.constraint.specs.Trees.{ConstraintModule};
+ghost use Rattle.constraint.specs.Record.{EQUALITY-WORDS};
 ghost use Rattle.pass_trees.specs.Passes.{passes, cut_of};
-ghost use Rattle.pass_entry.specs.Body.{built_of, put_body, put_list, passed_of, body_after, list_after, BODY-BYTES, LIST-BYTES};
+ghost use Rattle.pass_trees.specs.Passes.{cut as accepted};
+ghost use Rattle.pass_entry.specs.Body.{BuiltOf, Made, put_body, put_list, Passed, body_after, list_after};
+ghost use Rattle.pass_entry.specs.Sizes.{BODY-BYTES, LIST-BYTES};
+ghost use Rattle.pass_entry.specs.Cut.{answer_for, output_for};
 ghost use Rattle.records.specs.FlatRecord.{NODES};
 ghost use Rattle.records.specs.Refusals.{numbered};
 
-use super::lists::{put_provers, put_publics};
+use super::built::Built;
+use super::lists::{copy_to, put_provers, put_publics};
+use constraint::{EQUALITY_WORDS, HEADER, KEPT_WORDS};
+use flat::entries::put_header;
 use pass_3ac::{Place, flatten_defs, flatten_equations};
-use pass_classify::record::Record;
-use pass_classify::{Classes, classify_defs, cuttable};
+use pass_classify::{Classes, cuttable};
 use pass_copies::{Substitutions, used_definitions};
 use pass_keep::keep_defs;
+use records::NODE_WORDS;
 use records::flat_record::IDS;
 use records::refusals::Refusal;
 
-// The next id; the words of the body up to the equalities, up to the kept definitions, and in all; the nodes.
-#[derive(Clone, Copy)]
-pub struct Built {
-    pub next: u32,
-    pub start: usize,
-    pub equalities: usize,
-    pub kept: usize,
-    pub nodes: usize,
+const HEADER_BYTES: usize = 4 * HEADER;
+
+const NODE_BYTES: usize = 4 * NODE_WORDS;
+
+impl Built {
+    // The bytes of the record.
+    pub fn bytes(self) -> usize
+        ensures { result ≡ 24 + 4 * self.kept + 16 * self.nodes }
+    {
+        HEADER_BYTES + 4 * self.kept + NODE_BYTES * self.nodes
+    }
+
+    // Its equalities.
+    pub fn equality_count(self) -> usize
+        ensures { result ≡ (self.equalities - self.start) / EQUALITY-WORDS }
+    {
+        (self.equalities - self.start) / EQUALITY_WORDS
+    }
+
+    // The record that was built, put into the output where it fits; answers how many bytes it has.
+    pub fn deliver(self, body: &[u8], list: &[u8], out: &mut [u8]) -> Result<usize, Refusal>
+        requires { (4 * self.kept ≤ length body.now) × (16 * self.nodes ≤ length list.now) }
+        ensures { (c : ConstraintModule) → Made c self body.now list.now
+            → (numbered result ≡ answer_for (length out.old) (accepted c)) × (out.new ≡ output_for out.old (accepted c)) }
+    {
+        let size = self.bytes();
+        if out.len() < size {
+            return Err(Refusal::Output);
+        }
+        put_header(
+            out,
+            self.next,
+            self.publics as u32,
+            (self.start - self.publics) as u32,
+            self.equality_count() as u32,
+            ((self.kept - self.equalities) / KEPT_WORDS) as u32,
+            self.nodes as u32,
+        );
+        let bytes = 4 * self.kept;
+        copy_to(body, bytes, out, HEADER_BYTES);
+        copy_to(list, NODE_BYTES * self.nodes, out, HEADER_BYTES + bytes);
+        Ok(size)
+    }
 }
 
 // The passes' constraint module of a classified record, in the two lists. Not inlined: its substitutions don't stand beside what classifies.
@@ -32,7 +74,7 @@ pub struct Built {
 pub fn build(classes: &Classes, body: &mut [u8], list: &mut [u8]) -> Built
     requires few { module_nodes (module_of classes.now.record.bytes.now) ≤ NODES }
     requires body_len { (length body.old ≡ BODY-BYTES) × (length list.old ≡ LIST-BYTES) }
-    ensures value { result ≡ built_of (passes (module_of classes.now.record.bytes.now)) }
+    ensures value { BuiltOf (passes (module_of classes.now.record.bytes.now)) result }
     ensures body_after { body.new ≡ put_body body.old (passes (module_of classes.now.record.bytes.now)) }
     ensures list_after { list.new ≡ put_list list.old (passes (module_of classes.now.record.bytes.now)) }
 {
@@ -51,6 +93,7 @@ pub fn build(classes: &Classes, body: &mut [u8], list: &mut [u8]) -> Built
     let k = keep_defs(classes, &mut subs, body, e.at, list);
     Built {
         next: e.next,
+        publics: layout.publics,
         start,
         equalities: e.at,
         kept: k.at,
@@ -58,19 +101,18 @@ pub fn build(classes: &Classes, body: &mut [u8], list: &mut [u8]) -> Built
     }
 }
 
-// The passes on a readable record, up to its output: 22 before anything is built, 32 once the next id is known.
-pub fn run_passes(s: &[u8], body: &mut [u8], list: &mut [u8]) -> Result<Built, Refusal>
-    requires readable { Readable s.now × (module_nodes (module_of s.now) ≤ NODES) }
+// The passes on a classified record, up to its output: 22 before anything is built, 32 once the next id is known.
+pub fn run_passes(classes: &Classes, body: &mut [u8], list: &mut [u8]) -> Result<Built, Refusal>
+    requires few { module_nodes (module_of classes.now.record.bytes.now) ≤ NODES }
     requires body_len { (length body.old ≡ BODY-BYTES) × (length list.old ≡ LIST-BYTES) }
-    ensures value { numbered result ≡ passed_of (cut_of (module_of s.now)) }
-    ensures body_after { body.new ≡ body_after body.old (module_of s.now) }
-    ensures list_after { list.new ≡ list_after list.old (module_of s.now) }
+    ensures value { Passed (cut_of (module_of classes.now.record.bytes.now)) result }
+    ensures body_after { body.new ≡ body_after body.old (module_of classes.now.record.bytes.now) }
+    ensures list_after { list.new ≡ list_after list.old (module_of classes.now.record.bytes.now) }
 {
-    let classes = classify_defs(Record::new(s));
-    if !cuttable(&classes) {
+    if !cuttable(classes) {
         return Err(Refusal::Uncuttable);
     }
-    let built = build(&classes, body, list);
+    let built = build(classes, body, list);
     if IDS < built.next {
         return Err(Refusal::Ids);
     }

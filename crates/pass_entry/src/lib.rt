@@ -2,32 +2,25 @@
 #![tactic(auto)]
 
 mod body;
+mod built;
 mod lists;
 
-ghost use Rattle.std.specs.Prelude.{◌≡◌, ◌+◌, ◌-◌, ◌*◌, ◌/◌, ◌≤◌, length, replicate};
+ghost use Rattle.std.specs.Prelude.{◌≡◌, ◌≤◌, length, replicate};
 ghost use Rattle.flat.specs.Trees.{module_nodes};
 ghost use Rattle.flat.specs.Record.{module_of};
 ghost use Rattle.flat.specs.Readable.{Readable};
-ghost use Rattle.constraint.specs.Trees.{ConstraintModule};
-ghost use Rattle.constraint.specs.Record.{EQUALITY-WORDS};
 ghost use Rattle.pass_trees.specs.Passes.{cut_of};
-ghost use Rattle.pass_trees.specs.Passes.{cut as accepted};
-ghost use Rattle.pass_entry.specs.Body.{BODY-WORDS, Made, Fitting};
 ghost use Rattle.pass_entry.specs.Cut.{cut_record, answer_for, output_for, need_of};
 ghost use Rattle.records.specs.FlatRecord.{NODES};
 ghost use Rattle.records.specs.Refusals.{numbered};
 
-use body::{Built, run_passes};
-use constraint::{EQUALITY_WORDS, HEADER, KEPT_WORDS};
-use flat::entries::put_header;
+use body::run_passes;
 pub use lists::OUTPUT_BYTES;
-use lists::{copy_to, no_body, no_list};
-use records::NODE_WORDS;
+use lists::{BODY_BYTES, LIST_BYTES};
+use pass_classify::classify_defs;
+use pass_classify::record::Record;
 use records::refusals::Refusal;
-
-const HEADER_BYTES: usize = 4 * HEADER;
-
-const NODE_BYTES: usize = 4 * NODE_WORDS;
+use words::filled;
 
 // What the constraint record of a flat record needs.
 #[derive(Clone, Copy)]
@@ -36,67 +29,16 @@ pub struct Need {
     pub bytes: usize,
 }
 
-// The bytes of the record that was built.
-fn bytes_of(built: Built) -> usize
-    requires { (built.kept ≤ BODY-WORDS) × (built.nodes ≤ NODES) }
-    ensures { result ≡ 24 + 4 * built.kept + 16 * built.nodes }
-{
-    HEADER_BYTES + 4 * built.kept + NODE_BYTES * built.nodes
-}
-
-// Its equalities.
-fn equalities_of(built: Built) -> usize
-    requires { built.start ≤ built.equalities }
-    ensures { result ≡ (built.equalities - built.start) / EQUALITY-WORDS }
-{
-    (built.equalities - built.start) / EQUALITY_WORDS
-}
-
-// The record that was built, put into the output where it fits; answers how many bytes it has.
-fn deliver(
-    built: Built,
-    publics: usize,
-    body: &[u8],
-    list: &[u8],
-    out: &mut [u8],
-) -> Result<usize, Refusal>
-    requires { Fitting built publics body.now list.now }
-    ensures { (c : ConstraintModule) → Made c built body.now list.now → publics ≡ length c.publics
-        → (numbered result ≡ answer_for (length out.old) (accepted c)) × (out.new ≡ output_for out.old (accepted c)) }
-{
-    let start = built.start;
-    let equalities = equalities_of(built);
-    let kept = built.kept;
-    let nodes = built.nodes;
-    let size = bytes_of(built);
-    if out.len() < size {
-        return Err(Refusal::Output);
-    }
-    put_header(
-        out,
-        built.next,
-        publics as u32,
-        (start - publics) as u32,
-        equalities as u32,
-        ((kept - built.equalities) / KEPT_WORDS) as u32,
-        nodes as u32,
-    );
-    copy_to(body, 4 * kept, out, HEADER_BYTES);
-    copy_to(list, NODE_BYTES * nodes, out, HEADER_BYTES + 4 * kept);
-    Ok(size)
-}
-
 // The passes on a readable record, lent or made by evaluation.
 pub fn passes(s: &[u8], out: &mut [u8]) -> Result<usize, Refusal>
     requires { Readable s.now × (module_nodes (module_of s.now) ≤ NODES) }
     ensures { (numbered result ≡ answer_for (length out.old) (cut_of (module_of s.now)))
         × (out.new ≡ output_for out.old (cut_of (module_of s.now))) }
 {
-    let layout = flat::layout_of(s);
-    let mut body = no_body();
-    let mut list = no_list();
-    let built = run_passes(s, &mut body, &mut list)?;
-    deliver(built, layout.publics, &body, &list, out)
+    let mut body: [u8; BODY_BYTES] = filled(0);
+    let mut list: [u8; LIST_BYTES] = filled(0);
+    let built = run_passes(&classify_defs(Record::new(s)), &mut body, &mut list)?;
+    built.deliver(&body, &list, out)
 }
 
 // What a lent flat record needs, or its refusal; nothing is written.
@@ -104,12 +46,12 @@ pub fn measure(s: &[u8]) -> Result<Need, Refusal>
     ensures { numbered result ≡ need_of (cut_record s.now) }
 {
     flat::check_flat(s)?;
-    let mut body = no_body();
-    let mut list = no_list();
-    let built = run_passes(s, &mut body, &mut list)?;
+    let mut body: [u8; BODY_BYTES] = filled(0);
+    let mut list: [u8; LIST_BYTES] = filled(0);
+    let built = run_passes(&classify_defs(Record::new(s)), &mut body, &mut list)?;
     Ok(Need {
-        equalities: equalities_of(built),
-        bytes: bytes_of(built),
+        equalities: built.equality_count(),
+        bytes: built.bytes(),
     })
 }
 

@@ -6,7 +6,6 @@ ghost use Rattle.flat.specs.Layout.{next, publics};
 ghost use Rattle.flat.specs.Record.{module_of};
 ghost use Rattle.pass_trees.specs.Passes.{ids_from};
 ghost use Rattle.pass_classify.specs.Arrays.{marked};
-ghost use Rattle.pass_entry.specs.Body.{no_body, no_list};
 
 use constraint::{EQUALITY_WORDS, HEADER, KEPT_WORDS};
 use flat::entries::public_at;
@@ -57,18 +56,4 @@ pub fn copy_to(from: &[u8], n: usize, out: &mut [u8], to: usize)
     ensures { out.new ≡ paste out.old to from.now n }
 {
     out[to..to + n].copy_from_slice(&from[..n]);
-}
-
-// Kept as it is: an array literal of half a million bytes stands in a function of its own, since a caller's proof would compute it and not end.
-pub fn no_body() -> [u8; BODY_BYTES]
-    ensures { result ≡ no_body }
-{
-    [0u8; BODY_BYTES]
-}
-
-// Kept as it is: as no_body, for the proof of a caller of a quarter of a million bytes.
-pub fn no_list() -> [u8; LIST_BYTES]
-    ensures { result ≡ no_list }
-{
-    [0u8; LIST_BYTES]
 }

@@ -5,7 +5,8 @@ use lib.ListN.{length}
 use Rattle.words.proofs.Laws.{length-set_words}
 use Rattle.pass_classify.proofs.Laid.{next-laid, publics-laid}
 use Rattle.pass_classify.proofs.Whole.{classified-definitions}
-use Rattle.pass_entry.proofs.Building.{Lists, by_parts, lists-made, room-definitions, room-of-equations, room-of-kept, room-of-nodes, built}
+use Rattle.pass_entry.proofs.Building.{Lists, by_parts, lists-made, room-definitions, room-of-equations, room-of-kept, room-of-nodes, numbers, built}
+use Rattle.pass_entry.proofs.Fits.{parts-small, ordered-of, bounded-of}
 use Rattle.pass_entry.proofs.body.build.Goals as goal
 use Rattle.pass_entry.proofs.body.build.Goals.{After-put_provers-start}
 
@@ -62,6 +63,21 @@ keep_defs-k-requires c =
           (d.body_after, (d.value, d.subs_after)) _ _ (e.body_after, e.value) long.1,
     )
 
+-- the numbers follow each other, and are not too large
+pub invariant_of-result : goal.invariant_of-result
+invariant_of-result c =
+    let classes = c.args.classes.now in
+    let l = lists (goal.at.invariant_of-result c).After-put_provers-start in
+    let d = c.flatten_defs-d.ensures in
+    let e = rw d.steps at c.flatten_equations-e.ensures in
+    let k = rw (c.clear.ensures.1 ∙ d.steps) at c.keep_defs-k.ensures in
+    let n = next-laid classes.record.bytes.now classes.record.laid in
+    let p = publics-laid classes.record.bytes.now classes.record.laid in
+    let says = numbers classes.record.readable classes.classified c.requires.few c.requires.body_len.0 l c.new-subs.result.steps _ n _ _ c.new-subs.ensures.0 _ _
+    (d.body_after, (d.value, d.subs_after)) _ _ (e.body_after, e.value) _ _ _ _ _ c.clear.ensures.0 _ (k.body_after, (k.list_after, (k.value, k.subs_after))) _ p in
+    let small = parts-small classes.record.readable c.requires.few c.new-subs.result.steps in
+    record { ordered = ordered-of small says; bounded = bounded-of small says }
+
 pub returns : goal.returns
 returns c =
     let classes = c.args.classes.now in
@@ -69,9 +85,12 @@ returns c =
     let d = c.flatten_defs-d.ensures in
     let e = rw d.steps at c.flatten_equations-e.ensures in
     let k = rw (c.clear.ensures.1 ∙ d.steps) at c.keep_defs-k.ensures in
+    let n = next-laid classes.record.bytes.now classes.record.laid in
+    let p = publics-laid classes.record.bytes.now classes.record.laid in
+    let says = numbers classes.record.readable classes.classified c.requires.few c.requires.body_len.0 l c.new-subs.result.steps _ n _ _ c.new-subs.ensures.0 _ _
+    (d.body_after, (d.value, d.subs_after)) _ _ (e.body_after, e.value) _ _ _ _ _ c.clear.ensures.0 _ (k.body_after, (k.list_after, (k.value, k.subs_after))) _ p in
     let used = c.new-subs.ensures.1 ∙ c.used_definitions.ensures ∙ ap length (sym (classified-definitions classes.classified)) in
-    let parts = by_parts classes.record.bytes.now c.new-subs.result.steps used in
-    let made = built classes.record.readable classes.classified c.requires.few c.requires.body_len.0 l c.new-subs.result.steps _
-    (next-laid classes.record.bytes.now classes.record.laid) _ _ c.new-subs.ensures.0 _ _ (d.body_after, (d.value, d.subs_after)) _ _ (e.body_after, e.value)
-    _ _ _ _ _ c.clear.ensures.0 _ (k.body_after, (k.list_after, (k.value, k.subs_after))) in
-    rw parts (record { value = made.0; body_after = made.1.0; list_after = made.1.1 })
+    let by = by_parts classes.record.bytes.now c.new-subs.result.steps used in
+    let made = built classes.record.readable classes.classified c.requires.few c.requires.body_len.0 l c.new-subs.result.steps _ n _ _ c.new-subs.ensures.0 _ _
+    (d.body_after, (d.value, d.subs_after)) _ _ (e.body_after, e.value) _ _ _ _ _ c.clear.ensures.0 _ (k.body_after, (k.list_after, (k.value, k.subs_after))) in
+    rw by (record { value = says; body_after = made.0; list_after = made.1 })
