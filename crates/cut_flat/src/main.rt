@@ -9,7 +9,6 @@ use pass_entry::OUTPUT_BYTES;
 use std::io;
 use std::rt::Env;
 use streams::{Failed, has_argument, read_standard};
-use words::filled;
 
 // One byte more than the longest record has: a longer input is refused 20 as its first bytes are.
 const RECORD_BYTES: usize = BYTES + 1;
@@ -17,16 +16,25 @@ const RECORD_BYTES: usize = BYTES + 1;
 // The program's own name counts as an argument.
 const MOST_ARGUMENTS: usize = 2;
 
+// Kept as it is: a function that makes no promise, since a caller's proof would compute an array of so many places and not end.
+fn record_buffer() -> [u8; RECORD_BYTES] {
+    [0u8; RECORD_BYTES]
+}
+
+fn output_buffer() -> [u8; OUTPUT_BYTES] {
+    [0u8; OUTPUT_BYTES]
+}
+
 // The record that is read, with so many bytes of output. No store is needed.
 fn cut_input(rt: &(impl Input + Print + Eprint), out: &mut [u8]) -> Result<usize, Failed> {
-    let mut record: [u8; RECORD_BYTES] = filled(0);
+    let mut record = record_buffer();
     let n = read_standard(rt, &mut record)?;
     let answer = pass_entry::cut(&record[..n], &mut [], out);
     print_answer(rt, &mut io::writer(rt), answer, out)
 }
 
 fn run(rt: &(impl Input + Print + Eprint), room: usize) -> Result<usize, Failed> {
-    let mut out: [u8; OUTPUT_BYTES] = filled(0);
+    let mut out = output_buffer();
     let most = at_most(room, OUTPUT_BYTES);
     cut_input(rt, &mut out[..most])
 }
