@@ -18,7 +18,7 @@ use Rattle.source.specs.Nodes.{pattern_fits, publics_fit, definitions_fit, expre
 use Rattle.source.specs.Uses.{by_nodes, by_definitions, by_expressions}
 use Rattle.source.specs.Record.{Read, module_of, used_once}
 use Rattle.source.specs.Readable.{Readable}
-use Rattle.std.specs.Prelude.{Err}
+use Rattle.std.specs.Prelude.{Err, Option as Maybe, None}
 use Rattle.records.specs.declared.refusals.Refusal.{Refusal}
 use Rattle.source_check.specs.Answer.{checked}
 use Rattle.numbering.specs.Numbering.{Names, Numbered, ◌>>=◌, return, found, named, fresh_text, iter_text}
@@ -40,7 +40,7 @@ use Rattle.records.specs.SourceRecord.{HEADER}
 
 pub no-row-holds : Holds no_row []
 unfolding no_row found coded
-no-row-holds x l = get_or-replicate 512 x 0 0 l
+no-row-holds x l = get_or-replicate 512 x None None l
 
 -- the three texts
 pub three-registered : (b : List ℕ) (text count : ℕ) {s₀ s₁ s₂ s₃ : Scopes} → Registered b fresh_text text count 0 s₀ s₁
@@ -180,7 +180,7 @@ module _ (b : List ℕ) (Q : Readable b) where
       let g = registered (rows (names b) 0 (name_of b (text_offset b))) in
       let pn = p.numbers g hl hg (sym e) in
       let once = (room 0 (omega arith)).met-once in
-      let dn = d.numbers [] (both pn.0 s₁.next) s₃.ids (λ x m. ap (λ (t : List ℕ). get_or t x 0) p.rest.same_locals ∙ hl x m) pn.1.1 refl
+      let dn = d.numbers [] (both pn.0 s₁.next) s₃.ids (λ x m. ap (λ (t : List (Maybe ℕ)). get_or t x None) p.rest.same_locals ∙ hl x m) pn.1.1 refl
       (earlier s₂.ids s₃.ids s₃.ids lists-parts once x.elsewhere (λ j l. refl)) in
       let xn = x.numbers dn.0 (both dn.1.0 s₂.next) s₃.ids dn.1.1.1.0 dn.1.1.1.1 refl (later s₃.ids s₃.ids lists-parts (λ j l. refl)) in
       let same-id = λ (j : ℕ). ap (λ (t : List ℕ). get_or t j 0) p.rest.same_ids in

@@ -1,5 +1,5 @@
 -- The ways of what is bound first: texts, and publics. Assumes nothing.
-use Prim.Native.Nat.{ℕ, suc, ◌+◌, ◌-◌, ◌≤◌, ◌<◌}
+use Prim.Native.Nat.{ℕ, zero, suc, ◌+◌, ◌-◌, ◌≤◌, ◌<◌}
 use mathlib.Core.Path.{◌≡◌, refl, sym, ap, ◌∙◌}
 use mathlib.Core.List.{List, [], ◌∷◌}
 use mathlib.Core.Bool.{Bool, true, false, ◌&&◌, cond}
@@ -10,6 +10,8 @@ use lib.Seq.{get_or-set_same, get_or-set_other}
 use lib.Dec.{eqb}
 use lib.Pointwise.{pointwise}
 use borrow.Author.Tests.{ltb-true}
+use Rattle.std.specs.Prelude.{Option as Maybe, Some, None, IfSome, find}
+use Rattle.std.specs.List.{range_with_len}
 use Rattle.source.specs.Trees.{Text}
 use Rattle.marks.specs.Indices.{rows}
 use Rattle.source.specs.Names.{name_of}
@@ -32,40 +34,53 @@ same-pointwise [] (d ∷ s) = refl
 same-pointwise (c ∷ t) [] = refl
 same-pointwise (c ∷ t) (d ∷ s) = ap (λ (r : Bool). eqb c d && r) (same-pointwise t s)
 
+-- whether name k is the text t
+abbrev pub is_named : List ℕ → Text → ℕ → ℕ → Bool
+is_named b t text k = same_text t (name_of b text k)
+
 module _ (b t : List ℕ) (text count id : ℕ) where
-  all : Ids
-  all = named t id 0 (rows count 0 (name_of b text))
+  entry_of : Maybe ℕ → Ids
+  entry_of None = []
+  entry_of (Some k) = (k, id) ∷ []
 
-  pub found-no : (k : ℕ) {r : Bool} → k < count → r ≡ same_text t (name_of b text k) → r ≡ false
-      → named t id k (rows (count - k) k (name_of b text)) ≡ named t id 0 (rows count 0 (name_of b text))
-      → named t id (k + 1) (rows (count - (k + 1)) (k + 1) (name_of b text)) ≡ named t id 0 (rows count 0 (name_of b text))
-  unfolding named
-  found-no k l e f q =
-      ap (λ (m : ℕ). named t id m (rows (count - (k + 1)) (k + 1) (name_of b text))) (add-one k)
-      ∙ ap (λ (c : Bool). cond c ((k, id) ∷ []) (named t id (suc k) (rows (count - (k + 1)) (k + 1) (name_of b text)))) (sym (sym e ∙ f))
-      ∙ ap (named t id k) (sym (rows_step count k (name_of b text) l))
-      ∙ q
+  -- what is registered is the first that the search finds
+  named-found : (n k : ℕ) → named t id k (rows n k (name_of b text)) ≡ entry_of (find (is_named b t text) (range_with_len k n))
+  unfolding named entry_of rows
+  named-found zero k = refl
+  named-found (suc n) k =
+      by-test (is_named b t text k) _ (named-found n (suc k) ∙ ap (λ (m : ℕ). entry_of (find (is_named b t text) (range_with_len m n))) (sym (add-one k)))
+    where
+      by-test : (c : Bool) {xs : Ids} (o : Maybe ℕ) → xs ≡ entry_of o → cond c ((k, id) ∷ []) xs ≡ entry_of (cond c (Some k) o)
+      by-test true o e = refl
+      by-test false o e = e
 
-  pub found-yes : (k : ℕ) {r : Bool} (s : Scopes) → k < count → count ≤ 512 → length s.globals ≡ 512 → r ≡ same_text t (name_of b text k)
-      → r ≡ true → named t id k (rows (count - k) k (name_of b text)) ≡ named t id 0 (rows count 0 (name_of b text))
-      → Registered b t text count id s (record s { globals = set s.globals k (id + 1) })
-  unfolding named
-  found-yes k s l m z e f q =
-      let w : named t id 0 (rows count 0 (name_of b text)) ≡ (k, id) ∷ [] =
-      sym q ∙ ap (named t id k) (rows_step count k (name_of b text) l)
-      ∙ ap (λ (c : Bool). cond c ((k, id) ∷ []) (named t id (suc k) (rows (count - (k + 1)) (k + 1) (name_of b text)))) (sym e ∙ f) in
+  pub found-yes : (k : ℕ) (s : Scopes) → k < count → count ≤ 512 → length s.globals ≡ 512 → Some k ≡ find (is_named b t text) (range_with_len 0 count)
+      → Registered b t text count id s (record s { globals = set s.globals k (Some id) })
+  unfolding entry_of
+  found-yes k s l m z e =
+      let w : named t id 0 (rows count 0 (name_of b text)) ≡ (k, id) ∷ [] = named-found count 0 ∙ ap entry_of (sym e) in
       record {
         rest = record { same_locals = refl; same_undo = refl; same_top = refl; same_ids = refl };
         same_next = refl;
         holds = λ gs h. rw w (held_more s.globals gs k id h (omega arith));
       }
 
-  pub found_none : (k : ℕ) (s : Scopes) → count ≤ k
-      → named t id k (rows (count - k) k (name_of b text)) ≡ named t id 0 (rows count 0 (name_of b text)) → Registered b t text count id s s
-  unfolding named
-  found_none k s l q =
-      let w : named t id 0 (rows count 0 (name_of b text)) ≡ [] = sym q ∙ ap (named t id k) (rows_none count k (name_of b text) l) in
+  pub found_none : (s : Scopes) (r : Maybe ℕ) → r ≡ find (is_named b t text) (range_with_len 0 count) → ((k : ℕ) → r ≡ Some k → ⊥)
+      → Registered b t text count id s s
+  unfolding entry_of
+  found_none s (Some k) e f = absurd (f k refl)
+  found_none s None e f =
+      let w : named t id 0 (rows count 0 (name_of b text)) ≡ [] = named-found count 0 ∙ ap entry_of (sym e) in
       record { rest = only-globals s; same_next = refl; holds = λ gs h. rw w h }
+
+-- a search of indices: what it finds lies below their end
+pub found-below : (test : ℕ → Bool) (n k m : ℕ) → k + n ≡ m → IfSome (find test (range_with_len k n)) (λ j. j < m)
+found-below test zero k m e = tt
+found-below test (suc n) k m e = by-test (test k) _ (found-below test n (k + 1) m (omega arith))
+  where
+    by-test : (c : Bool) (o : Maybe ℕ) → IfSome o (λ j. j < m) → IfSome (cond c (Some k) o) (λ j. j < m)
+    by-test true o p = omega arith
+    by-test false o p = p
 
 -- a name, compared with a text
 pub text_is : (t : Text) {u n : Text} {r : Bool} → r ≡ pointwise eqb t u → u ≡ n → r ≡ same_text t n
@@ -96,7 +111,7 @@ module _ (b : List ℕ) (list count : ℕ) where
         behind = λ j q. w.behind j (omega arith) ∙ get_or-set_other public i j id 0 (λ (z : j ≡ i). omega arith);
         numbers = λ g h k e.
             let q = u.numbers [] g h k e in
-            let z = w.numbers (names q.0 s₁.next) (λ x m. ap (λ (t : List ℕ). get_or t x 0) u.rest.same_locals ∙ h x m) q.1.1 refl in
+            let z = w.numbers (names q.0 s₁.next) (λ x m. ap (λ (t : List (Maybe ℕ)). get_or t x None) u.rest.same_locals ∙ h x m) q.1.1 refl in
             (z.0, (rw (rows_step count i (public_at b list) l, ← ex, q.1.0, z.1.0, rows_step count i (λ k. get_or public₂ k 0) l, here), z.1.1));
       }
 

@@ -1,7 +1,7 @@
 -- What rows hold: a name found, a new name, and rows unwound. Assumes nothing.
 use Prim.Native.Nat.{ℕ, zero, suc, ◌+◌, ◌-◌, ◌<◌}
-use mathlib.Core.Path.{◌≡◌, refl, sym, ap, ◌∙◌}
-use mathlib.Core.List.{List, [], ◌∷◌}
+use mathlib.Core.Path.{◌≡◌, refl, sym, ap, ap₂, ◌∙◌}
+use mathlib.Core.List.{List, ◌∷◌}
 use mathlib.Core.Bool.{Bool, cond}
 use mathlib.Core.Option.{Option, none, some}
 use mathlib.Core.Logic.{⊎_elim}
@@ -10,79 +10,77 @@ use native.Mathlib.Omega.{arith}
 use lib.ListN.{length, get_or, set}
 use lib.Seq.{get_or-set_same, get_or-set_other}
 use borrow.Author.Tests.{eq-eqb, ne_eqb}
+use Rattle.std.specs.Prelude.{Option as Maybe, Some, None}
+use Rattle.std.specs.Option.{option_or}
+use Rattle.std.proofs.lemmas.List.{set-set, set-get_or}
 use Rattle.numbering.specs.Numbering.{Ids, Names, found, chosen, number_variable}
 use Rattle.numbering.specs.Walks.{coded, Holds, names, undone, unwound, OnlyGlobals, Chosen, SameBelow}
 use Rattle.numbering.specs.declared.rows.Scopes.{Scopes}
 use Rattle.numbering.specs.declared.rows.Undo.{Undo}
 use Rattle.std.proofs.lemmas.Bool.{cases_eq}
 
--- a name that is bound anew: its row has the id plus one
-pub held_more : (row : List ℕ) (l : Ids) (x i : ℕ) → Holds row l → x < length row → Holds (set row x (i + 1)) ((x, i) ∷ l)
+-- a name that is bound anew: its row has the id
+pub held_more : (row : List (Maybe ℕ)) (l : Ids) (x i : ℕ) → Holds row l → x < length row → Holds (set row x (Some i)) ((x, i) ∷ l)
 unfolding found coded
 held_more row l x i h q y m =
     ⊎_elim
-    (λ (e : y ≡ x). ap (λ (z : ℕ). get_or (set row x (i + 1)) z 0) e
-    ∙ get_or-set_same row x (i + 1) 0 q ∙ add-one i ∙ ap (λ (t : Bool). coded (cond t (some i) (found y l))) (sym (eq-eqb y x e)))
-    (λ (f : y ≡ x → ⊥). get_or-set_other row x y (i + 1) 0 f ∙ h y m ∙ ap (λ (t : Bool). coded (cond t (some i) (found y l))) (sym (ne_eqb y x f)))
+    (λ (e : y ≡ x). ap (λ (z : ℕ). get_or (set row x (Some i)) z None) e
+    ∙ get_or-set_same row x (Some i) None q ∙ ap (λ (t : Bool). coded (cond t (some i) (found y l))) (sym (eq-eqb y x e)))
+    (λ (f : y ≡ x → ⊥). get_or-set_other row x y (Some i) None f ∙ h y m ∙ ap (λ (t : Bool). coded (cond t (some i) (found y l))) (sym (ne_eqb y x f)))
     (cases_eq y x)
 
-chosen-local : (x : ℕ) (o p : Option ℕ) (g : Names) (v next : ℕ) → v ≡ coded o → (v ≡ 0 → ⊥) → g.next ≡ next
-    → chosen x o p g ≡ (v - 1, names g.globals next)
-unfolding chosen coded
-chosen-local x none p g v next e f q = absurd (f e)
-chosen-local x (some i) p g v next e f q = let z : v - 1 ≡ i = omega arith in rw (z, ← q)
+not-none : {i : ℕ} → Some i ≡ None → ⊥
+not-none e = let z : ◌≡◌ {A = ℕ} 0 1 = cc in omega (arith, z)
 
-chosen-global : (x : ℕ) (o p : Option ℕ) (g : Names) (u v next : ℕ) → u ≡ coded o → u ≡ 0 → v ≡ coded p → (v ≡ 0 → ⊥) → g.next ≡ next
-    → chosen x o p g ≡ (v - 1, names g.globals next)
+-- an id that the rows have, and none
+chosen-known : (x : ℕ) (o p : Option ℕ) (g : Names) (v next : ℕ) → Some v ≡ option_or (coded o) (coded p) → g.next ≡ next
+    → chosen x o p g ≡ (v, names g.globals next)
 unfolding chosen coded
-chosen-global x (some i) p g u v next d z e f q = absurd (omega arith)
-chosen-global x none none g u v next d z e f q = absurd (f e)
-chosen-global x none (some i) g u v next d z e f q = let z : v - 1 ≡ i = omega arith in rw (z, ← q)
+chosen-known x none none g v next e q = absurd (not-none e)
+chosen-known x (some i) p g v next e q = let z : v ≡ i = cc in rw (z, ← q)
+chosen-known x none (some i) g v next e q = let z : v ≡ i = cc in rw (z, ← q)
 
-chosen-new : (x : ℕ) (o p : Option ℕ) (g : Names) (u v next : ℕ) → u ≡ coded o → u ≡ 0 → v ≡ coded p → v ≡ 0 → g.next ≡ next
+chosen-new : (x : ℕ) (o p : Option ℕ) (g : Names) (next : ℕ) → None ≡ option_or (coded o) (coded p) → g.next ≡ next
     → chosen x o p g ≡ (next, names ((x, next) ∷ g.globals) (next + 1))
 unfolding chosen coded
-chosen-new x (some i) p g u v next d z e f q = absurd (omega arith)
-chosen-new x none (some i) g u v next d z e f q = absurd (omega arith)
-chosen-new x none none g u v next d z e f q = rw (add-one, ← q)
+chosen-new x (some i) p g next e q = absurd (not-none (sym e))
+chosen-new x none (some i) g next e q = absurd (not-none (sym e))
+chosen-new x none none g next e q = rw (add-one, ← q)
 
 pub only-globals : (s : Scopes) → OnlyGlobals s s
 only-globals s = record { same_locals = refl; same_undo = refl; same_top = refl; same_ids = refl }
 
 module _ (x : ℕ) (s : Scopes) (l : x < 512) where
-  pub variable-local : (get_or s.locals x 0 ≡ 0 → ⊥) → Chosen x s (get_or s.locals x 0 - 1) s
-  unfolding number_variable
-  variable-local f = record {
-    more = omega arith;
-    few = omega arith;
-    rest = only-globals s;
-    numbers = λ ls g h k q. (g.globals, (chosen-local x (found x ls) (found x g.globals) g (get_or s.locals x 0) s.next (h x l) f q, k));
-  }
+  abbrev pub row : Maybe ℕ
+  row = option_or (get_or s.locals x None) (get_or s.globals x None)
 
-  pub variable-global : get_or s.locals x 0 ≡ 0 → (get_or s.globals x 0 ≡ 0 → ⊥) → Chosen x s (get_or s.globals x 0 - 1) s
+  -- what the rows hold is what the definition finds
+  both : (ls : Ids) (g : Names) → Holds s.locals ls → Holds s.globals g.globals → row ≡ option_or (coded (found x ls)) (coded (found x g.globals))
+  both ls g h k = ap₂ option_or (h x l) (k x l)
+
+  pub variable-known : {id : ℕ} → Some id ≡ row → Chosen x s id s
   unfolding number_variable
-  variable-global z f = record {
+  variable-known {id} e = record {
     more = omega arith;
     few = omega arith;
     rest = only-globals s;
-    numbers = λ ls g h k q.
-        (g.globals, (chosen-global x (found x ls) (found x g.globals) g (get_or s.locals x 0) (get_or s.globals x 0) s.next (h x l) z (k x l) f q, k));
+    numbers = λ ls g h k q. (g.globals, (chosen-known x (found x ls) (found x g.globals) g id s.next (e ∙ both ls g h k) q, k));
   }
 
   -- a new global
   abbrev pub with_global : Scopes
-  with_global = record s { globals = set s.globals x (s.next + 1); next = s.next + 1 }
+  with_global = record s { globals = set s.globals x (Some s.next); next = s.next + 1 }
 
-  pub variable-new : length s.globals ≡ 512 → get_or s.locals x 0 ≡ 0 → get_or s.globals x 0 ≡ 0 → Chosen x s s.next with_global
+  pub variable-new : length s.globals ≡ 512 → None ≡ row → Chosen x s s.next with_global
   unfolding number_variable
-  variable-new w z f = record {
+  variable-new w e = record {
     more = omega arith;
     few = omega arith;
     rest = record { same_locals = refl; same_undo = refl; same_top = refl; same_ids = refl };
     numbers = λ ls g h k q. (
       (x, s.next) ∷ g.globals,
       (
-        chosen-new x (found x ls) (found x g.globals) g (get_or s.locals x 0) (get_or s.globals x 0) s.next (h x l) z (k x l) f q,
+        chosen-new x (found x ls) (found x g.globals) g s.next (e ∙ both ls g h k) q,
         held_more s.globals g.globals x s.next k (omega arith),
       ),
     );
@@ -90,12 +88,12 @@ module _ (x : ℕ) (s : Scopes) (l : x < 512) where
 
 -- ---- rows unwound
 
-pub unwound-none : (undo : List Undo) (base : ℕ) (row : List ℕ) {n : ℕ} → n ≡ 0 → unwound undo base n row ≡ row
+pub unwound-none : (undo : List Undo) (base : ℕ) (row : List (Maybe ℕ)) {n : ℕ} → n ≡ 0 → unwound undo base n row ≡ row
 unfolding unwound
 unwound-none undo base row e = rw e
 
 -- the last entry first
-pub unwound-last : (undo : List Undo) (base : ℕ) (row : List ℕ) (i : ℕ) → base < i
+pub unwound-last : (undo : List Undo) (base : ℕ) (row : List (Maybe ℕ)) (i : ℕ) → base < i
     → unwound undo base (i - 1 - base) (set row (undone undo (i - 1)).name (undone undo (i - 1)).before) ≡ unwound undo base (i - base) row
 unfolding unwound
 unwound-last undo base row i l =
@@ -105,7 +103,7 @@ unwound-last undo base row i l =
     ∙ ap (λ (m : ℕ). unwound undo base (i - 1 - base) (set row (undone undo m).name (undone undo m).before)) f)
 
 -- in two parts
-pub unwound-parts : (undo : List Undo) (base m n : ℕ) (row : List ℕ)
+pub unwound-parts : (undo : List Undo) (base m n : ℕ) (row : List (Maybe ℕ))
     → unwound undo base (m + n) row ≡ unwound undo base m (unwound undo (base + m) n row)
 unfolding unwound
 unwound-parts undo base m zero row = let e : m + 0 ≡ m = omega arith in ap (λ (k : ℕ). unwound undo base k row) e
@@ -117,7 +115,7 @@ unwound-parts undo base m (suc n) row =
     ∙ unwound-parts undo base m n (set row (undone undo (base + m + n)).name (undone undo (base + m + n)).before)
 
 -- by the entries alone
-pub unwound-same : (undo undo' : List Undo) (base n : ℕ) (row : List ℕ) → SameBelow (base + n) undo undo' → unwound undo' base n row ≡ unwound undo base n row
+pub unwound-same : (undo undo' : List Undo) (base n : ℕ) (row : List (Maybe ℕ)) → SameBelow (base + n) undo undo' → unwound undo' base n row ≡ unwound undo base n row
 unfolding unwound
 unwound-same undo undo' base zero row p = refl
 unwound-same undo undo' base (suc n) row p =
@@ -125,14 +123,10 @@ unwound-same undo undo' base (suc n) row p =
     (unwound-same undo undo' base n (set row (undone undo (base + n)).name (undone undo (base + n)).before) (λ i l. p i (omega arith)))
 
 -- an entry written and unwound
-pub unwound-bound : (undo : List Undo) (top x v : ℕ) (row : List ℕ) → top < length undo → x < length row
-    → unwound (set undo top (record { name = x; before = get_or row x 0 })) top 1 (set row x v) ≡ row
+pub unwound-bound : (undo : List Undo) (top x : ℕ) (v : Maybe ℕ) (row : List (Maybe ℕ)) → top < length undo
+    → unwound (set undo top (record { name = x; before = get_or row x None })) top 1 (set row x v) ≡ row
 unfolding unwound
-unwound-bound undo top x v row p r =
+unwound-bound undo top x v row p =
     let e : top + 0 ≡ top = omega arith in
-    rw (e, get_or-set_same undo top (record { name = x; before = get_or row x 0 }) (record { name = 0; before = 0 }) p) (set_back row x v r)
-  where
-    set_back : (row : List ℕ) (x v : ℕ) → x < length row → set (set row x v) x (get_or row x 0) ≡ row
-    set_back [] x v l = absurd (omega arith)
-    set_back (y ∷ row) zero v l = refl
-    set_back (y ∷ row) (suc x) v l = ap (λ (r : List ℕ). y ∷ r) (set_back row x v (omega arith))
+    rw (e, get_or-set_same undo top (record { name = x; before = get_or row x None }) (record { name = 0; before = None }) p)
+    (set-set row x v (get_or row x None) ∙ set-get_or row x None)

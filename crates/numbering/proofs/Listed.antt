@@ -6,6 +6,7 @@ use mathlib.Core.Bool.{Bool, true}
 use native.Mathlib.Numerals.{add-one}
 use native.Mathlib.Omega.{arith}
 use lib.ListN.{get_or}
+use Rattle.std.specs.Prelude.{Option as Maybe, None}
 use Rattle.marks.specs.Indices.{rows, same}
 use Rattle.source.specs.Nodes.{is_expression, is_pattern, pattern_fits, definitions_fit, expressions_fit}
 use Rattle.source.specs.Record.{definition_at, expression_at}
@@ -54,8 +55,8 @@ module _ {b : List ℕ} {at n p v : ℕ} {s : Scopes} (R : ReadyTwo b at n is_pa
     numbers = λ l g final h k e a.
         let q = u.numbers l g final h k e (earlier s₁.ids s₂.ids final def-parts R.room.met-once w.elsewhere a) in
         let z =
-        w.numbers l (names q.0 s₁.next) final (λ x m. ap (λ (t : List ℕ). get_or t x 0) u.same_locals ∙ h x m) refl (later s₂.ids final def-parts a) in
-        (z.0, (q.0, (rw (q.1.0, z.1.0), (z.1.1, λ x m. ap (λ (t : List ℕ). get_or t x 0) w.same_globals ∙ q.1.1 x m))));
+        w.numbers l (names q.0 s₁.next) final (λ x m. ap (λ (t : List (Maybe ℕ)). get_or t x None) u.same_locals ∙ h x m) refl (later s₂.ids final def-parts a) in
+        (z.0, (q.0, (rw (q.1.0, z.1.0), (z.1.1, λ x m. ap (λ (t : List (Maybe ℕ)). get_or t x None) w.same_globals ∙ q.1.1 x m))));
   }
 
 -- one, then others

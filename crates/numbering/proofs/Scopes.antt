@@ -8,6 +8,7 @@ use native.Mathlib.Numerals.{add-one}
 use native.Mathlib.Omega.{arith}
 use lib.ListN.{length, get_or, set}
 use lib.Seq.{get_or-set_same, get_or-set_other}
+use Rattle.std.specs.Prelude.{Option as Maybe, Some, None}
 use Rattle.marks.specs.Indices.{same}
 use Rattle.numbering.specs.Numbering.{Ids, Names, Naming, number_variable}
 use Rattle.numbering.specs.Walks.{names, undone, unwound, bound_to, unwound_to, each, Sized, Room, Else, Agree, Bound, Walked, Chosen}
@@ -115,7 +116,7 @@ bound-one {named} x k {s} nk xl kl tl z is = rw is (record {
       omega arith;
   unwinds =
       let e : s.top + 1 - s.top ≡ 1 = omega arith in
-      rw e (unwound-bound s.undo s.top x (s.next + 1) s.locals (omega (arith, z.entries)) (omega (arith, z.rows)));
+      rw e (unwound-bound s.undo s.top x (Some s.next) s.locals (omega (arith, z.entries)));
   elsewhere = λ j l. get_or-set_other s.ids k j s.next 0 (λ (e : j ≡ k). omega (arith, same-yes j k e));
   unnamed = λ j l. get_or-set_other s.ids k j s.next 0 (λ (e : j ≡ k). not-both (rw e at l) nk);
   numbers = λ l g final h e a.
@@ -125,10 +126,10 @@ bound-one {named} x k {s} nk xl kl tl z is = rw is (record {
 })
   where
     entry : Undo
-    entry = record { name = x; before = get_or s.locals x 0 }
+    entry = record { name = x; before = get_or s.locals x None }
 
     nothing : Undo
-    nothing = record { name = 0; before = 0 }
+    nothing = record { name = 0; before = None }
 
 -- the same by another name
 pub bound-as-is : {A B : Type 0} {named : ℕ → Bool} {w u : Weight} {f : Ids → Naming (A × Ids)} {value : List ℕ → A} {s s' : Scopes}
@@ -252,7 +253,7 @@ walked-two {s = s} {s₁ = s₁} {s₂ = s₂} both value make p room is val r q
   unnamed = λ j z. q.unnamed j z ∙ r.unnamed j z;
   numbers = λ l g final h k e a.
       let y = r.numbers l g final h k e (earlier s₁.ids s₂.ids final p room.met-once q.elsewhere a) in
-      let z = q.numbers l (names y.0 s₁.next) final (λ x m. ap (λ (t : List ℕ). get_or t x 0) r.same_locals ∙ h x m) y.1.1 refl (later s₂.ids final p a) in
+      let z = q.numbers l (names y.0 s₁.next) final (λ x m. ap (λ (t : List (Maybe ℕ)). get_or t x None) r.same_locals ∙ h x m) y.1.1 refl (later s₂.ids final p a) in
       (z.0, (rw (val final) (is l g _ _ _ _ y.1.0 z.1.0), z.1.1));
 }
 
@@ -276,7 +277,7 @@ walked-scope {s = s} {s₁ = s₁} {s₂ = s₂} both value make p room is val r
   unnamed = λ j z. q.unnamed j z ∙ r.unnamed j z;
   numbers = λ l g final h k e a.
       let y = r.numbers l g final h e (earlier s₁.ids s₂.ids final p room.met-once q.elsewhere a) in
-      let same = λ (x : ℕ). ap (λ (t : List ℕ). get_or t x 0) r.same_globals in
+      let same = λ (x : ℕ). ap (λ (t : List (Maybe ℕ)). get_or t x None) r.same_globals in
       let z = q.numbers y.0 (names g.globals s₁.next) final y.1.1 (λ x m. same x ∙ k x m) refl (later s₂.ids final p a) in
       (z.0, (rw (val final) (is l g _ _ _ _ _ y.1.0 z.1.0), z.1.1));
 })

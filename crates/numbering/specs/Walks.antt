@@ -2,7 +2,7 @@
 use Rattle.std.specs.Prelude.{ℕ, zero, suc, ◌+◌, ◌*◌, ◌-◌, ◌≤◌, ◌<◌, ◌≡◌, List, [], ◌++◌, Bool, true, false, length, get_or, set, replicate, eqb}
 use Rattle.std.proofs.Math.Option.{Option, none, some}
 use Rattle.source.specs.declared.Chain.{Chain}
-use Rattle.std.specs.Prelude.{Option as Maybe}
+use Rattle.std.specs.Prelude.{Option as Maybe, Some, None}
 use Rattle.source.specs.declared.Node.{Node}
 use Rattle.source.specs.Names.{name_of}
 use Rattle.source.specs.Trees.{Pat, Expr}
@@ -21,26 +21,26 @@ use Rattle.records.specs.FlatRecord.{IDS}
 use Rattle.records.specs.Intrinsics.{FIRST-FREE-ID}
 use Rattle.records.specs.SourceRecord.{NAMES, NODES, PUBLICS}
 
--- ---- rows: for each name 0, or one more than its id
+-- ---- rows: for each name its id, if it has one
 
-unfoldable pub coded : Option ℕ → ℕ
-coded none = 0
-coded (some i) = suc i
+unfoldable pub coded : Option ℕ → Maybe ℕ
+coded none = None
+coded (some i) = Some i
 
-abbrev pub Holds : List ℕ → Ids → Type 0
-Holds row ids = (x : ℕ) → x < NAMES → get_or row x 0 ≡ coded (found x ids)
+abbrev pub Holds : List (Maybe ℕ) → Ids → Type 0
+Holds row ids = (x : ℕ) → x < NAMES → get_or row x None ≡ coded (found x ids)
 
 abbrev pub names : Ids → ℕ → Names
 names g n = record { globals = g; next = n }
 
 -- ---- the undo list: names, and what their rows held before; n entries from `base` on are undone from the last to the first
 abbrev pub no_undo : Undo
-no_undo = record { name = 0; before = 0 }
+no_undo = record { name = 0; before = None }
 
 abbrev pub undone : List Undo → ℕ → Undo
 undone undo i = get_or undo i no_undo
 
-unfoldable pub unwound : List Undo → ℕ → ℕ → List ℕ → List ℕ
+unfoldable pub unwound : List Undo → ℕ → ℕ → List (Maybe ℕ) → List (Maybe ℕ)
 unwound undo base zero row = row
 unwound undo base (suc n) row = unwound undo base n (set row (undone undo (base + n)).name (undone undo (base + n)).before)
 
@@ -50,8 +50,8 @@ SameBelow n s t = (i : ℕ) → i < n → undone t i ≡ undone s i
 
 -- ---- the steps on rows
 
-unfoldable pub no_row : List ℕ
-no_row = replicate NAMES 0
+unfoldable pub no_row : List (Maybe ℕ)
+no_row = replicate NAMES None
 
 unfoldable pub no_entries : List ℕ
 no_entries = replicate NODES 0
@@ -66,9 +66,9 @@ no_scopes = record { locals = no_row; globals = no_row; undo = replicate NODES n
 -- name x bound to the next id, at node k
 abbrev pub bound_to : ℕ → ℕ → Scopes → Scopes
 bound_to x k s = record {
-  locals = set s.locals x (s.next + 1);
+  locals = set s.locals x (Some s.next);
   globals = s.globals;
-  undo = set s.undo s.top (record { name = x; before = get_or s.locals x 0 });
+  undo = set s.undo s.top (record { name = x; before = get_or s.locals x None });
   top = s.top + 1;
   ids = set s.ids k s.next;
   next = s.next + 1;

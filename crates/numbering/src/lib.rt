@@ -23,6 +23,7 @@ use source_check::names::Names;
 use source_check::nodes::Nodes;
 
 // The next free id, or the record's refusal; the id of every node that has a name at its index, that of every public at its position, 0 elsewhere.
+// Kept as it is: a refused numbering leaves arrays of zeros, which two test programs look at; a Result of the arrays would promise less.
 #[derive(Drop)]
 pub struct Numbering {
     pub answer: Result<u32, Refusal>,

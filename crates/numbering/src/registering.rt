@@ -1,9 +1,10 @@
 // What stands among the globals before definitions: fresh, iter and fold, found by their texts, and the publics.
-ghost use Rattle.std.specs.Prelude.{◌≡◌, true, [], ◌+◌, ◌*◌, ◌≤◌, ◌<◌, length};
+ghost use Rattle.std.specs.Prelude.{◌≡◌, true, [], ◌+◌, ◌*◌, ◌≤◌, ◌<◌, length, find, IfSome};
+ghost use Rattle.std.specs.List.{range_with_len};
 ghost use Rattle.marks.specs.Indices.{rows};
 ghost use Rattle.source.specs.Names.{name_of};
 ghost use Rattle.source.specs.Nodes.{publics_fit};
-ghost use Rattle.numbering.specs.Numbering.{registered};
+ghost use Rattle.numbering.specs.Numbering.{registered, same_text};
 ghost use Rattle.numbering.specs.Walks.{Holds, Published, Registered, OnlyGlobals, no_publics};
 ghost use Rattle.records.specs.FlatRecord.{IDS};
 ghost use Rattle.records.specs.Intrinsics.{FIRST-FREE-ID};
@@ -15,17 +16,22 @@ use records::source_record::PUBLICS;
 use source::lists::public_at;
 use source_check::names::Names;
 
+// The index of the first name that is the text t.
+fn index_of(names: &Names, t: &[u8]) -> Option<usize>
+    ensures below { IfSome result (λ k. k < names.now.count) }
+    ensures first { result ≡ find (λ k. same_text t.now (name_of names.now.bytes.now names.now.text k)) (range_with_len 0 names.now.count) }
+{
+    (0..names.count).find(|k| t == names.name(*k))
+}
+
 impl Scopes {
     // The name that is the text t, if there is one, has this id.
     fn register(&mut self, names: &Names, t: &[u8], id: u32)
         requires { id < IDS }
         ensures { Registered names.now.bytes.now t.now names.now.text names.now.count id self.old self.new }
     {
-        for k in 0..names.count {
-            if t == names.name(k) {
-                self.globals[k] = id + 1;
-                return;
-            }
+        if let Some(k) = index_of(names, t) {
+            self.globals[k] = Some(id);
         }
     }
 
@@ -48,6 +54,7 @@ impl Scopes {
         ensures { Published names.now.bytes.now list count 0 self.old no_publics self.new result }
     {
         let mut publics = [0u32; PUBLICS];
+        // Kept as it is: the index reads the record too, and an iterator over the first entries of the array is no plainer.
         for i in 0..count {
             let x = public_at(names.bytes, list, i);
             publics[i] = self.number_variable(x as usize);

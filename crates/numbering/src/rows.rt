@@ -1,4 +1,4 @@
-// The rows: a name's id plus one, or 0; the undo list has each bound name, and what its row held before.
+// The rows: a name's id, if it has one; the undo list has each bound name, and what its row held before.
 ghost use Rattle.std.specs.Prelude.{◌≡◌, ℕ, ◌≤◌, ◌<◌};
 ghost use Rattle.numbering.specs.Walks.{Sized, Chosen, undone, no_scopes, bound_to, unwound_to};
 ghost use Rattle.records.specs.FlatRecord.{IDS};
@@ -11,14 +11,14 @@ use records::source_record::{NAMES, NODES};
 #[derive(Clone, Copy)]
 pub struct Undo {
     pub name: u32,
-    pub before: u32,
+    pub before: Option<u32>,
 }
 
 // What numbering changes: the rows of the locals and of the globals, the undo list with its length, the id of each node, and the next free id.
 #[derive(Drop)]
 pub struct Scopes {
-    pub locals: [u32; NAMES],
-    pub globals: [u32; NAMES],
+    pub locals: [Option<u32>; NAMES],
+    pub globals: [Option<u32>; NAMES],
     pub undo: [Undo; NODES],
     pub top: usize,
     pub ids: [u32; NODES],
@@ -31,9 +31,12 @@ impl Scopes {
         ensures { result ≡ no_scopes }
     {
         Scopes {
-            locals: [0; NAMES],
-            globals: [0; NAMES],
-            undo: [Undo { name: 0, before: 0 }; NODES],
+            locals: [None; NAMES],
+            globals: [None; NAMES],
+            undo: [Undo {
+                name: 0,
+                before: None,
+            }; NODES],
             top: 0,
             ids: [0; NODES],
             next: FIRST_FREE_ID,
@@ -45,18 +48,15 @@ impl Scopes {
         requires { (x < NAMES) × (self.old.next < IDS) }
         ensures { Chosen x self.old result self.new }
     {
-        let local = self.locals[x];
-        if local != 0 {
-            return local - 1;
+        match self.locals[x].or(self.globals[x]) {
+            Some(id) => id,
+            None => {
+                let id = self.next;
+                self.next += 1;
+                self.globals[x] = Some(id);
+                id
+            }
         }
-        let global = self.globals[x];
-        if global != 0 {
-            return global - 1;
-        }
-        let id = self.next;
-        self.next += 1;
-        self.globals[x] = self.next;
-        id
     }
 
     // A new id for name x, at node k: what its row held goes to the undo list.
@@ -71,8 +71,8 @@ impl Scopes {
         };
         self.top += 1;
         self.ids[k] = self.next;
+        self.locals[x] = Some(self.next);
         self.next += 1;
-        self.locals[x] = self.next;
     }
 
     // The end of a scope: the entries of the undo list from `base` on are undone, the last first.
@@ -81,6 +81,7 @@ impl Scopes {
         requires names { (i : ℕ) → base ≤ i → i < self.old.top → (undone self.old.undo i).name < NAMES }
         ensures { self.new ≡ unwound_to base self.old }
     {
+        // Kept as it is: `.iter().rev()` lends the undo list while the rows beside it are written, and no proof of that closed.
         for i in (base..self.top).rev() {
             let entry = self.undo[i];
             self.locals[entry.name as usize] = entry.before;

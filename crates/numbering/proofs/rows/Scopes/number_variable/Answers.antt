@@ -1,12 +1,9 @@
 use Rattle.std.proofs.Common.{arith}
-use Rattle.numbering.proofs.Held.{variable-local, variable-global, variable-new}
+use Rattle.numbering.proofs.Held.{variable-known, variable-new}
 use Rattle.numbering.proofs.rows.Scopes.number_variable.Goals as goal
 
-pub returns-then-local-ne0 : goal.returns-then-local-ne0
-returns-then-local-ne0 c = variable-local _ _ c.requires.0 c.if-local-ne0.true
+pub returns-in-Some : goal.returns-in-Some
+returns-in-Some c = variable-known _ _ c.requires.0 c.in-Some.ensures
 
-pub returns-then-global-ne0 : goal.returns-then-global-ne0
-returns-then-global-ne0 c = variable-global _ _ c.requires.0 c.if-local-ne0.false c.if-global-ne0.true
-
-pub returns : goal.returns
-returns c = variable-new _ _ c.requires.0 (omega arith) c.if-local-ne0.false c.if-global-ne0.false
+pub returns-in-None : goal.returns-in-None
+returns-in-None c = variable-new _ _ c.requires.0 (omega arith) c.in-None.ensures

@@ -1,4 +1,4 @@
-use Rattle.std.proofs.Common.{◌≡◌, ◌-◌, List, ℕ, arith, ap, sym, ◌∙◌, slice_set}
+use Rattle.std.proofs.Common.{◌≡◌, ◌-◌, List, ℕ, Option, arith, ap, sym, ◌∙◌, slice_set}
 use Rattle.numbering.specs.Walks.{undone}
 use Rattle.numbering.specs.declared.rows.Scopes.{Scopes}
 use Rattle.numbering.proofs.Held.{unwound-none, unwound-last}
@@ -20,4 +20,4 @@ returns c =
     let turn = c.loop-i in
     let back = sym (unwound-none first.undo c.args.base turn.self.locals (omega arith)) ∙ turn.invariant.rows in
     ap (λ (s : Scopes). record s { top = c.args.base }) turn.invariant.rest
-    ∙ ap (λ (r : List ℕ). record first { locals = r; top = c.args.base }) back
+    ∙ ap (λ (r : List (Option ℕ)). record first { locals = r; top = c.args.base }) back
