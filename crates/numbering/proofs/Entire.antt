@@ -18,7 +18,7 @@ use Rattle.source.specs.Nodes.{pattern_fits, publics_fit, definitions_fit, expre
 use Rattle.source.specs.Uses.{by_nodes, by_definitions, by_expressions}
 use Rattle.source.specs.Record.{Read, module_of, used_once}
 use Rattle.source.specs.Readable.{Readable}
-use Rattle.std.specs.Prelude.{Err, Option as Maybe, None}
+use Rattle.std.specs.Prelude.{Err, None}
 use Rattle.records.specs.declared.refusals.Refusal.{Refusal}
 use Rattle.source_check.specs.Answer.{checked}
 use Rattle.numbering.specs.Numbering.{Names, Numbered, ◌>>=◌, return, found, named, fresh_text, iter_text}
@@ -33,6 +33,7 @@ use Rattle.marks.proofs.Indices.{same-no}
 use Rattle.numbering.proofs.Sums.{total-same, total-sum, total-zero, total-add, one_at_most, used-by}
 use Rattle.numbering.proofs.Weights.{roots-weigh}
 use Rattle.numbering.proofs.Children.{pattern-item, expression-item}
+use Rattle.numbering.proofs.Held.{held-same}
 use Rattle.numbering.proofs.Scopes.{Parts, room-first, room-second, earlier, later}
 use Rattle.records.specs.SourceRecord.{HEADER}
 
@@ -180,7 +181,7 @@ module _ (b : List ℕ) (Q : Readable b) where
       let g = registered (rows (names b) 0 (name_of b (text_offset b))) in
       let pn = p.numbers g hl hg (sym e) in
       let once = (room 0 (omega arith)).met-once in
-      let dn = d.numbers [] (both pn.0 s₁.next) s₃.ids (λ x m. ap (λ (t : List (Maybe ℕ)). get_or t x None) p.rest.same_locals ∙ hl x m) pn.1.1 refl
+      let dn = d.numbers [] (both pn.0 s₁.next) s₃.ids (held-same [] p.rest.same_locals hl) pn.1.1 refl
       (earlier s₂.ids s₃.ids s₃.ids lists-parts once x.elsewhere (λ j l. refl)) in
       let xn = x.numbers dn.0 (both dn.1.0 s₂.next) s₃.ids dn.1.1.1.0 dn.1.1.1.1 refl (later s₃.ids s₃.ids lists-parts (λ j l. refl)) in
       let same-id = λ (j : ℕ). ap (λ (t : List ℕ). get_or t j 0) p.rest.same_ids in

@@ -21,7 +21,7 @@ use Rattle.numbering.specs.Numbering.{Ids, ◌>>=◌, return, same_text, named, 
 use Rattle.numbering.specs.Walks.{names, Chosen, Published, Registered}
 use Rattle.numbering.specs.declared.rows.Scopes.{Scopes}
 use Rattle.marks.proofs.Indices.{every-at}
-use Rattle.numbering.proofs.Held.{held_more, only-globals}
+use Rattle.numbering.proofs.Held.{held-same, held_more, only-globals}
 use Rattle.numbering.proofs.Listed.{rows_step, rows_none}
 
 -- ---- texts
@@ -111,7 +111,7 @@ module _ (b : List ℕ) (list count : ℕ) where
         behind = λ j q. w.behind j (omega arith) ∙ get_or-set_other public i j id 0 (λ (z : j ≡ i). omega arith);
         numbers = λ g h k e.
             let q = u.numbers [] g h k e in
-            let z = w.numbers (names q.0 s₁.next) (λ x m. ap (λ (t : List (Maybe ℕ)). get_or t x None) u.rest.same_locals ∙ h x m) q.1.1 refl in
+            let z = w.numbers (names q.0 s₁.next) (held-same [] u.rest.same_locals h) q.1.1 refl in
             (z.0, (rw (rows_step count i (public_at b list) l, ← ex, q.1.0, z.1.0, rows_step count i (λ k. get_or public₂ k 0) l, here), z.1.1));
       }
 

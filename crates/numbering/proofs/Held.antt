@@ -19,6 +19,10 @@ use Rattle.numbering.specs.declared.rows.Scopes.{Scopes}
 use Rattle.numbering.specs.declared.rows.Undo.{Undo}
 use Rattle.std.proofs.lemmas.Bool.{cases_eq}
 
+-- rows that are the same hold the same
+pub held-same : {r s : List (Maybe ℕ)} (l : Ids) → s ≡ r → Holds r l → Holds s l
+held-same l e h x m = ap (λ (t : List (Maybe ℕ)). get_or t x None) e ∙ h x m
+
 -- a name that is bound anew: its row has the id
 pub held_more : (row : List (Maybe ℕ)) (l : Ids) (x i : ℕ) → Holds row l → x < length row → Holds (set row x (Some i)) ((x, i) ∷ l)
 unfolding found coded
@@ -115,7 +119,8 @@ unwound-parts undo base m (suc n) row =
     ∙ unwound-parts undo base m n (set row (undone undo (base + m + n)).name (undone undo (base + m + n)).before)
 
 -- by the entries alone
-pub unwound-same : (undo undo' : List Undo) (base n : ℕ) (row : List (Maybe ℕ)) → SameBelow (base + n) undo undo' → unwound undo' base n row ≡ unwound undo base n row
+pub unwound-same : (undo undo' : List Undo) (base n : ℕ) (row : List (Maybe ℕ)) → SameBelow (base + n) undo undo'
+    → unwound undo' base n row ≡ unwound undo base n row
 unfolding unwound
 unwound-same undo undo' base zero row p = refl
 unwound-same undo undo' base (suc n) row p =

@@ -5,8 +5,6 @@ use mathlib.Core.List.{List, [], ◌∷◌}
 use mathlib.Core.Bool.{Bool, true}
 use native.Mathlib.Numerals.{add-one}
 use native.Mathlib.Omega.{arith}
-use lib.ListN.{get_or}
-use Rattle.std.specs.Prelude.{Option as Maybe, None}
 use Rattle.marks.specs.Indices.{rows, same}
 use Rattle.source.specs.Nodes.{is_expression, is_pattern, pattern_fits, definitions_fit, expressions_fit}
 use Rattle.source.specs.Record.{definition_at, expression_at}
@@ -19,6 +17,7 @@ use Rattle.numbering.specs.Walks.{ReadyExpressions, Defined, sum_from, definitio
 use Rattle.numbering.specs.Walks.{PatternWalk, ExpressionWalk, DefinitionWalk, DefinitionsWalk, ExpressionsWalk}
 use Rattle.marks.proofs.Indices.{every-at, and_left, and_right}
 use Rattle.numbering.proofs.Children.{pattern-item, expression-item}
+use Rattle.numbering.proofs.Held.{held-same}
 use Rattle.numbering.proofs.Scopes.{Weight, Parts, room-first, room-second, both-else, earlier, later, walked_none, walked-two}
 
 -- ---- lists from an index on
@@ -55,8 +54,8 @@ module _ {b : List ℕ} {at n p v : ℕ} {s : Scopes} (R : ReadyTwo b at n is_pa
     numbers = λ l g final h k e a.
         let q = u.numbers l g final h k e (earlier s₁.ids s₂.ids final def-parts R.room.met-once w.elsewhere a) in
         let z =
-        w.numbers l (names q.0 s₁.next) final (λ x m. ap (λ (t : List (Maybe ℕ)). get_or t x None) u.same_locals ∙ h x m) refl (later s₂.ids final def-parts a) in
-        (z.0, (q.0, (rw (q.1.0, z.1.0), (z.1.1, λ x m. ap (λ (t : List (Maybe ℕ)). get_or t x None) w.same_globals ∙ q.1.1 x m))));
+        w.numbers l (names q.0 s₁.next) final (held-same l u.same_locals h) refl (later s₂.ids final def-parts a) in
+        (z.0, (q.0, (rw (q.1.0, z.1.0), (z.1.1, held-same q.0 w.same_globals q.1.1))));
   }
 
 -- one, then others

@@ -8,7 +8,7 @@ use native.Mathlib.Numerals.{add-one}
 use native.Mathlib.Omega.{arith}
 use lib.ListN.{length, get_or, set}
 use lib.Seq.{get_or-set_same, get_or-set_other}
-use Rattle.std.specs.Prelude.{Option as Maybe, Some, None}
+use Rattle.std.specs.Prelude.{Some, None}
 use Rattle.marks.specs.Indices.{same}
 use Rattle.numbering.specs.Numbering.{Ids, Names, Naming, number_variable}
 use Rattle.numbering.specs.Walks.{names, undone, unwound, bound_to, unwound_to, each, Sized, Room, Else, Agree, Bound, Walked, Chosen}
@@ -17,7 +17,7 @@ use Rattle.numbering.specs.declared.rows.Undo.{Undo}
 use Rattle.std.proofs.lemmas.Bool.{cases_eq, cases_lt}
 use Rattle.numbering.proofs.Laws.{not-both}
 use Rattle.marks.proofs.Indices.{same-yes}
-use Rattle.numbering.proofs.Held.{held_more, unwound-none, unwound-parts, unwound-same, unwound-bound}
+use Rattle.numbering.proofs.Held.{held-same, held_more, unwound-none, unwound-parts, unwound-same, unwound-bound}
 
 abbrev pub Weight : Type 0
 Weight = (ℕ → ℕ) → ℕ
@@ -253,7 +253,7 @@ walked-two {s = s} {s₁ = s₁} {s₂ = s₂} both value make p room is val r q
   unnamed = λ j z. q.unnamed j z ∙ r.unnamed j z;
   numbers = λ l g final h k e a.
       let y = r.numbers l g final h k e (earlier s₁.ids s₂.ids final p room.met-once q.elsewhere a) in
-      let z = q.numbers l (names y.0 s₁.next) final (λ x m. ap (λ (t : List (Maybe ℕ)). get_or t x None) r.same_locals ∙ h x m) y.1.1 refl (later s₂.ids final p a) in
+      let z = q.numbers l (names y.0 s₁.next) final (held-same l r.same_locals h) y.1.1 refl (later s₂.ids final p a) in
       (z.0, (rw (val final) (is l g _ _ _ _ y.1.0 z.1.0), z.1.1));
 }
 
@@ -277,7 +277,6 @@ walked-scope {s = s} {s₁ = s₁} {s₂ = s₂} both value make p room is val r
   unnamed = λ j z. q.unnamed j z ∙ r.unnamed j z;
   numbers = λ l g final h k e a.
       let y = r.numbers l g final h e (earlier s₁.ids s₂.ids final p room.met-once q.elsewhere a) in
-      let same = λ (x : ℕ). ap (λ (t : List (Maybe ℕ)). get_or t x None) r.same_globals in
-      let z = q.numbers y.0 (names g.globals s₁.next) final y.1.1 (λ x m. same x ∙ k x m) refl (later s₂.ids final p a) in
+      let z = q.numbers y.0 (names g.globals s₁.next) final y.1.1 (held-same g.globals r.same_globals k) refl (later s₂.ids final p a) in
       (z.0, (rw (val final) (is l g _ _ _ _ _ y.1.0 z.1.0), z.1.1));
 })
