@@ -5,7 +5,7 @@
 #![tactic(auto)]
 
 use answer_record::{at_most, lent_bytes, print_answer};
-use flatten_entry::buffers::{RECORD_BYTES, STORE_BYTES};
+use flatten_entry::buffers::{STORE_BYTES, output_buffer, record_buffer, store_buffer};
 use pass_entry::OUTPUT_BYTES;
 use std::io;
 use std::rt::Env;
@@ -13,19 +13,6 @@ use streams::{Failed, has_argument, read_standard};
 
 // The program's own name counts as an argument.
 const MOST_ARGUMENTS: usize = 3;
-
-// Kept as it is: a function that makes no promise, since a caller's proof would compute an array of so many places and not end.
-fn record_buffer() -> [u8; RECORD_BYTES] {
-    [0u8; RECORD_BYTES]
-}
-
-fn store_buffer() -> [u8; STORE_BYTES] {
-    [0u8; STORE_BYTES]
-}
-
-fn output_buffer() -> [u8; OUTPUT_BYTES] {
-    [0u8; OUTPUT_BYTES]
-}
 
 // The record that is read, with so many bytes of store and output.
 fn flatten_input(

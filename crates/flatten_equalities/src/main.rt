@@ -3,24 +3,10 @@
 #![tactic(auto)]
 
 use answer_text::print_answer;
-use flatten_entry::buffers::{RECORD_BYTES, STORE_BYTES};
-use pass_entry::OUTPUT_BYTES;
+use flatten_entry::buffers::{output_buffer, record_buffer, store_buffer};
 use std::io;
 use std::rt::{Env, Files};
 use streams::{Failed, open_input, read_opened};
-
-// Kept as it is: a function that makes no promise, since a caller's proof would compute an array of so many places and not end.
-fn record_buffer() -> [u8; RECORD_BYTES] {
-    [0u8; RECORD_BYTES]
-}
-
-fn store_buffer() -> [u8; STORE_BYTES] {
-    [0u8; STORE_BYTES]
-}
-
-fn output_buffer() -> [u8; OUTPUT_BYTES] {
-    [0u8; OUTPUT_BYTES]
-}
 
 fn flatten_record(rt: &(impl Print + Eprint), record: &[u8]) -> Result<usize, Failed> {
     let mut store = store_buffer();
