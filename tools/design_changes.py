@@ -83,7 +83,17 @@ NO_NAMES = {'let', 'in', 'where', 'use', 'module', 'infix', 'infixl', 'infixr', 
 
 def declared(text):
     """Name, whether it is public, and text of each declaration, in modules and mutual blocks too; what stands in a record or data belongs to it."""
-    lines = [line for line in text.split('\n') if line.strip() and not re.match(r'\s*--', line)]
+    lines = []
+    for line in text.split('\n'):
+        if not line.strip() or re.match(r'\s*--', line):
+            continue
+        # a head whose parameters go on in the next line is one line
+        before = lines[-1] if lines else ''
+        goes_on = re.match(r'\s*(?:(?:abbrev|unfoldable|opaque|erased|mutual|pub)\s+)*(?:record\s+|data\s+)?[^\s:=(){}]+(?:\s+[({][^:]*:.*?[)}])+\s*$', before)
+        if goes_on and re.match(r'\s*[({]', line):
+            lines[-1] = before.rstrip() + ' ' + line.strip()
+        else:
+            lines.append(line)
     out, i = [], 0
     while i < len(lines):
         m = HEAD.match(lines[i])
