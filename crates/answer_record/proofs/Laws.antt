@@ -5,8 +5,9 @@ use lib.Dec.{ltb}
 use mathlib.Core.Path.{◌≡◌, refl, sym, ap, ◌∙◌}
 use mathlib.Core.List.{List, [], ◌∷◌}
 use native.Mathlib.Omega.{arith}
+use native.Mathlib.Nat.{sub-zero}
 use lib.ListN.{length, get_or, drop, take}
-use Rattle.std.specs.Prelude.{Option, Some, None, cond, Result, Ok, Err}
+use Rattle.std.specs.Prelude.{slice_range, Option, Some, None, cond, Result, Ok, Err}
 use Rattle.std.proofs.Common.{inl, inr}
 use Rattle.std.specs.Char.{IsNotAsciiDigit}
 use Rattle.std.proofs.KnownBytes.{Appends-nil}
@@ -81,6 +82,10 @@ module _ (text : List ℕ) (value k : ℕ) (so : number_from value (drop k text)
         rw (e, next) (sym on ∙ here-is ∙ so)
 
 -- ---- an answer
+
+-- the bytes from the first on
+pub range_front : (xs : List ℕ) (n : ℕ) {ys : List ℕ} → ys ≡ slice_range xs 0 n → ys ≡ take n xs
+range_front xs n e = e ∙ ap (λ (k : ℕ). take k xs) (sub-zero n)
 
 pub given-all : (a : Result ℕ Refusal) (n : ℕ) (out : List ℕ) → a ≡ Ok n → n ≤ length out → length (take n out) ≡ given_of a (length out)
 unfolding given_of

@@ -4,7 +4,7 @@
 
 ghost use Rattle.std.specs.Prelude.{◌≡◌, ◌≤◌, length};
 ghost use Rattle.streams.specs.Streams.{Whole, Added};
-ghost use Rattle.answer_record.specs.Given.{at_most, number_of, Few, given_of, bytes_of};
+ghost use Rattle.answer_record.specs.Given.{number_of, Few, given_of, bytes_of};
 
 use records::refusals::Refusal;
 use std::env::FillError;
@@ -18,14 +18,8 @@ pub const MANY: usize = 100000000;
 // The room for an argument.
 const ARGUMENT: usize = 4096;
 
-// n, and `most` where it is more.
-pub fn at_most(n: usize, most: usize) -> usize
-    ensures { (result ≡ at_most n most) × (result ≤ most) }
-{
-    n.min(most)
-}
-
 // A number in decimal, or MANY where it is larger; none, where a byte is no digit or there is none.
+// Kept as it is: `str::parse` takes a sign before the digits, and fails where the number is too large.
 fn number(text: &[u8]) -> Option<usize>
     ensures { (result ≡ number_of text.now) × Few result }
 {
@@ -37,7 +31,7 @@ fn number(text: &[u8]) -> Option<usize>
         if !digit.is_ascii_digit() {
             return None;
         }
-        value = at_most(value * 10 + (*digit - b'0') as usize, MANY);
+        value = (value * 10 + usize::from(*digit - b'0')).min(MANY);
     }
     Some(value)
 }
@@ -82,12 +76,10 @@ pub fn print_answer<W: Write>(
     ensures bytes { Added result (W.contents to.old) (W.contents to.new) (bytes_of answer out.now) }
 {
     match answer {
-        Ok(n) => {
-            if n <= out.len() {
-                return print_record(rt, to, &out[..n]);
-            }
-            Ok(0)
-        }
+        Ok(n) => match out.get(..n) {
+            Some(record) => print_record(rt, to, record),
+            None => Ok(0),
+        },
         Err(refusal) => print_refused(rt, refusal),
     }
 }

@@ -1,7 +1,8 @@
 -- From what a printer answered to what is asked of the next one.
-use Rattle.std.proofs.Common.{◌≡◌, ℕ, ◌≤◌, ◌<◌, cond, List, [], length, take, Option, Result, Ok, Err, sym, ap, subst}
+use Rattle.std.proofs.Common.{◌≡◌, ℕ, ◌≤◌, ◌<◌, cond, List, [], length, take, Option, Result, Ok, Err, slice_range, sym, ap, ◌∙◌, subst}
 use Rattle.std.specs.Io.KnownBytes.{Keeps, Appends}
 use Rattle.std.proofs.KnownBytes.{Appends-nil, Appends-kept}
+use native.Mathlib.Nat.{sub-zero}
 use lib.Seq.{take-length}
 use borrow.Author.Tests.{lt-ltb, le-ltb}
 use Rattle.streams.specs.declared.Failed.{Failed}
@@ -20,6 +21,10 @@ added-kept (Err e) old mid new text h kept = (length text, subst (Appends old ne
 -- one that was kept got none
 pub added_none : (r : Result ℕ Failed) (old new : Option (List ℕ)) → Keeps old new → Added r old new []
 added_none r old new = added-kept r old old new [] (Appends-nil old)
+
+-- the bytes from the first on
+pub range_front : (xs : List ℕ) (n : ℕ) {ys : List ℕ} → ys ≡ slice_range xs 0 n → ys ≡ take n xs
+range_front xs n e = e ∙ ap (λ (k : ℕ). take k xs) (sub-zero n)
 
 -- an answer of n bytes where there are not so many, and where there are
 pub lines_none : (out : List ℕ) (n : ℕ) → length out < n → 0 ≡ lines_of (Ok n) out

@@ -39,10 +39,10 @@ fn print_front<W: Write>(
     ensures all { Whole result (lines_of (Ok n) out.now) }
     ensures bytes { Added result (W.contents to.old) (W.contents to.new) (printed_of (Ok n) out.now) }
 {
-    if out.len() < n {
-        return close_output(rt, to, 0);
+    match out.get(..n) {
+        Some(record) => print_record(rt, to, record),
+        None => close_output(rt, to, 0),
     }
-    print_record(rt, to, &out[..n])
 }
 
 // Prints an answer whose record stands at the front of out, and ends standard output; gives how many lines.

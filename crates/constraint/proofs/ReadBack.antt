@@ -151,7 +151,7 @@ module _ (m : ConstraintModule) where
   pub length-size : length b ≡ 4 * size b
   length-size = omega (arith, length-bytes m, publics-count, provers-count, equalities-count, kept-count, nodes-count)
 
-  -- so what `equality_at` and `kept_at` ask holds of each of its entries
+  -- so what `equality_at`, and `definition_at` of `flat` of a kept definition, ask holds of each of its entries
   pub equality-asked : (k : ℕ) → k < equalities b → 4 * (equalities_offset b + EQUALITY-WORDS * k + EQUALITY-WORDS) ≤ length b
   equality-asked k l = omega (arith, length-size, l)
 

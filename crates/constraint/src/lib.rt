@@ -18,11 +18,6 @@ use words::{put_word, put_words, unsigned};
 // Words of the record's header.
 pub const HEADER: usize = flat_record::HEADER;
 
-// The operations that are no operators.
-pub const NEGATE: u32 = 9;
-
-pub const COPY: u32 = 10;
-
 // The words of an equality and of a kept definition.
 pub const EQUALITY_WORDS: usize = 7;
 
@@ -44,6 +39,7 @@ pub enum Operation {
 }
 
 // left = first OP second. Negate and copy have no second term: there it is Variable(0).
+// Kept as it is: a struct of three terms and the operation is the form that was asked for (docs/DECISIONS.md).
 #[derive(Clone, Copy, PartialEq, Eq, Debug)]
 pub struct Equality {
     pub left: Term,
@@ -60,8 +56,8 @@ impl From<Operation> for u32 {
     fn from(operation: Operation) -> u32 {
         match operation {
             Operation::Infix(op) => u32::from(op),
-            Operation::Negate => NEGATE,
-            Operation::Copy => COPY,
+            Operation::Negate => 9,
+            Operation::Copy => 10,
         }
     }
 }
@@ -73,8 +69,8 @@ impl From<u32> for Operation {
 
     fn from(number: u32) -> Operation {
         match number {
-            NEGATE => Operation::Negate,
-            COPY => Operation::Copy,
+            9 => Operation::Negate,
+            10 => Operation::Copy,
             _ => Operation::Infix(operator(number)),
         }
     }

@@ -1,12 +1,10 @@
-// A constraint record, read: its layout, and the entries of its lists, each by its place and its index. Public and prover ids and nodes stand as a flat
-// record's do: `flat::entries::public_at`, `prover_at`, `flat::node_at`.
+// A constraint record, read: its layout, and the entries of its lists, each by its place and its index. Public and prover ids, kept definitions and nodes
+// stand as a flat record's do: `flat::entries::public_at`, `prover_at`, `definition_at`, `flat::node_at`.
 ghost use Rattle.std.specs.Prelude.{◌≡◌, ◌+◌, ◌*◌, ◌≤◌, length};
-ghost use Rattle.flat.specs.Layout.{definition_entry};
-ghost use Rattle.constraint.specs.Record.{EQUALITY-WORDS, KEPT-WORDS, TERM-WORDS};
+ghost use Rattle.constraint.specs.Record.{EQUALITY-WORDS, TERM-WORDS};
 ghost use Rattle.constraint.specs.Reading.{HEADER, layout_of, term_at, written_at};
 
 use super::{EQUALITY_WORDS, Equality, HEADER, KEPT_WORDS, Operation, Term};
-use flat::entries::{DefinitionEntry, definition_at};
 use records::NODE_WORDS;
 use words::{count, signed, word_at};
 
@@ -87,12 +85,4 @@ pub fn equality_at(s: &[u8], at: usize, k: usize) -> Equality
         first: term_at(s, base + 3),
         second,
     }
-}
-
-// Kept definition k of those that start at word `at`.
-pub fn kept_at(s: &[u8], at: usize, k: usize) -> DefinitionEntry
-    requires { 4 * (at + KEPT-WORDS * k + KEPT-WORDS) ≤ length s.now }
-    ensures { result ≡ definition_entry s.now at k }
-{
-    definition_at(s, at, k)
 }

@@ -30,6 +30,7 @@ fn line_count(s: &[u8]) -> usize
 }
 
 // Line k of the text of a record, at the front of the bytes; of no bytes behind the last line.
+// Kept as it is: the promise is one equation for every k, which an Option would cut in two.
 pub fn line_at(s: &[u8], k: usize, out: &mut [u8; LINE]) -> usize
     ensures value { (result ≡ length (line_at s.now k)) × (out.new ≡ set_bytes out.old 0 (line_at s.now k)) }
     ensures prefix_len { IsPrefixLen result out.new }
@@ -65,7 +66,7 @@ pub fn print_equalities<W: Write>(rt: &impl Eprint, out: &mut W, s: &[u8]) -> Re
     Ok(lines)
 }
 
-// "refused N", on standard output.
+// "refused N", on standard output. Kept as it is: one function for this and `print_line` would take the line by a closure, which is no plainer.
 pub fn print_refused<W: Write>(rt: &impl Eprint, out: &mut W, number: u32) -> Result<usize, Failed>
     ensures whole { Whole result (length (refused_text number)) }
     ensures bytes { Added result (W.contents out.old) (W.contents out.new) (refused_text number) }

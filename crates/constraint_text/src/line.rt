@@ -39,7 +39,7 @@ fn push_term(line: &mut Line, term: Term)
     }
 }
 
-// The sign of an operator between two blanks.
+// The sign of an operator between two blanks. Kept as it is: signs are of this text alone, so no conversion of `InfixOp` says them.
 #[tactic(auto, unfolding(crate::specs::Text::sign_of, crate::specs::Text::between))]
 fn sign(op: InfixOp) -> &'static str
     ensures { result.now ≡ between (sign_of op) }

@@ -3,7 +3,7 @@
 // more than a flat record can need, it counts as the most that one can. A read or a write that fails is said on standard error.
 #![tactic(auto)]
 
-use answer_record::{at_most, lent_bytes, print_answer};
+use answer_record::{lent_bytes, print_answer};
 use flat::entries::BYTES;
 use pass_entry::OUTPUT_BYTES;
 use std::io;
@@ -16,7 +16,7 @@ const RECORD_BYTES: usize = BYTES + 1;
 // The program's own name counts as an argument.
 const MOST_ARGUMENTS: usize = 2;
 
-// Kept as it is: a function that makes no promise, since a caller's proof would compute an array of so many places and not end.
+// Kept as it is: with `words::filled`, which was tried, a caller's proof computed the array place by place until the stack ended.
 fn record_buffer() -> [u8; RECORD_BYTES] {
     [0u8; RECORD_BYTES]
 }
@@ -35,7 +35,7 @@ fn cut_input(rt: &(impl Input + Print + Eprint), out: &mut [u8]) -> Result<usize
 
 fn run(rt: &(impl Input + Print + Eprint), room: usize) -> Result<usize, Failed> {
     let mut out = output_buffer();
-    let most = at_most(room, OUTPUT_BYTES);
+    let most = room.min(OUTPUT_BYTES);
     cut_input(rt, &mut out[..most])
 }
 

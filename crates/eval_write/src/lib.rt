@@ -11,7 +11,7 @@ ghost use Rattle.records.specs.FlatRecord.{HEADER, IDS, LISTED, PUBLICS};
 ghost use Rattle.records.specs.Kinds.{NODE-WORDS};
 
 use eval_memory::Memory;
-use flat::entries::{BYTES, DEFINITION_WORDS, EQUATION_WORDS, put_header};
+use flat::entries::{BYTES, DEFINITION_WORDS, EQUATION_WORDS, Header, put_header};
 use records::NODE_WORDS;
 use records::flat_record::{HEADER, IDS};
 use words::put_word;
@@ -69,15 +69,15 @@ pub fn write_flat(memory: &Memory, publics: &[u32], out: &mut FlatBytes) -> usiz
 {
     let s = memory.state;
     let count = publics.len();
-    put_header(
-        out,
-        s.next,
-        count as u32,
-        s.provers,
-        s.definitions,
-        s.equations,
-        s.nodes,
-    );
+    let header = Header {
+        next: s.next,
+        publics: count as u32,
+        provers: s.provers,
+        first: s.definitions,
+        second: s.equations,
+        nodes: s.nodes,
+    };
+    put_header(out, header);
     write_publics(out, publics);
     let provers = HEADER + count;
     write_provers(out, memory, provers);

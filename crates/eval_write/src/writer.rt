@@ -12,6 +12,7 @@ use flat::entries::{DEFINITION_WORDS, EQUATION_WORDS, put_definition, put_equati
 use records::NODE_WORDS;
 use records::flat_record::NODES;
 use records::kinds::{INFIX, Kind, NEGATE};
+use records::nodes::NodeEntry;
 
 const MOST_NODES: u32 = NODES as u32;
 
@@ -41,7 +42,7 @@ impl Writer<'_, '_> {
         }
         let at = self.at + NODE_WORDS * (self.nodes as usize);
         let out = &mut *self.out;
-        put_node(out, at, kind, a, b, c);
+        put_node(out, at, NodeEntry { kind, a, b, c });
         self.nodes += 1;
     }
 

@@ -8,6 +8,7 @@ ghost use Rattle.records.specs.Kinds.{NODE-WORDS};
 
 use records::NODE_WORDS;
 use records::flat_record::{HEADER, LISTED, NODES, PUBLICS};
+use records::nodes::NodeEntry;
 use words::{count, put_words, word_at};
 
 // The words of a definition and of an equation.
@@ -35,6 +36,17 @@ pub struct DefinitionEntry {
 pub struct EquationEntry {
     pub left: usize,
     pub right: usize,
+}
+
+// A header: the next id, the counts of publics and prover ids, of the two lists behind them, and of nodes.
+#[derive(Clone, Copy)]
+pub struct Header {
+    pub next: u32,
+    pub publics: u32,
+    pub provers: u32,
+    pub first: u32,
+    pub second: u32,
+    pub nodes: u32,
 }
 
 // Public id k.
@@ -77,20 +89,20 @@ pub fn equation_at(s: &[u8], at: usize, k: usize) -> EquationEntry
     }
 }
 
-// The header: the next id, the counts of publics and prover ids, of the two lists behind them, and of nodes.
+// The header.
 #[tactic(auto, unfolding(crate::specs::Layout::header_words))]
-pub fn put_header(
-    out: &mut [u8],
-    next: u32,
-    publics: u32,
-    provers: u32,
-    first: u32,
-    second: u32,
-    nodes: u32,
-)
+pub fn put_header(out: &mut [u8], header: Header)
     requires { 4 * HEADER ≤ length out.old }
-    ensures { out.new ≡ set_words out.old 0 (header_words next publics provers first second nodes) }
+    ensures { out.new ≡ set_words out.old 0 (header_words header.next header.publics header.provers header.first header.second header.nodes) }
 {
+    let Header {
+        next,
+        publics,
+        provers,
+        first,
+        second,
+        nodes,
+    } = header;
     put_words(out, 0, [next, publics, provers, first, second, nodes]);
 }
 
@@ -115,9 +127,10 @@ pub fn put_equation(out: &mut [u8], at: usize, left: u32, right: u32)
 
 // A node at word `at`.
 #[tactic(auto, unfolding(crate::specs::Layout::node_words))]
-pub fn put_node(out: &mut [u8], at: usize, kind: u32, a: u32, b: u32, c: u32)
+pub fn put_node(out: &mut [u8], at: usize, node: NodeEntry)
     requires { 4 * (at + NODE-WORDS) ≤ length out.old }
-    ensures { out.new ≡ set_words out.old at (node_words kind a b c) }
+    ensures { out.new ≡ set_words out.old at (node_words node.kind node.a node.b node.c) }
 {
+    let NodeEntry { kind, a, b, c } = node;
     put_words(out, at, [kind, a, b, c]);
 }

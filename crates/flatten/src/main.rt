@@ -4,7 +4,7 @@
 // fails is said on standard error.
 #![tactic(auto)]
 
-use answer_record::{at_most, lent_bytes, print_answer};
+use answer_record::{lent_bytes, print_answer};
 use flatten_entry::buffers::{STORE_BYTES, output_buffer, record_buffer, store_buffer};
 use pass_entry::OUTPUT_BYTES;
 use std::io;
@@ -29,8 +29,8 @@ fn flatten_input(
 fn run(rt: &(impl Input + Print + Eprint), held: usize, room: usize) -> Result<usize, Failed> {
     let mut store = store_buffer();
     let mut out = output_buffer();
-    let bytes = at_most(held, STORE_BYTES);
-    let most = at_most(room, OUTPUT_BYTES);
+    let bytes = held.min(STORE_BYTES);
+    let most = room.min(OUTPUT_BYTES);
     flatten_input(rt, &mut store[..bytes], &mut out[..most])
 }
 

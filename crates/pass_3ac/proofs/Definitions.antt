@@ -18,8 +18,8 @@ use Rattle.pass_classify.specs.Arrays.{usage_of, marked, Classified}
 use Rattle.pass_copies.specs.declared.Substitute.{Substitute}
 use Rattle.pass_copies.specs.Substituted.{option_of, subst_of, put_definition, put_definitions}
 use Rattle.pass_copies.proofs.After.{put-none, put_first, put-unused, put-prover, put-counted, Storable, after-says}
-use Rattle.pass_3ac.specs.declared.Cut.{Cut}
-use Rattle.pass_3ac.specs.declared.Place.{Place}
+use Rattle.pass_3ac.specs.Cutting.{Cut}
+use Rattle.pass_3ac.specs.Cutting.{Place}
 use Rattle.pass_classify.specs.Arrays.{provers_of, used_of, counted_of}
 use Rattle.pass_3ac.specs.Cutting.{tree_cut, put_equalities, place_from, defs_cut, defs_after, DefsPut, Room}
 use Rattle.pass_3ac.proofs.Trees.{cut-few, cut-ids}

@@ -14,8 +14,8 @@ use Rattle.pass_trees.specs.Passes.{copied, Cuts, cuts_of, joined, Sides as Side
 use Rattle.pass_trees.proofs.Loops.{copied-equations-append, alive-append, equations-append}
 use Rattle.pass_copies.specs.Substituted.{option_of, copied_of, dead_roots}
 use Rattle.pass_copies.proofs.Shapes.{dead-by-roots}
-use Rattle.pass_3ac.specs.declared.Cut.{Cut}
-use Rattle.pass_3ac.specs.declared.Place.{Place}
+use Rattle.pass_3ac.specs.Cutting.{Cut}
+use Rattle.pass_3ac.specs.Cutting.{Place}
 use Rattle.pass_3ac.specs.declared.Sides.{Sides}
 use Rattle.pass_3ac.specs.declared.Sides.TheVariants.{Left, Right, Neither}
 use Rattle.pass_3ac.specs.Cutting.{tree_cut, after, sides_of, equations_cut, Room}

@@ -6,8 +6,8 @@ use native.Mathlib.Omega.{arith}
 use lib.ListN.{length, length-append}
 use Rattle.constraint.specs.Trees.{Equality}
 use Rattle.pass_trees.specs.Passes.{Cut as Cutting, Cuts, cuts_of, joined}
-use Rattle.pass_3ac.specs.declared.Cut.{Cut}
-use Rattle.pass_3ac.specs.declared.Place.{Place}
+use Rattle.pass_3ac.specs.Cutting.{Cut}
+use Rattle.pass_3ac.specs.Cutting.{Place}
 use Rattle.pass_3ac.specs.Cutting.{put_equalities, after, cut_from, place_from, Room}
 use Rattle.pass_3ac.proofs.Placing.{put-none, after_none, put-append, after-append, length-put}
 use Rattle.pass_3ac.proofs.Ways.{Leaves}

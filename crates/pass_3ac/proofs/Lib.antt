@@ -5,3 +5,4 @@ pub mod Joining
 pub mod Definitions
 pub mod Equations
 pub mod Turns
+pub mod Writers

@@ -15,7 +15,7 @@ use Rattle.pass_classify.proofs.Lists.{equations-whole, definitions-more, equati
 use Rattle.pass_classify.specs.Readable.{tree_of}
 use Rattle.pass_copies.specs.declared.Substitute.{Substitute}
 use Rattle.pass_copies.specs.Substituted.{subst_of}
-use Rattle.pass_3ac.specs.declared.Place.{Place}
+use Rattle.pass_3ac.specs.Cutting.{Place}
 use Rattle.pass_3ac.specs.Cutting.{defs_cut, equations_cut, DefsPut, Room}
 use Rattle.pass_3ac.proofs.Ways.{room-less}
 use Rattle.pass_3ac.proofs.Joining.{Puts, room-puts}

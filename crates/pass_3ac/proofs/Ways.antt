@@ -17,7 +17,7 @@ use Rattle.constraint.specs.declared.Equality.{Equality as Written}
 use Rattle.constraint.specs.Trees.{Side, Equality, written}
 use Rattle.constraint.specs.Record.{EQUALITY-WORDS, written_words}
 use Rattle.pass_trees.specs.Passes.{Substitutions, walk, infix_op, Cut as Cutting, or_variable, push_constraint_def, copied}
-use Rattle.pass_3ac.specs.declared.Cut.{Cut}
+use Rattle.pass_3ac.specs.Cutting.{Cut}
 use Rattle.pass_3ac.specs.Cutting.{equality_of, tree_cut, put_equalities, after, cut_from, DRAWN, Room}
 use Rattle.pass_3ac.proofs.Trees.{cut-infix, cut-negate, cut-constant, cut-variable, cut-few, cut-ids, nodes-some}
 use Rattle.pass_3ac.proofs.Placing.{put-append, after-append, length-put, put_one, after_one}

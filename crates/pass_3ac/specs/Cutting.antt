@@ -12,10 +12,18 @@ use Rattle.pass_trees.specs.Passes.{alive, flatten_expr_to_3ac, flatten_defs, fl
 use Rattle.pass_classify.specs.Arrays.{provers_of, used_of, counted_of}
 use Rattle.pass_copies.specs.declared.Substitute.{Substitute}
 use Rattle.pass_copies.specs.Substituted.{option_of, subst_of, put_definitions}
-use Rattle.pass_3ac.specs.declared.Cut.{Cut}
-use Rattle.pass_3ac.specs.declared.Place.{Place}
 use Rattle.pass_3ac.specs.declared.Sides.{Sides}
 use Rattle.pass_3ac.specs.declared.Sides.TheVariants.{Left, Right, Neither}
+
+-- the next id, and the word after the last equality
+pub record Place : Type 0 where
+  pub next : ℕ
+  pub at : ℕ
+
+-- what a cut leaves: the term that stands for the expression, and the place after its equalities
+pub record Cut : Type 0 where
+  pub term : Term
+  pub place : Place
 
 -- the equality of a left term and a right side
 unfoldable pub equality_of : Term → Side → Written
@@ -36,10 +44,6 @@ after at qs = at + EQUALITY-WORDS * length qs
 unfoldable pub cut_from : ℕ → Cutting → Cut
 cut_from at c = record { term = c.term; place = record { next = c.next; at = after at c.equalities } }
 
--- what the cut of a tree from word `at` on leaves: the body after it, and the answer
-abbrev pub CutPut : List ℕ → List ℕ → ℕ → Cutting → Cut → Type 0
-CutPut body body' at c r = (body' ≡ put_equalities body at c.equalities) × (r ≡ cut_from at c)
-
 -- more ids than a flat record's and one for each of its nodes: a sum of them never wraps
 abbrev pub DRAWN : ℕ
 DRAWN = 131072
@@ -54,10 +58,6 @@ pub record Room (n at next : ℕ) (body : List ℕ) : Type 0 where
 -- the code's answer for cuts whose equalities are written from word `at` on
 unfoldable pub place_from : ℕ → Cuts → Place
 place_from at c = record { next = c.next; at = after at c.equalities }
-
--- what such cuts leave: the body after them, and the answer
-abbrev pub CutsPut : List ℕ → List ℕ → ℕ → Cuts → Place → Type 0
-CutsPut body body' at c r = (body' ≡ put_equalities body at c.equalities) × (r ≡ place_from at c)
 
 -- definitions of a record with the bytes b, those that are used, with the substitutions made one after the other: cut, and the substitutions after them
 unfoldable pub defs_cut : List ℕ → ℕ → Substitutions → List Definition → ℕ → Cuts

@@ -1,9 +1,10 @@
 // infix_op: the simplifications that the Rust makes, tried in its order; two constants are not folded.
 ghost use Rattle.std.specs.Prelude.{◌≡◌};
 ghost use Rattle.field.specs.declared.InfixOp.TheVariants.{DivideZ, Multiply, Add, Subtract, Modulo};
-ghost use Rattle.constraint.specs.Trees.{Side};
+ghost use Rattle.constraint.specs.Trees.{Side as Right};
 ghost use Rattle.pass_trees.specs.Passes.{is_one, is_zero, when, infix_op};
 ghost use Rattle.pass_3ac.specs.Cutting.{equality_of};
+ghost use Rattle.pass_3ac.specs.Sides.{side_of};
 
 use constraint::{Equality, Operation, Term};
 use field::InfixOp;
@@ -23,39 +24,56 @@ fn is_zero(t: Term) -> bool
     t == Term::Constant(0)
 }
 
-// left = term
-#[tactic(auto, unfolding(crate::specs::Cutting::equality_of, constraint::specs::Trees::written, constraint::specs::Trees::operation, constraint::specs::Trees::first, constraint::specs::Trees::second))]
-pub fn copy(left: Term, term: Term) -> Equality
-    ensures { result ≡ equality_of left (Side.copy term) }
+// A right side, as an equality has it: with the variable 0 where there is no second term.
+#[derive(Clone, Copy)]
+pub struct Side {
+    pub operation: Operation,
+    pub first: Term,
+    pub second: Term,
+}
+
+impl Side {
+    // The equality of a left term and this side.
+    #[tactic(auto, unfolding(crate::specs::Sides::side_of, crate::specs::Cutting::equality_of, constraint::specs::Trees::written))]
+    pub fn equality(self, left: Term) -> Equality
+        ensures { (side : Right) → self ≡ side_of side → result ≡ equality_of left side }
+    {
+        Equality {
+            left,
+            operation: self.operation,
+            first: self.first,
+            second: self.second,
+        }
+    }
+}
+
+#[tactic(auto, unfolding(crate::specs::Sides::side_of, constraint::specs::Trees::operation, constraint::specs::Trees::first, constraint::specs::Trees::second))]
+pub fn copy(term: Term) -> Side
+    ensures { result ≡ side_of (Right.copy term) }
 {
-    Equality {
-        left,
+    Side {
         operation: Operation::Copy,
         first: term,
         second: Term::Variable(0),
     }
 }
 
-// left = -term
-#[tactic(auto, unfolding(crate::specs::Cutting::equality_of, constraint::specs::Trees::written, constraint::specs::Trees::operation, constraint::specs::Trees::first, constraint::specs::Trees::second))]
-pub fn negate(left: Term, term: Term) -> Equality
-    ensures { result ≡ equality_of left (Side.negate term) }
+#[tactic(auto, unfolding(crate::specs::Sides::side_of, constraint::specs::Trees::operation, constraint::specs::Trees::first, constraint::specs::Trees::second))]
+pub fn negate(term: Term) -> Side
+    ensures { result ≡ side_of (Right.negate term) }
 {
-    Equality {
-        left,
+    Side {
         operation: Operation::Negate,
         first: term,
         second: Term::Variable(0),
     }
 }
 
-// left = a OP b
-#[tactic(auto, unfolding(crate::specs::Cutting::equality_of, constraint::specs::Trees::written, constraint::specs::Trees::operation, constraint::specs::Trees::first, constraint::specs::Trees::second))]
-fn plain(left: Term, op: InfixOp, a: Term, b: Term) -> Equality
-    ensures { result ≡ equality_of left (Side.infixed op a b) }
+#[tactic(auto, unfolding(crate::specs::Sides::side_of, constraint::specs::Trees::operation, constraint::specs::Trees::first, constraint::specs::Trees::second))]
+fn plain(op: InfixOp, a: Term, b: Term) -> Side
+    ensures { result ≡ side_of (Right.infixed op a b) }
 {
-    Equality {
-        left,
+    Side {
         operation: Operation::Infix(op),
         first: a,
         second: b,
@@ -63,94 +81,94 @@ fn plain(left: Term, op: InfixOp, a: Term, b: Term) -> Equality
 }
 
 #[tactic(auto, unfolding(pass_trees::specs::Passes::infix_op, pass_trees::specs::Passes::when))]
-fn multiply(left: Term, a: Term, b: Term) -> Equality
-    ensures { result ≡ equality_of left (infix_op Multiply a b) }
+fn multiply(a: Term, b: Term) -> Side
+    ensures { result ≡ side_of (infix_op Multiply a b) }
 {
     if is_one(a) {
-        return copy(left, b);
+        return copy(b);
     }
     if is_one(b) {
-        return copy(left, a);
+        return copy(a);
     }
     if is_zero(a) {
-        return copy(left, a);
+        return copy(a);
     }
     if is_zero(b) {
-        return copy(left, b);
+        return copy(b);
     }
-    plain(left, InfixOp::Multiply, a, b)
+    plain(InfixOp::Multiply, a, b)
 }
 
 #[tactic(auto, unfolding(pass_trees::specs::Passes::infix_op, pass_trees::specs::Passes::when))]
-fn divide_z(left: Term, a: Term, b: Term) -> Equality
-    ensures { result ≡ equality_of left (infix_op DivideZ a b) }
+fn divide_z(a: Term, b: Term) -> Side
+    ensures { result ≡ side_of (infix_op DivideZ a b) }
 {
     if is_one(b) {
-        return copy(left, a);
+        return copy(a);
     }
     if is_zero(a) {
-        return copy(left, a);
+        return copy(a);
     }
-    plain(left, InfixOp::DivideZ, a, b)
+    plain(InfixOp::DivideZ, a, b)
 }
 
 #[tactic(auto, unfolding(pass_trees::specs::Passes::infix_op, pass_trees::specs::Passes::when))]
-fn add(left: Term, a: Term, b: Term) -> Equality
-    ensures { result ≡ equality_of left (infix_op Add a b) }
+fn add(a: Term, b: Term) -> Side
+    ensures { result ≡ side_of (infix_op Add a b) }
 {
     if is_zero(a) {
-        return copy(left, b);
+        return copy(b);
     }
     if is_zero(b) {
-        return copy(left, a);
+        return copy(a);
     }
-    plain(left, InfixOp::Add, a, b)
+    plain(InfixOp::Add, a, b)
 }
 
 // An operation that 1 on the right leaves as it is.
 #[tactic(auto, unfolding(pass_trees::specs::Passes::infix_op, pass_trees::specs::Passes::when))]
-fn unless_one(left: Term, op: InfixOp, a: Term, b: Term) -> Equality
-    ensures { result ≡ equality_of left (when (is_one b) (Side.copy a) (Side.infixed op a b)) }
+fn unless_one(op: InfixOp, a: Term, b: Term) -> Side
+    ensures { result ≡ side_of (when (is_one b) (Right.copy a) (Right.infixed op a b)) }
 {
     if is_one(b) {
-        return copy(left, a);
+        return copy(a);
     }
-    plain(left, op, a, b)
+    plain(op, a, b)
 }
 
 #[tactic(auto, unfolding(pass_trees::specs::Passes::infix_op, pass_trees::specs::Passes::when))]
-fn subtract(left: Term, a: Term, b: Term) -> Equality
-    ensures { result ≡ equality_of left (infix_op Subtract a b) }
+fn subtract(a: Term, b: Term) -> Side
+    ensures { result ≡ side_of (infix_op Subtract a b) }
 {
     if is_zero(b) {
-        return copy(left, a);
+        return copy(a);
     }
-    plain(left, InfixOp::Subtract, a, b)
+    plain(InfixOp::Subtract, a, b)
 }
 
 #[tactic(auto, unfolding(pass_trees::specs::Passes::infix_op, pass_trees::specs::Passes::when))]
-fn modulo(left: Term, a: Term, b: Term) -> Equality
-    ensures { result ≡ equality_of left (infix_op Modulo a b) }
+fn modulo(a: Term, b: Term) -> Side
+    ensures { result ≡ side_of (infix_op Modulo a b) }
 {
     if is_one(b) {
-        return copy(left, Term::Constant(0));
+        return copy(Term::Constant(0));
     }
-    plain(left, InfixOp::Modulo, a, b)
+    plain(InfixOp::Modulo, a, b)
 }
 
 #[tactic(auto, unfolding(pass_trees::specs::Passes::infix_op, pass_trees::specs::Passes::when))]
-pub fn infix_op(left: Term, op: InfixOp, a: Term, b: Term) -> Equality
-    ensures { result ≡ equality_of left (infix_op op a b) }
+pub fn infix_op(op: InfixOp, a: Term, b: Term) -> Side
+    ensures { result ≡ side_of (infix_op op a b) }
 {
     match op {
-        InfixOp::Divide => unless_one(left, op, a, b),
-        InfixOp::DivideZ => divide_z(left, a, b),
-        InfixOp::Multiply => multiply(left, a, b),
-        InfixOp::Add => add(left, a, b),
-        InfixOp::Subtract => subtract(left, a, b),
-        InfixOp::Equal => plain(left, op, a, b),
-        InfixOp::Exponentiate => plain(left, op, a, b),
-        InfixOp::IntDivide => unless_one(left, op, a, b),
-        InfixOp::Modulo => modulo(left, a, b),
+        InfixOp::Divide => unless_one(op, a, b),
+        InfixOp::DivideZ => divide_z(a, b),
+        InfixOp::Multiply => multiply(a, b),
+        InfixOp::Add => add(a, b),
+        InfixOp::Subtract => subtract(a, b),
+        InfixOp::Equal => plain(op, a, b),
+        InfixOp::Exponentiate => plain(op, a, b),
+        InfixOp::IntDivide => unless_one(op, a, b),
+        InfixOp::Modulo => modulo(a, b),
     }
 }

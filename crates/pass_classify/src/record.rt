@@ -20,6 +20,7 @@ pub struct Record<'a> {
     pub ghost laid: { layout ≡ layout_of bytes.now } by { Coded-set layout-code _ _ },
 }
 
+// Kept as it is: entries by index, not iterators of them: what is left of a list is said by its index, in the definitions and in each loop's invariant.
 impl<'a> Record<'a> {
     pub fn new(bytes: &'a [u8]) -> Record<'a>
         requires { Readable bytes.now }

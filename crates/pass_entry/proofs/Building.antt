@@ -23,7 +23,7 @@ use Rattle.pass_trees.specs.Passes.{keep_if, ids_from, member, those, is_never, 
 use Rattle.pass_trees.specs.Passes.{copy_propagate_defs, copy_propagate, eliminate_dead_equalities, Cuts, joined, flatten_lists, flatten_module_to_3ac, passes}
 use Rattle.pass_classify.specs.Arrays.{marked, Classified, provers_of, used_of, counted_of}
 use Rattle.pass_classify.proofs.Whole.{classified-provers}
-use Rattle.pass_3ac.specs.declared.Place.{Place}
+use Rattle.pass_3ac.specs.Cutting.{Place}
 use Rattle.pass_3ac.specs.Cutting.{put_equalities, after, place_from, defs_cut, defs_after, equations_cut, Room}
 use Rattle.pass_3ac.proofs.Joining.{Puts, Few, place_at, place-next}
 use Rattle.pass_3ac.proofs.Definitions.{few-defs}

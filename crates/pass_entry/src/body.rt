@@ -15,8 +15,8 @@ ghost use Rattle.records.specs.Refusals.{numbered};
 use super::built::Built;
 use super::lists::{copy_to, put_provers, put_publics};
 use constraint::{EQUALITY_WORDS, HEADER, KEPT_WORDS};
-use flat::entries::put_header;
-use pass_3ac::{Place, flatten_defs, flatten_equations};
+use flat::entries::{Header, put_header};
+use pass_3ac::Writer;
 use pass_classify::{Classes, cuttable};
 use pass_copies::{Substitutions, used_definitions};
 use pass_keep::keep_defs;
@@ -53,15 +53,15 @@ impl Built {
         if out.len() < size {
             return Err(Refusal::Output);
         }
-        put_header(
-            out,
-            self.next,
-            self.publics as u32,
-            (self.start - self.publics) as u32,
-            self.equality_count() as u32,
-            ((self.kept - self.equalities) / KEPT_WORDS) as u32,
-            self.nodes as u32,
-        );
+        let header = Header {
+            next: self.next,
+            publics: self.publics as u32,
+            provers: (self.start - self.publics) as u32,
+            first: self.equality_count() as u32,
+            second: ((self.kept - self.equalities) / KEPT_WORDS) as u32,
+            nodes: self.nodes as u32,
+        };
+        put_header(out, header);
         let bytes = 4 * self.kept;
         copy_to(body, bytes, out, HEADER_BYTES);
         copy_to(list, NODE_BYTES * self.nodes, out, HEADER_BYTES + bytes);
@@ -82,20 +82,22 @@ pub fn build(classes: &Classes, body: &mut [u8], list: &mut [u8]) -> Built
     let layout = record.layout;
     put_publics(record, body);
     let start = put_provers(classes, body, layout.publics);
-    let first = Place {
+    let mut writer = Writer {
+        body: &mut *body,
         next: layout.next as u32,
         at: start,
     };
     let mut subs = Substitutions::new(used_definitions(classes));
-    let d = flatten_defs(classes, &mut subs, body, first);
-    let e = flatten_equations(record, &subs, body, d);
+    writer.flatten_defs(classes, &mut subs);
+    writer.flatten_equations(record, &subs);
+    let Writer { next, at, .. } = writer;
     subs.clear();
-    let k = keep_defs(classes, &mut subs, body, e.at, list);
+    let k = keep_defs(classes, &mut subs, body, at, list);
     Built {
-        next: e.next,
+        next,
         publics: layout.publics,
         start,
-        equalities: e.at,
+        equalities: at,
         kept: k.at,
         nodes: k.nodes,
     }

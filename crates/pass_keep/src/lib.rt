@@ -20,6 +20,7 @@ use pass_classify::record::Record;
 use pass_copies::Substitutions;
 use records::NODE_WORDS;
 use records::kinds::{CONSTANT, INFIX, NEGATE, VARIABLE};
+use records::nodes::NodeEntry;
 use words::unsigned;
 
 // The node of a term.
@@ -29,10 +30,22 @@ fn put_leaf(list: &mut [u8], index: usize, term: Term)
 {
     match term {
         Term::Variable(v) => {
-            put_node(list, NODE_WORDS * index, VARIABLE, v, 0, 0);
+            let node = NodeEntry {
+                kind: VARIABLE,
+                a: v,
+                b: 0,
+                c: 0,
+            };
+            put_node(list, NODE_WORDS * index, node);
         }
         Term::Constant(c) => {
-            put_node(list, NODE_WORDS * index, CONSTANT, unsigned(c), 0, 0);
+            let node = NodeEntry {
+                kind: CONSTANT,
+                a: unsigned(c),
+                b: 0,
+                c: 0,
+            };
+            put_node(list, NODE_WORDS * index, node);
         }
     }
 }
@@ -47,20 +60,24 @@ fn put_tree(record: &Record, k: usize, subs: &Substitutions, list: &mut [u8], ba
         Node::Infix(op, x, y) => {
             let a = put_tree(record, x, subs, list, base);
             let b = put_tree(record, y, subs, list, a);
-            let o = u32::from(op);
-            put_node(
-                list,
-                NODE_WORDS * b,
-                INFIX,
-                (a - 1) as u32,
-                (b - 1) as u32,
-                o,
-            );
+            let node = NodeEntry {
+                kind: INFIX,
+                a: (a - 1) as u32,
+                b: (b - 1) as u32,
+                c: u32::from(op),
+            };
+            put_node(list, NODE_WORDS * b, node);
             b + 1
         }
         Node::Negate(x) => {
             let a = put_tree(record, x, subs, list, base);
-            put_node(list, NODE_WORDS * a, NEGATE, (a - 1) as u32, 0, 0);
+            let node = NodeEntry {
+                kind: NEGATE,
+                a: (a - 1) as u32,
+                b: 0,
+                c: 0,
+            };
+            put_node(list, NODE_WORDS * a, node);
             a + 1
         }
         Node::Constant(c) => {

@@ -63,3 +63,11 @@ impl Refusal {
         }
     }
 }
+
+impl From<Refusal> for u32 {
+    ghost from_gives = { λ r n. n ≡ refusal_number r };
+
+    fn from(r: Refusal) -> u32 {
+        r.number()
+    }
+}

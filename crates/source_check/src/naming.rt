@@ -76,6 +76,7 @@ impl Names<'_> {
     }
 
     // Whether name k is none of those before it. Only where fingerprints are equal are bytes compared.
+    // Kept as it is: a set of names needs the heap, which the project does without.
     fn is_new(&self, prints: &[u32; NAMES], k: usize) -> bool
         requires below { k < self.now.count }
         requires fingerprinted { Fingerprinted self.now.bytes.now self.now.text self.now.count prints.now }

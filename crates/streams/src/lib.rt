@@ -50,10 +50,9 @@ fn read_more<R: Read>(rt: &impl Eprint, input: &mut R, buf: &mut [u8]) -> Result
     ensures count { Stepped result (length buf.old) }
     ensures bytes { Taken result (R.remaining input.old) (R.remaining input.new) buf.new }
 {
-    match input.read(buf) {
-        Ok(n) => Ok(n),
-        Err(error) => Err(say_failed(rt, "input", error)),
-    }
+    input
+        .read(buf)
+        .map_err(|error| say_failed(rt, "input", error))
 }
 
 // Reads until buf is full or the input ends. A read that fails, or would have to wait where that is not wanted, is no end.
@@ -118,6 +117,7 @@ pub fn write_output<W: Write>(rt: &impl Eprint, out: &mut W, bytes: &[u8]) -> Re
 }
 
 // Ends standard output after all of it was written, so many bytes: what is still held on its way is written out. No call closes it.
+// Kept as it is: `written` comes and goes, since the clause `whole` says with it that all was written.
 pub fn close_output<W: Write>(
     rt: &impl Eprint,
     out: &mut W,
@@ -126,10 +126,9 @@ pub fn close_output<W: Write>(
     ensures whole { Whole result written }
     ensures bytes { Keeps (W.contents out.old) (W.contents out.new) }
 {
-    match out.flush() {
-        Ok(()) => Ok(written),
-        Err(error) => Err(say_failed(rt, "standard output", error)),
-    }
+    out.flush()
+        .map(|()| written)
+        .map_err(|error| say_failed(rt, "standard output", error))
 }
 
 fn say_usage(rt: &impl Eprint, usage: &str) -> Failed {
@@ -154,13 +153,13 @@ fn open_named<R: Files + Eprint>(
         let _ = eprintln!(rt; "input: the name is not UTF-8");
         return Err(Failed);
     };
-    match fs::open(rt, name) {
-        Ok(file) => Ok(Opened::File(file)),
-        Err(error) => Err(say_failed(rt, name, error)),
-    }
+    fs::open(rt, name)
+        .map(Opened::File)
+        .map_err(|error| say_failed(rt, name, error))
 }
 
 // Standard input is what to read, of a program that takes no arguments: any are answered by the line of usage.
+// Kept as it is: it answers what was opened, since a contract cannot say of `()` that standard input is.
 pub fn open_standard(rt: &(impl Env + Eprint), usage: &str) -> Result<Opened<Infallible>, Failed>
     ensures { IfOk result (λ o. o ≡ Opened.Standard) }
 {

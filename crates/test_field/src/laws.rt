@@ -281,12 +281,10 @@ pub fn laws_at_edges() -> Tried
 pub fn differing_laws(rows: &[i64]) -> u64
     ensures { result ≤ length rows.now }
 {
-    let mut wrong: u64 = 0;
     let (rows, _) = rows.as_chunks::<6>();
-    for [law, a, b, c, there, value] in rows {
-        if !row_holds(*law, *a, *b, *c, given(*there, *value)) {
-            wrong += 1;
-        }
-    }
-    wrong
+    rows.iter()
+        .filter(|[law, a, b, c, there, value]| {
+            !row_holds(*law, *a, *b, *c, given(*there, *value))
+        })
+        .count() as u64
 }

@@ -39,14 +39,6 @@ pub at_other : (x n : ℕ) → (x ≡ MARK → ⊥) → x ∷ [] ≡ piece x n
 unfolding piece
 at_other x n h = rw (ne_eqb x MARK h)
 
-pub takes_one : (x : ℕ) → x ≡ MARK → 1 ≡ takes x
-unfolding takes
-takes_one x h = rw (eq-eqb x MARK h)
-
-pub takes_none : (x : ℕ) → (x ≡ MARK → ⊥) → 0 ≡ takes x
-unfolding takes
-takes_none x h = rw (ne_eqb x MARK h)
-
 -- a text filled from place k on, with the counts from place j on: at its next byte, and at its end
 pub filled_next : (text ns : List ℕ) (k j : ℕ) → k < length text
     → filled (drop k text) (drop j ns) ≡ piece (get_or text k 0) (get_or ns j 0) ++ filled (drop (k + 1) text) (drop (j + takes (get_or text k 0)) ns)

@@ -91,6 +91,7 @@ pub fn read_part(rt: &(impl Input + Eprint), s: &mut [u8]) -> Result<(), Stop>
 }
 
 // The same of bytes that belong to what was read before: the input must not end in front of them.
+// Kept as it is: `map_err` would take the same match, inside a closure.
 pub fn read_rest(rt: &(impl Input + Eprint), s: &mut [u8]) -> Result<(), Stop>
     ensures { Rest result × (length s.new ≡ length s.old) }
 {
@@ -159,6 +160,7 @@ impl<const KINDS: usize> Counts<KINDS> {
     }
 
     // A run of a group, which came to the answer that was wanted or to another. One that differs is told by both numbers and its answer.
+    // Kept as it is: six parameters, for a run's two numbers and what was seen of it go together here alone.
     pub fn count_run(
         &mut self,
         rt: &(impl Print + Eprint),

@@ -44,7 +44,7 @@ fn push_next(line: &mut Line, byte: u8, n: u64)
 fn taken(byte: u8) -> usize
     ensures { (result ≡ takes byte) × (result ≤ 1) }
 {
-    if byte == MARK { 1 } else { 0 }
+    usize::from(byte == MARK)
 }
 
 fn count_at(counts: &[u64], k: usize) -> u64

@@ -1,6 +1,7 @@
 -- `answer_record::number` meets its contract. Assumes nothing.
-use Rattle.std.proofs.Common.{arith, refl, rules}
-use Rattle.answer_record.proofs.Laws.{empty-none, digits-all, digit-none, digit-more}
+use Rattle.std.proofs.Common.{arith, refl, rules, ◌∙◌, ◌+◌, ◌*◌, ℕ, ap}
+use Rattle.answer_record.specs.Given.{at_most}
+use Rattle.answer_record.proofs.Laws.{at-most-min, empty-none, digits-all, digit-none, digit-more}
 use Rattle.answer_record.proofs.number.Goals as goal
 
 pub returns-then-is_empty : goal.returns-then-is_empty
@@ -13,8 +14,8 @@ returns-then-not-is_ascii_digit c =
 pub loop-digit-preserved : goal.loop-digit-preserved
 loop-digit-preserved c =
     let inside = c.if-not-is_ascii_digit.ensures.cases in (
-      digit-more _ _ _ c.loop-digit.invariant.0 c.loop-digit-test.true refl inside.0 inside.1 c.at_most-value.ensures.0,
-      c.at_most-value.ensures.1,
+      digit-more _ _ _ c.loop-digit.invariant.0 c.loop-digit-test.true refl inside.0 inside.1 (c.min-value.ensures ∙ at-most-min _ _ ∙ ap (λ (d : ℕ). at_most (c.loop-digit.value * 10 + d) 100000000) c.from.ensures),
+      omega arith,
     )
 
 pub returns : goal.returns

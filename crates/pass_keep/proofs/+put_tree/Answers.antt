@@ -61,17 +61,17 @@ put_tree-b-requires t c =
 pub overflow_mul-b : goal.overflow_mul-b
 overflow_mul-b t c = let w = root t (goal.at.overflow_mul-b t c).After-put_tree-b in omega (arith, w.1)
 
-pub overflow_sub-a : goal.overflow_sub-a
-overflow_sub-a t c = let w = root t (goal.at.overflow_sub-a t c).After-put_tree-b in omega (arith, w.2)
+pub overflow_sub-node : goal.overflow_sub-node
+overflow_sub-node t c = let w = root t (goal.at.overflow_sub-node t c).After-put_tree-b in omega (arith, w.2)
 
-pub overflow_cast-a : goal.overflow_cast-a
-overflow_cast-a t c = let w = root t (goal.at.overflow_cast-a t c).After-put_tree-b in omega (arith, w.4)
+pub overflow_cast-node : goal.overflow_cast-node
+overflow_cast-node t c = let w = root t (goal.at.overflow_cast-node t c).After-put_tree-b in omega (arith, w.4)
 
-pub overflow_sub-b : goal.overflow_sub-b
-overflow_sub-b t c = let w = root t (goal.at.overflow_sub-b t c).After-put_tree-b in omega (arith, w.3)
+pub overflow_sub-node-in-Infix : goal.overflow_sub-node-in-Infix
+overflow_sub-node-in-Infix t c = let w = root t (goal.at.overflow_sub-node-in-Infix t c).After-put_tree-b in omega (arith, w.3)
 
-pub overflow_cast-b : goal.overflow_cast-b
-overflow_cast-b t c = let w = root t (goal.at.overflow_cast-b t c).After-put_tree-b in omega (arith, w.1)
+pub overflow_cast-node-in-Infix : goal.overflow_cast-node-in-Infix
+overflow_cast-node-in-Infix t c = let w = root t (goal.at.overflow_cast-node-in-Infix t c).After-put_tree-b in omega (arith, w.1)
 
 pub put_node-requires : goal.put_node-requires
 put_node-requires t c = (root t (goal.at.put_node-requires t c).After-put_tree-b).0
@@ -94,11 +94,11 @@ put_tree-a-requires-in-Negate t c =
 pub overflow_mul-a : goal.overflow_mul-a
 overflow_mul-a t c = let w = above t (goal.at.overflow_mul-a t c).After-put_tree-a-in-Negate in omega (arith, w.1)
 
-pub overflow_sub-a-in-Negate : goal.overflow_sub-a-in-Negate
-overflow_sub-a-in-Negate t c = let w = above t (goal.at.overflow_sub-a-in-Negate t c).After-put_tree-a-in-Negate in omega (arith, w.2)
+pub overflow_sub-node-in-Negate : goal.overflow_sub-node-in-Negate
+overflow_sub-node-in-Negate t c = let w = above t (goal.at.overflow_sub-node-in-Negate t c).After-put_tree-a-in-Negate in omega (arith, w.2)
 
-pub overflow_cast-a-in-Negate : goal.overflow_cast-a-in-Negate
-overflow_cast-a-in-Negate t c = let w = above t (goal.at.overflow_cast-a-in-Negate t c).After-put_tree-a-in-Negate in omega (arith, w.1)
+pub overflow_cast-node-in-Negate : goal.overflow_cast-node-in-Negate
+overflow_cast-node-in-Negate t c = let w = above t (goal.at.overflow_cast-node-in-Negate t c).After-put_tree-a-in-Negate in omega (arith, w.1)
 
 pub put_node-requires-in-Negate : goal.put_node-requires-in-Negate
 put_node-requires-in-Negate t c = (above t (goal.at.put_node-requires-in-Negate t c).After-put_tree-a-in-Negate).0
@@ -116,7 +116,7 @@ pub returns-in-Infix : goal.returns-in-Infix
 unfolding grown copy_propagate_expr
 returns-in-Infix t c =
     put-infix c.args.list.now c.args.base (ap (copy_propagate_expr c.args.subs.now.steps (subst_of c.args.subs.now.terms)) c.in-Infix.ensures.tree)
-    c.put_tree-a.ensures.0 c.put_tree-a.ensures.1 c.put_tree-b.ensures.0 c.put_tree-b.ensures.1 c.from-o.ensures c.put_node.ensures
+    c.put_tree-a.ensures.0 c.put_tree-a.ensures.1 c.put_tree-b.ensures.0 c.put_tree-b.ensures.1 c.from.ensures c.put_node.ensures
 
 pub returns-in-Negate : goal.returns-in-Negate
 unfolding grown copy_propagate_expr

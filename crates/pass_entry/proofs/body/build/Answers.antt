@@ -1,6 +1,9 @@
 -- `pass_entry::body::build` meets its contract. Assumes nothing.
 use native.Mathlib.Omega.{arith}
-use mathlib.Core.Path.{sym, ap, ◌∙◌}
+use mathlib.Core.Path.{◌≡◌, sym, ap, ◌∙◌}
+use mathlib.Core.List.{List}
+use Prim.Native.Nat.{ℕ}
+use denote.MutBor.{MutBor}
 use lib.ListN.{length}
 use Rattle.words.proofs.Laws.{length-set_words}
 use Rattle.pass_classify.proofs.Laid.{next-laid, publics-laid}
@@ -20,6 +23,13 @@ put_provers-start-requires c =
     let publics = publics-laid read.bytes.now read.laid in
     omega (arith, r.next_small, r.publics-few, publics, c.requires.body_len.0, ap length c.put_publics.ensures ∙ length-set_words _ _ _)
 
+-- the bytes of a slice that is lent
+its-now : {x y : MutBor (List ℕ)} → x ≡ y → x.now ≡ y.now
+its-now e = ap (λ (m : MutBor (List ℕ)). m.now) e
+
+its-name : {x y : MutBor (List ℕ)} → x ≡ y → x.ghost_name ≡ y.ghost_name
+its-name e = ap (λ (m : MutBor (List ℕ)). m.ghost_name) e
+
 -- what stands in the body before the equalities
 lists : (c : After-put_provers-start) → Lists c.args.classes.now.record.bytes.now c.args.classes.now.provers c.args.body.now
     c.put_provers-start.new.body c.put_provers-start.result
@@ -27,26 +37,26 @@ lists c =
     let read = c.args.classes.now.record in
     lists-made read.bytes.now _ c.args.body.now (publics-laid read.bytes.now read.laid) c.put_publics.ensures c.put_provers-start.ensures
 
-pub overflow_cast-first : goal.overflow_cast-first
-overflow_cast-first c =
+pub overflow_cast-writer : goal.overflow_cast-writer
+overflow_cast-writer c =
     let read = c.args.classes.now.record in
     let r = read.readable in
     record { fits = omega (arith, r.next_small, next-laid read.bytes.now read.laid) }
 
-pub flatten_defs-d-requires : goal.flatten_defs-d-requires
-flatten_defs-d-requires c =
+pub flatten_defs-requires : goal.flatten_defs-requires
+flatten_defs-requires c =
     let classes = c.args.classes.now in
-    let l = lists (goal.at.flatten_defs-d-requires c).After-put_provers-start in
+    let l = lists (goal.at.flatten_defs-requires c).After-put_provers-start in
     room-definitions classes.record.readable classes.classified c.requires.few c.requires.body_len.0 l c.new-subs.result.steps _
     (next-laid classes.record.bytes.now classes.record.laid)
 
-pub flatten_equations-e-requires : goal.flatten_equations-e-requires
-flatten_equations-e-requires c =
+pub flatten_equations-requires : goal.flatten_equations-requires
+flatten_equations-requires c =
     let classes = c.args.classes.now in
-    let l = lists (goal.at.flatten_equations-e-requires c).After-put_provers-start in
-    let d = c.flatten_defs-d.ensures in
+    let l = lists (goal.at.flatten_equations-requires c).After-put_provers-start in
+    let d = c.flatten_defs.ensures in
     room-of-equations classes.record.readable classes.classified c.requires.few c.requires.body_len.0 l c.new-subs.result.steps _
-    (next-laid classes.record.bytes.now classes.record.laid) _ _ c.new-subs.ensures.0 _ _ (d.body_after, (d.value, d.subs_after))
+    (next-laid classes.record.bytes.now classes.record.laid) _ _ c.new-subs.ensures.0 _ _ (its-now d.body_after, (d.value, d.subs_after))
 
 pub keep_defs-k-requires : goal.keep_defs-k-requires
 keep_defs-k-requires c =
@@ -54,13 +64,14 @@ keep_defs-k-requires c =
     let r = classes.record.readable in
     let n = next-laid classes.record.bytes.now classes.record.laid in
     let l = lists (goal.at.keep_defs-k-requires c).After-put_provers-start in
-    let d = c.flatten_defs-d.ensures in
-    let e = rw d.steps at c.flatten_equations-e.ensures in
+    let d = c.flatten_defs.ensures in
+    let e = rw d.steps at c.flatten_equations.ensures in
+    let back = c.body-3-1.given.1.1 (sym (its-name e.body_after ∙ its-name d.body_after)) in
     let long = c.requires.body_len in (
-      room-of-kept r classes.classified c.requires.few long.0 l c.new-subs.result.steps _ n _ _ c.new-subs.ensures.0 _ _
-          (d.body_after, (d.value, d.subs_after)) _ _ (e.body_after, e.value),
+      rw back (room-of-kept r classes.classified c.requires.few long.0 l c.new-subs.result.steps _ n _ _ c.new-subs.ensures.0 _ _
+          (its-now d.body_after, (d.value, d.subs_after)) _ _ (its-now e.body_after, e.value)),
       room-of-nodes r classes.classified c.requires.few long.0 l c.new-subs.result.steps _ n _ _ c.new-subs.ensures.0 _ _
-          (d.body_after, (d.value, d.subs_after)) _ _ (e.body_after, e.value) long.1,
+          (its-now d.body_after, (d.value, d.subs_after)) _ _ (its-now e.body_after, e.value) long.1,
     )
 
 -- the numbers follow each other, and are not too large
@@ -68,13 +79,14 @@ pub invariant_of-result : goal.invariant_of-result
 invariant_of-result c =
     let classes = c.args.classes.now in
     let l = lists (goal.at.invariant_of-result c).After-put_provers-start in
-    let d = c.flatten_defs-d.ensures in
-    let e = rw d.steps at c.flatten_equations-e.ensures in
-    let k = rw (c.clear.ensures.1 ∙ d.steps) at c.keep_defs-k.ensures in
+    let d = c.flatten_defs.ensures in
+    let e = rw d.steps at c.flatten_equations.ensures in
+    let back = c.body-3-1.given.1.1 (sym (its-name e.body_after ∙ its-name d.body_after)) in
+    let k = rw (c.clear.ensures.1 ∙ d.steps, back) at c.keep_defs-k.ensures in
     let n = next-laid classes.record.bytes.now classes.record.laid in
     let p = publics-laid classes.record.bytes.now classes.record.laid in
     let says = numbers classes.record.readable classes.classified c.requires.few c.requires.body_len.0 l c.new-subs.result.steps _ n _ _ c.new-subs.ensures.0 _ _
-    (d.body_after, (d.value, d.subs_after)) _ _ (e.body_after, e.value) _ _ _ _ _ c.clear.ensures.0 _ (k.body_after, (k.list_after, (k.value, k.subs_after))) _ p in
+    (its-now d.body_after, (d.value, d.subs_after)) _ _ (its-now e.body_after, e.value) _ _ _ _ _ c.clear.ensures.0 _ (k.body_after, (k.list_after, (k.value, k.subs_after))) _ p in
     let small = parts-small classes.record.readable c.requires.few c.new-subs.result.steps in
     record { ordered = ordered-of small says; bounded = bounded-of small says }
 
@@ -82,15 +94,16 @@ pub returns : goal.returns
 returns c =
     let classes = c.args.classes.now in
     let l = lists (goal.at.returns c).After-put_provers-start in
-    let d = c.flatten_defs-d.ensures in
-    let e = rw d.steps at c.flatten_equations-e.ensures in
-    let k = rw (c.clear.ensures.1 ∙ d.steps) at c.keep_defs-k.ensures in
+    let d = c.flatten_defs.ensures in
+    let e = rw d.steps at c.flatten_equations.ensures in
+    let back = c.body-3-1.given.1.1 (sym (its-name e.body_after ∙ its-name d.body_after)) in
+    let k = rw (c.clear.ensures.1 ∙ d.steps, back) at c.keep_defs-k.ensures in
     let n = next-laid classes.record.bytes.now classes.record.laid in
     let p = publics-laid classes.record.bytes.now classes.record.laid in
     let says = numbers classes.record.readable classes.classified c.requires.few c.requires.body_len.0 l c.new-subs.result.steps _ n _ _ c.new-subs.ensures.0 _ _
-    (d.body_after, (d.value, d.subs_after)) _ _ (e.body_after, e.value) _ _ _ _ _ c.clear.ensures.0 _ (k.body_after, (k.list_after, (k.value, k.subs_after))) _ p in
+    (its-now d.body_after, (d.value, d.subs_after)) _ _ (its-now e.body_after, e.value) _ _ _ _ _ c.clear.ensures.0 _ (k.body_after, (k.list_after, (k.value, k.subs_after))) _ p in
     let used = c.new-subs.ensures.1 ∙ c.used_definitions.ensures ∙ ap length (sym (classified-definitions classes.classified)) in
     let by = by_parts classes.record.bytes.now c.new-subs.result.steps used in
     let made = built classes.record.readable classes.classified c.requires.few c.requires.body_len.0 l c.new-subs.result.steps _ n _ _ c.new-subs.ensures.0 _ _
-    (d.body_after, (d.value, d.subs_after)) _ _ (e.body_after, e.value) _ _ _ _ _ c.clear.ensures.0 _ (k.body_after, (k.list_after, (k.value, k.subs_after))) in
+    (its-now d.body_after, (d.value, d.subs_after)) _ _ (its-now e.body_after, e.value) _ _ _ _ _ c.clear.ensures.0 _ (k.body_after, (k.list_after, (k.value, k.subs_after))) in
     rw by (record { value = says; body_after = made.0; list_after = made.1 })

@@ -1,10 +1,16 @@
--- `test_report::line::taken` meets its contract. Assumes nothing.
-use native.Mathlib.Omega.{arith}
-use Rattle.test_report.proofs.Laws.{takes_one, takes_none}
+use Rattle.std.proofs.Common.{◌≡◌, ◌≤◌, ◌∙◌, refl, arith, Bool, true, false, cond, subst, sym}
+use mir.Val.{bool_byte}
+use Rattle.test_report.specs.Lines.{takes}
 use Rattle.test_report.proofs.line.taken.Goals as goal
 
-pub returns-then-byte-eq-MARK : goal.returns-then-byte-eq-MARK
-returns-then-byte-eq-MARK c = (takes_one _ c.if-byte-eq-MARK.true, omega arith)
+as-number : (t : Bool) → bool_byte t ≡ cond t 1 0
+as-number true = refl
+as-number false = refl
 
-pub returns-else-byte-eq-MARK : goal.returns-else-byte-eq-MARK
-returns-else-byte-eq-MARK c = (takes_none _ c.if-byte-eq-MARK.false, omega arith)
+at-most-one : (t : Bool) → bool_byte t ≤ 1
+at-most-one true = omega arith
+at-most-one false = omega arith
+
+pub returns : goal.returns
+unfolding takes
+returns c = (c.from.ensures ∙ as-number _, subst (λ n. n ≤ 1) (sym c.from.ensures) (at-most-one _))

@@ -8,7 +8,8 @@ use Rattle.flat.specs.Record.{grown}
 use Rattle.pass_3ac.proofs.Placing.{left_is}
 use Rattle.pass_3ac.proofs.Ways.{room-first, room-second, room-third, room-negated, room-pushed}
 use Rattle.pass_3ac.proofs.Ways.{room-term, way-infix, way-negate, way-constant, way-variable}
-use Rattle.pass_3ac.proofs.+flatten_expr_to_3ac.Goals as goal
+use Rattle.pass_3ac.proofs.Writers.{left, lent-on}
+use Rattle.pass_3ac.proofs.Writer.+flatten_expr_to_3ac.Goals as goal
 
 pub flatten_expr_to_3ac-a-requires : goal.flatten_expr_to_3ac-a-requires
 unfolding grown
@@ -23,13 +24,13 @@ flatten_expr_to_3ac-b-requires t c =
     let w = c.in-Infix.ensures.within in
     let k = c.requires.0 in (
       omega (arith, c.decreases, w.1),
-      (omega (arith, k, w.1), room-second _ c.requires.1 c.in-Infix.ensures.tree _ _ c.flatten_expr_to_3ac-a.ensures),
+      (omega (arith, k, w.1), room-second _ c.requires.1 c.in-Infix.ensures.tree _ _ (left c.flatten_expr_to_3ac-a.ensures)),
     )
 
 pub push_constraint_def-requires : goal.push_constraint_def-requires
 unfolding grown
 push_constraint_def-requires t c =
-    room-third _ c.requires.1 c.in-Infix.ensures.tree _ _ c.flatten_expr_to_3ac-a.ensures c.flatten_expr_to_3ac-b.ensures
+    room-third _ c.requires.1 c.in-Infix.ensures.tree _ _ (left c.flatten_expr_to_3ac-a.ensures) (left c.flatten_expr_to_3ac-b.ensures)
 
 pub flatten_expr_to_3ac-a-requires-in-Negate : goal.flatten_expr_to_3ac-a-requires-in-Negate
 unfolding grown
@@ -40,7 +41,7 @@ flatten_expr_to_3ac-a-requires-in-Negate t c =
 
 pub push_constraint_def-requires-in-Negate : goal.push_constraint_def-requires-in-Negate
 unfolding grown
-push_constraint_def-requires-in-Negate t c = room-pushed _ c.requires.1 c.in-Negate.ensures.tree _ _ c.flatten_expr_to_3ac-a-in-Negate.ensures
+push_constraint_def-requires-in-Negate t c = room-pushed _ c.requires.1 c.in-Negate.ensures.tree _ _ (left c.flatten_expr_to_3ac-a-in-Negate.ensures)
 
 pub place_term-requires : goal.place_term-requires
 place_term-requires t c = room-term _ c.requires.1
@@ -51,20 +52,32 @@ place_term-requires-in-Variable t c = room-term _ c.requires.1
 pub returns-in-Infix : goal.returns-in-Infix
 unfolding grown
 returns-in-Infix t c =
-    way-infix _ _ _ _ _ _ _ c.in-Infix.ensures.tree c.flatten_expr_to_3ac-a.ensures c.flatten_expr_to_3ac-b.ensures
-    (c.unwrap_or-left.ensures ∙ left_is _ _) c.infix_op-equality.ensures c.push_constraint_def.ensures
+    let w = way-infix _ _ _ _ _ _ _ c.in-Infix.ensures.tree (left c.flatten_expr_to_3ac-a.ensures) (left c.flatten_expr_to_3ac-b.ensures)
+    (c.unwrap_or-left.ensures ∙ left_is _ _) (c.equality.ensures _ c.infix_op.ensures) (left c.push_constraint_def.ensures) in
+    let on = lent-on c.args.self.now.body c.flatten_expr_to_3ac-a.ensures.lent c.flatten_expr_to_3ac-b.ensures.lent in
+    record { body_is = w.0; cut_is = w.1; lent = lent-on c.args.self.now.body on c.push_constraint_def.ensures.lent }
 
 pub returns-in-Negate : goal.returns-in-Negate
 unfolding grown
 returns-in-Negate t c =
-    way-negate _ _ _ _ _ _ _ c.in-Negate.ensures.tree c.flatten_expr_to_3ac-a-in-Negate.ensures
-    (c.unwrap_or-left-in-Negate.ensures ∙ left_is _ _) c.negate.ensures c.push_constraint_def-in-Negate.ensures
+    let w = way-negate _ _ _ _ _ _ _ c.in-Negate.ensures.tree (left c.flatten_expr_to_3ac-a-in-Negate.ensures)
+    (c.unwrap_or-left-in-Negate.ensures ∙ left_is _ _) (c.equality-in-Negate.ensures _ c.negate.ensures) (left c.push_constraint_def-in-Negate.ensures) in
+    record {
+      body_is = w.0;
+      cut_is = w.1;
+      lent = lent-on c.args.self.now.body c.flatten_expr_to_3ac-a-in-Negate.ensures.lent c.push_constraint_def-in-Negate.ensures.lent;
+    }
 
 pub returns-in-Constant : goal.returns-in-Constant
 unfolding grown
 returns-in-Constant t c =
-    way-constant _ _ _ _ _ _ _ c.in-Constant.ensures.tree (to_z-of_z w32 _ (search rules)) c.place_term.ensures
+    let p = c.place_term.ensures in
+    let w = way-constant _ _ _ _ _ _ _ c.in-Constant.ensures.tree (to_z-of_z w32 _ (search rules)) (left p) in
+    record { body_is = w.0; cut_is = w.1; lent = p.lent }
 
 pub returns-in-Variable : goal.returns-in-Variable
 unfolding grown
-returns-in-Variable t c = way-variable _ _ _ _ _ _ _ c.in-Variable.ensures.tree c.resolve.ensures c.place_term-in-Variable.ensures
+returns-in-Variable t c =
+    let p = c.place_term-in-Variable.ensures in
+    let w = way-variable _ _ _ _ _ _ _ c.in-Variable.ensures.tree c.resolve.ensures (left p) in
+    record { body_is = w.0; cut_is = w.1; lent = p.lent }
