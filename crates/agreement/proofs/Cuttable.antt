@@ -18,7 +18,8 @@ use Rattle.eval_trees.proofs.Good.{false-true, both_true}
 use Rattle.eval_trees.proofs.Helpers.{and-true}
 use Rattle.eval_trees.proofs.Narrow.{NarrowPat, Narrow, Cuttable, NarrowTree}
 use Rattle.eval_trees.proofs.NarrowModule.{NarrowDefinitions, NarrowExpressions, NarrowModule, made-narrow, read-narrow}
-use Rattle.plain.specs.Plain.{is_arithmetic, is_plain_pattern, is_plain_expr, is_equal, is_plain_equation, are_plain_definitions, are_plain_equations, is_plain_body}
+use Rattle.plain.specs.Plain.{is_arithmetic, is_plain_pattern, is_plain_expr, is_equal, is_plain_equation}
+use Rattle.plain.specs.Plain.{are_plain_definitions, are_plain_equations, is_plain_body}
 use Rattle.agreement.specs.Flattened.{passed, flattened_of}
 
 cuttable-operation : (o : InfixOp) → Cuttable o → cuttable o ≡ true

@@ -1,5 +1,6 @@
 -- Laws of the small tools: maps written at one id, tests, every item of a list, every variable of an expression.
-use Rattle.std.proofs.Common.{◌≡◌, ℕ, Bool, true, false, cond, ◌&&◌, ◌||◌, eqb, List, [], ◌∷◌, ◌++◌, ℤ, pos, negsuc, sym, refl, ap, subst, ap₂, arith, eq-eqb, ne_eqb, eqb-true}
+use Rattle.std.proofs.Common.{◌≡◌, ℕ, Bool, true, false, cond, ◌&&◌, ◌||◌, eqb, List, [], ◌∷◌, ◌++◌, ℤ}
+use Rattle.std.proofs.Common.{pos, negsuc, sym, refl, ap, subst, ap₂, arith, eq-eqb, ne_eqb, eqb-true}
 use borrow.Author.Tests.{eqb-false}
 use Rattle.std.specs.Prelude.{Some}
 use Rattle.field.specs.declared.InfixOp.{InfixOp}

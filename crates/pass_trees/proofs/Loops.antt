@@ -1,5 +1,6 @@
 -- For the proofs of the code: the list functions on a list with one part more (a loop's next turn), a walk's steps, and that the next id never falls.
-use Rattle.std.proofs.Common.{◌≡◌, ℕ, zero, suc, ◌+◌, ◌<◌, ◌≤◌, Bool, true, false, List, [], ◌∷◌, ◌++◌, sym, refl, ap, ◌∙◌, ap₂, append_assoc, le_trans, le_refl, arith}
+use Rattle.std.proofs.Common.{◌≡◌, ℕ, zero, suc, ◌+◌, ◌<◌, ◌≤◌, Bool, true, false, List, [], ◌∷◌}
+use Rattle.std.proofs.Common.{◌++◌, sym, refl, ap, ◌∙◌, ap₂, append_assoc, le_trans, le_refl, arith}
 use mathlib.Core.Option.{Option, none, some}
 use Rattle.flat.specs.Trees.{Flat, Definition, Equation}
 use Rattle.flat.specs.Rules.{All, Rising}
@@ -39,7 +40,8 @@ unfolding classified
 classified-append ps [] ys g = refl
 classified-append ps (d ∷ xs) ys g = ap (classify_def ps d) (classified-append ps xs ys g)
 
-pub after-append : (ps : List ℕ) (k : ℕ) (xs ys : List Definition) (s : Substitutions) → after_defs ps k s (xs ++ ys) ≡ after_defs ps k (after_defs ps k s xs) ys
+pub after-append : (ps : List ℕ) (k : ℕ) (xs ys : List Definition) (s : Substitutions)
+    → after_defs ps k s (xs ++ ys) ≡ after_defs ps k (after_defs ps k s xs) ys
 unfolding after_defs
 after-append ps k [] ys s = refl
 after-append ps k (d ∷ xs) ys s = after-append ps k xs ys _

@@ -58,14 +58,16 @@ made = record {
 }
 
 pub is-plain : is_plain source ≡ true
-unfolding is_plain is_plain_body is_arithmetic is_free is_plain_name is_plain_pattern is_plain_expr is_equal is_plain_equation are_plain_publics are_plain_definitions
+unfolding is_plain is_plain_body is_arithmetic is_free is_plain_name is_plain_pattern is_plain_expr is_equal is_plain_equation are_plain_publics
+    are_plain_definitions
     are_plain_equations found same_text named registered
 is-plain = refl
 
 -- a match is not plain
 match-not-plain : is_plain
     (record { names = []; publics = []; definitions = []; expressions = matching (constant (pos 1)) (arm (variable_p 0) (variable 0) no_arm) ∷ [] }) ≡ false
-unfolding is_plain is_plain_body is_arithmetic is_free is_plain_name is_plain_pattern is_plain_expr is_equal is_plain_equation are_plain_publics are_plain_definitions
+unfolding is_plain is_plain_body is_arithmetic is_free is_plain_name is_plain_pattern is_plain_expr is_equal is_plain_equation are_plain_publics
+    are_plain_definitions
     are_plain_equations found same_text named registered
 match-not-plain = refl
 
@@ -79,12 +81,14 @@ fresh-public = record {
 }
 
 fresh-public-not-plain : is_plain fresh-public ≡ false
-unfolding is_plain is_plain_body is_arithmetic is_free is_plain_name is_plain_pattern is_plain_expr is_equal is_plain_equation are_plain_publics are_plain_definitions
+unfolding is_plain is_plain_body is_arithmetic is_free is_plain_name is_plain_pattern is_plain_expr is_equal is_plain_equation are_plain_publics
+    are_plain_definitions
     are_plain_equations found same_text named registered
 fresh-public-not-plain = refl
 
 fresh-public-body : is_plain_body fresh-public ≡ true
-unfolding is_plain_body is_arithmetic is_free is_plain_name is_plain_pattern is_plain_expr is_equal is_plain_equation are_plain_definitions are_plain_equations found
+unfolding is_plain_body is_arithmetic is_free is_plain_name is_plain_pattern is_plain_expr is_equal is_plain_equation are_plain_definitions
+    are_plain_equations found
     same_text named registered
 fresh-public-body = refl
 

@@ -235,7 +235,8 @@ module _ (B : ℕ → Bool) (k : ℕ) (I : ℕ → Type 0) (inputs : (i : ℕ) �
       let w = all_split Bound (binders c) (x ∷ binders d) b in
       s_let w.1.0 (expr-scoped Γ p u.0 w.0) (expr-scoped (x ∷ Γ) q u.1 w.1.1)
 
-  pub definitions-scoped : {ds : List (Pat × Expr)} (Γ : List ℕ) → PlainDefinitions Any ds → All I (free_in_definitions Γ ds) → All Bound (definition_binders ds)
+  pub definitions-scoped : {ds : List (Pat × Expr)} (Γ : List ℕ) → PlainDefinitions Any ds → All I (free_in_definitions Γ ds)
+      → All Bound (definition_binders ds)
       → ScopedDefinitions B k Γ ds (defining ds Γ)
   unfolding free_in_definitions definition_binders defining binding pattern_ids
   definitions-scoped Γ p_none f b = no_definition
@@ -364,7 +365,8 @@ pub record DefinitionsMean (ds : List (Pat × Expr)) (Γ Δ : List ℕ) (locals 
 
 pub definitions-mean : {W : ℕ → Type 0} {ds : List (Pat × Expr)} → PlainDefinitions W ds
     → (Γ Δ : List ℕ) (locals : Ids) (g : Names) (T τ T₀ τ₀ : Table) → Well g → Scope Γ Δ locals g → Means Γ Δ locals T τ T₀ τ₀
-    → Pointwise (Agreed T₀ τ₀) (free_in_definitions Γ ds) (free_in_definitions Δ (number_definitions ds locals g).0.0) → DefinitionsMean ds Γ Δ locals g T τ T₀ τ₀
+    → Pointwise (Agreed T₀ τ₀) (free_in_definitions Γ ds) (free_in_definitions Δ (number_definitions ds locals g).0.0)
+    → DefinitionsMean ds Γ Δ locals g T τ T₀ τ₀
 unfolding number_definitions number_def_variables number_pattern_variables generate_id ◌>>=◌ return free_in_definitions defining binding Meaning.defined write
 definitions-mean p_none Γ Δ locals g T τ T₀ τ₀ w s m h = record { means = m; valued = λ x. x }
 definitions-mean (p_definition {x = x} {v = a} {ds = ds} p more) Γ Δ locals g T τ T₀ τ₀ w s m h =

@@ -360,7 +360,8 @@ module _ (B : ℕ → Bool) (N : ℕ) (beyond : (x : ℕ) → N ≤ x → B x �
       let t2 : Term B s2.next a = term_up (omega (arith, m2.next)) ta in
       following (omega (arith, m2.next)) (alike_same m2) m2.equations
       (made-shape ev ih lo (binary Divide (constant (pos 1)) (binary Exponentiate a (constant (pos (suc n))))) s2 u v ll (s_binary refl s_constant
-      (s_binary refl (term-scoped t2) s_constant)) (spans_binary (spans_constant (le_refl lo)) (spans_binary (term-spans lo t2) (spans_constant (le_refl lo)))) e2
+      (s_binary refl (term-scoped t2) s_constant))
+      (spans_binary (spans_constant (le_refl lo)) (spans_binary (term-spans lo t2) (spans_constant (le_refl lo)))) e2
       (tidy-same m2 k) (free-alike (alike_same m2) f))
 
   power-infix : (ev : Expr → Run Expr) → KeepsOrder ev → (lo : ℕ) → lo ≤ N → {a b : Expr} (s u : State) (v : Expr) → Term B s.next a → Term B s.next b

@@ -110,7 +110,8 @@ module _ {B : ℕ → Bool} where
   term-scoped (of_variable f l) = s_free f l
   term-scoped (of_negate nc a) = s_negate (term-scoped a)
 
-  pub term-value : {n : ℕ} {e : Expr} (σ υ : Assignment) → ((x : ℕ) → B x ≡ false → x < n → υ x ≡ σ x) → Term B n e → value_of (table υ) e ≡ value_of (table σ) e
+  pub term-value : {n : ℕ} {e : Expr} (σ υ : Assignment) → ((x : ℕ) → B x ≡ false → x < n → υ x ≡ σ x) → Term B n e
+      → value_of (table υ) e ≡ value_of (table σ) e
   unfolding value_of
   term-value σ υ h (of_constant c) = refl
   term-value σ υ h (of_variable {x = x} f l) = ap Some (h x f l)

@@ -1,4 +1,5 @@
--- The kinds of nodes (docs/RECORDS.md, "Source record"): expressions 0 to 13, links 14, patterns 16 to 22. Kind 10 stands in no record: the evaluator's intrinsics.
+-- The kinds of nodes (docs/RECORDS.md, "Source record"): expressions 0 to 13, links 14, patterns 16 to 22.
+-- Kind 10 stands in no record: the evaluator's intrinsics.
 use Rattle.std.specs.Prelude.{◌≡◌, ◌<◌, ℕ, Result, MatchResult}
 use Rattle.records.specs.declared.kinds.Kind.{Kind}
 use Rattle.records.specs.declared.kinds.NoKind.{NoKind}

@@ -14,7 +14,8 @@ returns-then-not-is_ascii_digit c =
 pub loop-digit-preserved : goal.loop-digit-preserved
 loop-digit-preserved c =
     let inside = c.if-not-is_ascii_digit.ensures.cases in (
-      digit-more _ _ _ c.loop-digit.invariant.0 c.loop-digit-test.true refl inside.0 inside.1 (c.min-value.ensures ∙ at-most-min _ _ ∙ ap (λ (d : ℕ). at_most (c.loop-digit.value * 10 + d) 100000000) c.from.ensures),
+      digit-more _ _ _ c.loop-digit.invariant.0 c.loop-digit-test.true refl inside.0 inside.1
+          (c.min-value.ensures ∙ at-most-min _ _ ∙ ap (λ (d : ℕ). at_most (c.loop-digit.value * 10 + d) 100000000) c.from.ensures),
       omega arith,
     )
 

@@ -25,14 +25,16 @@ unfolding nodes_fit by_nodes
 returns-in_err-use_children c =
     let e = c.first.ensures in
     let l : c.loop-k.k < c.args.self.now.count = omega arith in
-    let j = of_read c.args.self.now c.loop-k.k (there c.read.ensures c.in_ok-node.was) (rw (e.same.0, e.same.1.0, e.same.1.1, e.count) at c.use_children.ensures) in
+    let j = of_read c.args.self.now c.loop-k.k (there c.read.ensures c.in_ok-node.was)
+    (rw (e.same.0, e.same.1.0, e.same.1.1, e.count) at c.use_children.ensures) in
     all-stops _ _ _ c.loop-k.k l j c.in_err-use_children.was c.from_residual-in_err-use_children.ensures.1
 
 pub loop-k-preserved : goal.loop-k-preserved
 unfolding nodes_fit by_nodes
 loop-k-preserved c =
     let e = c.first.ensures in
-    let j = of_read c.args.self.now c.loop-k.k (there c.read.ensures c.in_ok-node.was) (rw (e.same.0, e.same.1.0, e.same.1.1, e.count) at c.use_children.ensures) in
+    let j = of_read c.args.self.now c.loop-k.k (there c.read.ensures c.in_ok-node.was)
+    (rw (e.same.0, e.same.1.0, e.same.1.1, e.count) at c.use_children.ensures) in
     all-more _ _ c.loop-k.k c.loop-k.invariant j c.in_ok-use_children.was
 
 pub returns : goal.returns
