@@ -10,7 +10,7 @@ use std::io;
 use std::rt::Env;
 use streams::{Failed, has_argument, read_standard};
 
-// One byte more than the longest record has: a longer input is refused 20 as its first bytes are.
+// One byte more than the longest record has: a longer input is refused FlatLength, as its first bytes are.
 const RECORD_BYTES: usize = BYTES + 1;
 
 // The program's own name counts as an argument.

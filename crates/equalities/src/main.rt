@@ -18,7 +18,7 @@ fn cut_record(rt: &(impl Print + Eprint), record: &[u8]) -> Result<usize, Failed
     print_answer(rt, &mut io::writer(rt), answer, &out)
 }
 
-// "A longer record is refused 20."
+// A longer record is refused FlatLength.
 fn refuse_longer(rt: &(impl Print + Eprint)) -> Result<usize, Failed> {
     print_answer(rt, &mut io::writer(rt), Err(Refusal::FlatLength), &[])
 }

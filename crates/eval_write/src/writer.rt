@@ -14,6 +14,7 @@ use records::flat_record::NODES;
 use records::kinds::{INFIX, Kind, NEGATE};
 use records::nodes::NodeEntry;
 
+// Kept as it is: NODES once more, as u32, since Rust has no constant of two types.
 const MOST_NODES: u32 = NODES as u32;
 
 // The nodes of a flat record as they are written: from word `at` on, so many of them.
