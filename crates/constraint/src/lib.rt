@@ -77,6 +77,7 @@ impl From<u32> for Operation {
 }
 
 // A term: of which sort it is, and its id or number.
+// Kept as it is: 0 and 1 are words of the record, written here and read by `term_at` alone; the enum of the two sorts is `Term`.
 #[tactic(auto, unfolding(crate::specs::Record::term_words, crate::specs::Record::number_word))]
 fn put_term(out: &mut [u8], at: usize, term: Term)
     requires { 4 * (at + TERM-WORDS) ≤ length out.old }

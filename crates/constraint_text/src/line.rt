@@ -16,6 +16,7 @@ pub const LINE: usize = 80;
 // Kept as it is: `impl Display` and `write!` were tried; std says what a `write!` that is Ok has written, and never that one is Ok, and no line may fail.
 type Line = ArrayString<LINE>;
 
+// Kept as it is: each part asks for room of its own in the line, a number that no type of the line could say.
 fn push_number<I: Integer>(line: &mut Line, n: I)
     requires { array_string_len line.old + I.MAX_STR_LEN ≤ LINE }
     ensures value { line.new.bytes ≡ line.old.bytes ++ I.text n }
@@ -78,6 +79,7 @@ fn push_side(line: &mut Line, operation: Operation, first: Term, second: Term)
 }
 
 // The line at the front of the bytes; the answer is its length.
+// Kept as it is: the public functions write into bytes that are lent, and promise those behind the line; a `Line` has none behind it.
 fn copy_line(line: &Line, out: &mut [u8; LINE]) -> usize
     ensures value { (result ≡ array_string_len line.now) × (out.new ≡ set_bytes out.old 0 line.now.bytes) }
     ensures prefix_len { IsPrefixLen result out.new }

@@ -78,6 +78,7 @@ fn divide(a: i64, b: i64) -> Option<i64>
     Some(centred(residue(a) * y % P))
 }
 
+// Kept as it is: it always has a value, but answers an Option as its definition and the other operations with a divisor do.
 fn divide_z(a: i64, b: i64) -> Option<i64>
     ensures { result ≡ divide_z_of P a b }
 {

@@ -10,6 +10,7 @@ pub const P: u64 = 2147483647;
 const HALF: u64 = 1073741823;
 
 // n for n and for -(n + 1).
+// Kept as it is: std has no such method; `unsigned_abs` gives n + 1 for -(n + 1).
 fn magnitude(x: i64) -> u64
     ensures { result ≡ mag x }
 {
@@ -27,6 +28,7 @@ pub fn residue(x: i64) -> u64
 }
 
 // The element with the residue r.
+// Kept as it is: `as` of a number that fits, here and for a quotient, is that number; `cast_signed` would say its 64 bits, to be read anew.
 pub fn centred(r: u64) -> i64
     requires { r < P }
     ensures { result ≡ centre P r }
@@ -39,6 +41,7 @@ pub fn centred(r: u64) -> i64
 }
 
 // The power of a residue, by squares.
+// Kept as it is: that a residue is below P is a line of each contract here; a struct round it would put a projection into every statement.
 pub fn power_of(b: u64, n: u64) -> u64
     requires { b < P }
     ensures value { result ≡ b ^ n % P }

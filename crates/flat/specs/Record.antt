@@ -19,13 +19,13 @@ use Rattle.records.specs.FlatRecord.{HEADER, IDS, LISTED, NODES, PUBLICS}
 use Rattle.records.specs.Kinds.{CONSTANT, INFIX, NEGATE, VARIABLE}
 use Rattle.records.specs.Operators.{MODULO}
 
--- ---- 20
+-- ---- 20, FlatLength
 
 -- "64 publics, 4,096 of each other list, 16,384 nodes"
 unfoldable pub has_few : Layout → Bool
 has_few l = leb l.publics PUBLICS && (leb l.provers LISTED && (leb l.definitions LISTED && (leb l.equations LISTED && leb l.nodes NODES)))
 
--- not 20: those, and the length is exactly the lists'
+-- not 20, FlatLength: those, and the length is exactly the lists'
 unfoldable pub measured : List ℕ → Bool
 measured b = leb (4 * HEADER) (length b) && (has_few (layout_of b) && eqb (length b) (4 * size b))
 
@@ -137,7 +137,7 @@ unfoldable pub ids_hold : List ℕ → Layout → Bool
 ids_hold b l =
     leb l.next IDS && (all_below b HEADER l.publics l.next && (all_below b l.provers_at l.provers l.next && rising b l.provers_at l.provers))
 
--- not 21
+-- not 21, FlatRule
 unfoldable pub rules : List ℕ → Bool
 rules b =
     ids_hold b (layout_of b)

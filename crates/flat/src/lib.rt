@@ -1,4 +1,4 @@
-// The flat record: its layout, its nodes, and the check of a lent one (refusals 20 and 21).
+// The flat record: its layout, its nodes, and the check of a lent one (`FlatLength`, `FlatRule`).
 #![tactic(auto)]
 
 pub mod entries;
@@ -33,6 +33,7 @@ pub enum Node {
 }
 
 // The header's numbers, the word at which each list starts (the public ids start at word 6), and the record's words in all.
+// Kept as it is: a list's count and its place are two fields, not a pair, since the header and the definitions have each by a name of its own.
 #[derive(Clone, Copy)]
 pub struct Layout {
     pub next: usize,
@@ -94,7 +95,8 @@ pub fn layout_of(s: &[u8]) -> Layout
     }
 }
 
-// A lent flat record: accepted, or refused 20 or 21.
+// A lent flat record: accepted, or refused by its length or by its rules.
+// Kept as it is: `then_some(()).ok_or(..)` says the same as this `if`, no plainer.
 #[tactic(auto, unfolding(crate::specs::Record::flat_of, crate::specs::Record::checked, crate::specs::Record::pick))]
 pub fn check_flat(s: &[u8]) -> Result<(), Refusal>
     ensures { result ≡ checked (flat_of s.now) }

@@ -34,7 +34,7 @@ pub struct Measured<'a> {
 }
 
 impl<'a> Measured<'a> {
-    // Refused 20 where its length or a count is wrong.
+    // `FlatLength` where its length or a count is wrong.
     pub fn new(bytes: &'a [u8]) -> Result<Self, Refusal>
         ensures { MatchResult result (λ r. r.bytes.now ≡ bytes.now) (λ e. (e ≡ Refusal.FlatLength) × (measured bytes.now ≡ false)) }
     {
@@ -62,7 +62,7 @@ impl<'a> Measured<'a> {
             && rises(s, l.provers_at, l.provers)
     }
 
-    // Not 21.
+    // Whether the record keeps the rules, so that it is not refused by `FlatRule`.
     pub fn rules_hold(&self) -> bool
         ensures { result ≡ rules self.now.bytes.now }
     {

@@ -29,6 +29,7 @@ impl From<NodeEntry> for Node {
 }
 
 // Whether node k may be this, where ids lie below a limit.
+// Kept as it is: the operator is compared with the last one, as the definition says it; a conversion would be made and dropped.
 #[tactic(auto, unfolding(crate::specs::Record::node_fits, crate::specs::Record::pick))]
 pub fn fits(n: NodeEntry, limit: usize, k: usize) -> bool
     ensures { result ≡ node_fits limit k n.kind n.a n.b n.c }

@@ -26,6 +26,7 @@ impl Measured<'_> {
     }
 
     // From the last definition to the first; an id is marked before its right side is walked.
+    // Kept as it is: a loop that returns false: the marks change on the way, and `all` would take a closure that changes them.
     pub fn in_order(&self) -> bool
         requires definitions { definitions_fit self.now.bytes.now self.now.layout.definitions_at self.now.layout.definitions self.now.layout.next
             self.now.layout.nodes ≡ true }

@@ -10,6 +10,8 @@ use marks::Marks;
 use records::flat_record::NODES;
 use records::nodes::NodeEntry;
 
+// Kept as it is: the contracts hand on places and counts one by one, since the definitions take these with the bytes, and no struct.
+// Kept as it is: loops that return false: the marks change on the way, and `all` would take a closure that changes them.
 impl Measured<'_> {
     // Whether the nodes fit; then their children are marked.
     fn read_nodes(&self, marks: &mut Marks<NODES>) -> bool

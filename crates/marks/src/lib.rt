@@ -53,7 +53,7 @@ impl<const N: usize> Marks<N> {
         }
     }
 
-    // Node x is used once more.
+    // A node is used once more.
     #[tactic(auto, unfolding(crate::specs::Marks::used))]
     pub fn add(&mut self, x: usize)
         requires { x < N }

@@ -1,4 +1,5 @@
 // Expressions: each variable is looked up, and patterns bind in their scopes. The node index falls at each call.
+// Kept as it is: the contracts hand on bytes, place and count one by one, since the definitions take these, and no struct.
 ghost use Rattle.std.specs.Prelude.{◌≡◌, ◌+◌, ◌-◌, ◌≤◌, ◌<◌};
 ghost use Rattle.source.specs.declared.Chain.TheVariants.{Arms, Items};
 ghost use Rattle.source.specs.Nodes.{is_expression, is_pattern};
@@ -10,7 +11,7 @@ use source::{Form, Node};
 use source_check::nodes::Nodes;
 
 impl Scopes {
-    // The expression of node y in the scope of the pattern of node p; at its end the rows are as they were.
+    // An expression in the scope of a pattern; at its end the rows are as they were.
     #[cycle(number_expr_variables)]
     fn number_scope(&mut self, nodes: &Nodes, p: usize, y: usize)
         requires { ReadyTwo nodes.now.bytes.now nodes.now.at nodes.now.count is_pattern p y self.old }
@@ -34,7 +35,8 @@ impl Scopes {
         self.unwind(base);
     }
 
-    // The items from link l on.
+    // The items from a link on.
+    // Kept as it is: a walk of links of its own, as `number_arms` and `number_parameters` are: one for all would take a closure that changes the rows.
     #[cycle(number_expr_variables)]
     fn number_items(&mut self, nodes: &Nodes, l: usize)
         requires { ReadyChain nodes.now.bytes.now nodes.now.at nodes.now.count Items l self.old }
@@ -49,7 +51,7 @@ impl Scopes {
         }
     }
 
-    // The arms from link l on, each with its own scope.
+    // The arms from a link on, each with its own scope.
     #[cycle(number_expr_variables)]
     fn number_arms(&mut self, nodes: &Nodes, l: usize)
         requires { ReadyChain nodes.now.bytes.now nodes.now.at nodes.now.count Arms l self.old }
@@ -64,7 +66,7 @@ impl Scopes {
         }
     }
 
-    // The expression of node k. A let numbers its value before its pattern.
+    // The expression of a node. A let numbers its value before its pattern.
     #[cycle(number_expr_variables)]
     pub fn number_expr_variables(&mut self, nodes: &Nodes, k: usize)
         requires { Ready nodes.now.bytes.now nodes.now.at nodes.now.count is_expression k self.old }

@@ -9,7 +9,7 @@ use source::lists::{definition_at, expression_at};
 use source_check::nodes::Nodes;
 
 impl Scopes {
-    // The definition of pattern p by value v: its value before its pattern, whose names stay bound and so leave the undo list.
+    // A definition of a pattern by a value: the value before the pattern, whose names stay bound and so leave the undo list.
     fn number_def_variables(&mut self, nodes: &Nodes, p: usize, v: usize)
         requires { ReadyTwo nodes.now.bytes.now nodes.now.at nodes.now.count is_pattern p v self.old }
         ensures { DefinitionWalk nodes.now.bytes.now nodes.now.at nodes.now.count p v self.old self.new }

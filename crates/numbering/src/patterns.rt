@@ -10,7 +10,7 @@ use source::{Node, Shape};
 use source_check::nodes::Nodes;
 
 impl Scopes {
-    // The pattern of node k. An `as` draws its id after its pattern.
+    // The pattern of a node. An `as` draws its id after its pattern.
     pub fn number_pattern_variables(&mut self, nodes: &Nodes, k: usize)
         requires { Ready nodes.now.bytes.now nodes.now.at nodes.now.count is_pattern k self.old }
         ensures { PatternWalk nodes.now.bytes.now nodes.now.at nodes.now.count k self.old self.new }
@@ -32,7 +32,7 @@ impl Scopes {
         }
     }
 
-    // The parameters from link l on, from the first to the last.
+    // The parameters from a link on, from the first to the last.
     pub fn number_parameters(&mut self, nodes: &Nodes, l: usize)
         requires { ReadyChain nodes.now.bytes.now nodes.now.at nodes.now.count Parameters l self.old }
         ensures { ParameterWalk nodes.now.bytes.now nodes.now.at nodes.now.count l self.old self.new }

@@ -16,7 +16,7 @@ use records::source_record::PUBLICS;
 use source::lists::public_at;
 use source_check::names::Names;
 
-// The index of the first name that is the text t.
+// The index of the first name with this text.
 fn index_of(names: &Names, t: &[u8]) -> Option<usize>
     ensures below { IfSome result (λ k. k < names.now.count) }
     ensures first { result ≡ find (λ k. same_text t.now (name_of names.now.bytes.now names.now.text k)) (range_with_len 0 names.now.count) }
@@ -25,7 +25,7 @@ fn index_of(names: &Names, t: &[u8]) -> Option<usize>
 }
 
 impl Scopes {
-    // The name that is the text t, if there is one, has this id.
+    // The name with this text, if there is one, has this id.
     fn register(&mut self, names: &Names, t: &[u8], id: u32)
         requires { id < IDS }
         ensures { Registered names.now.bytes.now t.now names.now.text names.now.count id self.old self.new }

@@ -25,6 +25,7 @@ type Usages = [Usage; ID_COUNT];
 type Provers = [bool; ID_COUNT];
 
 // A readable record, and after classify_defs how each id is used and whether it is the prover's.
+// Kept as it is: two arrays by id, not one of pairs, since the definitions have a function for each, and most functions read one of them.
 #[derive(Drop)]
 pub struct Classes<'a> {
     pub record: Record<'a>,
@@ -33,7 +34,8 @@ pub struct Classes<'a> {
     pub ghost classified: { Classified record.bytes.now usage provers } by { Classified-prop },
 }
 
-// Id v is used at least so.
+// An id is used at least so.
+// Kept as it is: the arrays are lent one by one while they are made: `Classes` says that both are the record's, which holds at the end.
 fn mark(usage: &mut Usages, v: u32, u: Usage)
     requires { v < IDS }
     ensures { Uses usage.new (update (usage_of usage.old) v (most (usage_of usage.old v) u)) }
@@ -179,7 +181,7 @@ fn cuttable_equations(record: &Record) -> bool
 
 // Kept as it is: each asks that its id is below IDS, which the methods of Record promise of what they read; a type for ids is no plainer: it would be made of each id that is read.
 impl Classes<'_> {
-    // Id v is not used.
+    // Whether the id is not used.
     pub fn is_never(&self, v: usize) -> bool
         requires { v < IDS }
         ensures { result ≡ is_never (usage_of self.now.usage v) }
@@ -188,7 +190,7 @@ impl Classes<'_> {
         u == Usage::Never
     }
 
-    // Id v is the prover's.
+    // Whether the id is the prover's.
     pub fn is_prover(&self, v: usize) -> bool
         requires { v < IDS }
         ensures { result ≡ marked self.now.provers v }
@@ -221,7 +223,7 @@ fn cuttable_defs(classes: &Classes) -> bool
     true
 }
 
-// Not 22.
+// Whether the record can be cut, so that it is not refused by `Uncuttable`.
 pub fn cuttable(classes: &Classes) -> bool
     ensures { result ≡ (cuttable_defs (counted (module_of classes.now.record.bytes.now))
         && cuttable_equations (module_of classes.now.record.bytes.now).equations) }

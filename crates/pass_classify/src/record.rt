@@ -12,6 +12,7 @@ use flat::entries::{DefinitionEntry, EquationEntry, definition_at, equation_at, 
 use flat::{Layout, Node};
 
 // The bytes of a readable record, with the layout that its header says.
+// Kept as it is: not flat's `Measured`: that a record is readable is more, and one that evaluation made is readable without being measured.
 #[derive(Clone, Copy)]
 pub struct Record<'a> {
     pub bytes: &'a [u8],

@@ -18,8 +18,8 @@ use pass_classify::Classes;
 use pass_classify::record::Record;
 use records::flat_record::ID_COUNT;
 
-// What stands for an id. Kept an enum of its own: an Option of a Term takes 12 bytes in place of 8, and the pages more took an eighth of the time of a
-// small record.
+// What stands for an id.
+// Kept as it is: an Option of a Term takes 12 bytes in place of 8, and the pages more took an eighth of the time of a small record.
 #[derive(Clone, Copy)]
 pub enum Substitute {
     Itself,
@@ -53,12 +53,12 @@ impl Substitutions {
         self.terms = [Substitute::Itself; ID_COUNT];
     }
 
-    // The term that stands for id v.
+    // The term that stands for an id.
     pub fn resolve(&self, v: u32) -> Term
         ensures { result ≡ walk self.now.steps (subst_of self.now.terms) (Variable v) }
     {
         let mut id = v;
-        // What is left falls, as in the definition.
+        // Kept as it is: counted down, so that the steps that are left are those of the definition, `walk`.
         for _left in (0..self.steps).rev() {
             let i = id as usize;
             if ID_COUNT <= i {

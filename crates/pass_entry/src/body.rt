@@ -53,6 +53,7 @@ impl Built {
         if out.len() < size {
             return Err(Refusal::Output);
         }
+        // Kept as it is: `as`, since Rust has no `From` of a usize for u32, and `try_from` would have a case that cannot be.
         let header = Header {
             next: self.next,
             publics: self.publics as u32,
@@ -70,6 +71,7 @@ impl Built {
 }
 
 // The passes' constraint module of a classified record, in the two lists. Not inlined: its substitutions don't stand beside what classifies.
+// Kept as it is: `few` is a clause: `Classes` has any readable record, and trees that share nodes have more in all than the record has.
 #[inline(never)]
 pub fn build(classes: &Classes, body: &mut [u8], list: &mut [u8]) -> Built
     requires few { module_nodes (module_of classes.now.record.bytes.now) ≤ NODES }
@@ -103,7 +105,7 @@ pub fn build(classes: &Classes, body: &mut [u8], list: &mut [u8]) -> Built
     }
 }
 
-// The passes on a classified record, up to its output: 22 before anything is built, 32 once the next id is known.
+// The passes on a classified record, up to its output: `Uncuttable` before anything is built, `Ids` once the next id is known.
 pub fn run_passes(classes: &Classes, body: &mut [u8], list: &mut [u8]) -> Result<Built, Refusal>
     requires few { module_nodes (module_of classes.now.record.bytes.now) ≤ NODES }
     requires body_len { (length body.old ≡ BODY-BYTES) × (length list.old ≡ LIST-BYTES) }

@@ -1,6 +1,7 @@
 // The numbers that say where a constraint record stands in the lists that it is made in.
 ghost use Rattle.pass_entry.specs.Sizes.{Ordered, ordered-prop, Bounded, bounded-prop};
 
+// Kept as it is: places in two slices, not two Vecs that know their lengths, since the project has no heap.
 // The next id; the words of the body up to the provers, up to the equalities, up to the kept definitions, and in all; the nodes.
 #[derive(Clone, Copy)]
 pub struct Built {

@@ -1,4 +1,4 @@
-// From a flat record to its constraint record: the four passes, and the refusals 20 to 22, 32 and 33.
+// From a flat record to its constraint record: the four passes, and the refusals `FlatLength`, `FlatRule`, `Uncuttable`, `Ids` and `Output`.
 #![tactic(auto)]
 
 mod body;

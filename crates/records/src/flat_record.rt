@@ -1,4 +1,5 @@
 // The flat record: words of its header, and the most of each list.
+// Kept as it is: the definitions have LAST-LISTED and LAST-ID by name, and Rust has no constant of two types (IDS, ID_COUNT).
 pub const HEADER: usize = 6;
 
 pub const PUBLICS: usize = 64;

@@ -1,4 +1,5 @@
 // The operators, as the records number them.
+// Kept as it is: the enum gives each word, so no number stands here; specs/Operators has the same nine, so those that no code names stay too.
 use field::InfixOp;
 
 pub const DIVIDE: u32 = InfixOp::Divide as u32;

@@ -83,10 +83,10 @@ expression_root b at k = word_at b (at + k)
 abbrev pub BYTES : ℕ
 BYTES = 4 * (HEADER + NAME-WORDS * NAMES + PUBLICS + DEFINITION-WORDS * DEFINITIONS + EXPRESSIONS + NODE-WORDS * NODES) + NAMES * NAME-BYTES
 
--- not 2: no "count over its limit"
+-- not 2, Count: no "count over its limit"
 unfoldable pub counted : List ℕ → Bool
 counted b = leb (names b) NAMES && (leb (publics b) PUBLICS && (leb (definitions b) DEFINITIONS && (leb (expressions b) EXPRESSIONS && leb (nodes b) NODES)))
 
--- not 1 after a whole header: no "file shorter than its lists", no "text without names"
+-- not 1, Length, after a whole header: no "file shorter than its lists", no "text without names"
 unfoldable pub listed : List ℕ → Bool
 listed b = leb (text_offset b) (length b) && (ltb 0 (names b) || eqb (length b) (text_offset b))

@@ -36,7 +36,7 @@ name_fits b text k =
     && (leb (length_of b k) NAME-BYTES
     && printed b (text + offset_of b k) (length_of b k)))
 
--- not 3: n names fit, and "the last ends with the file"
+-- not 3, Name: n names fit, and "the last ends with the file"
 unfoldable pub names_fit : List ℕ → ℕ → ℕ → Bool
 names_fit b text n = every n (name_fits b text) && eqb (text + end_of b n) (length b)
 
@@ -51,7 +51,7 @@ same_name b text j k = eqb (length_of b j) (length_of b k) && same_bytes b (text
 unfoldable pub name_new : List ℕ → ℕ → ℕ → Bool
 name_new b text k = every k (λ j. not (same_name b text j k))
 
--- not 4
+-- not 4, EqualNames
 unfoldable pub names_differ : List ℕ → ℕ → ℕ → Bool
 names_differ b text n = every n (name_new b text)
 

@@ -96,7 +96,7 @@ children_of (Some (Node.Pattern p)) = shape_children p
 children_of (Some (Node.Link item next result)) = three Child.Nothing Child.Nothing Child.Nothing
 children_of None = three Child.Wrong Child.Nothing Child.Nothing
 
--- ---- not 5
+-- ---- not 5, Entry
 
 unfoldable pub is_expression : Option Node → Bool
 is_expression (Some (Node.Expression f)) = true

@@ -107,7 +107,7 @@ module_of b = record {
 
 -- ---- the refusals
 
--- not 5: "nodes by index, then publics, definitions, expressions"
+-- not 5, Entry: "nodes by index, then publics, definitions, expressions"
 unfoldable pub shaped : List ℕ → Bool
 shaped b =
     nodes_fit b (nodes_offset b) (names b) (nodes b)
@@ -115,7 +115,7 @@ shaped b =
     && (definitions_fit b (nodes_offset b) (nodes b) (definitions_offset b) (definitions b)
     && expressions_fit b (nodes_offset b) (nodes b) (expressions_offset b) (expressions b)))
 
--- not 6: "every node is used exactly once"
+-- not 6, Uses: "every node is used exactly once"
 unfoldable pub used_once : List ℕ → Bool
 used_once b =
     every (nodes b) (λ k.

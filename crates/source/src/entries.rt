@@ -25,6 +25,7 @@ fn zeros(words: &[u32]) -> bool
 }
 
 // The node, where the words that it does not use are 0.
+// Kept as it is: two cases here and in `operation`, which the proofs take apart; `then_some` and `ok().map(..)` would be opened there again.
 fn blank(unused: &[u32], node: Node) -> Option<Node>
     ensures { result ≡ all_unused unused.now (Some node) }
 {

@@ -1,4 +1,4 @@
-// The check of a source record: accepted, or the first of refusals 1 to 6.
+// The check of a source record: accepted, or the first of the refusals from `Length` to `Uses`.
 #![tactic(auto)]
 
 mod fingerprints;
@@ -21,7 +21,7 @@ use source::{Layout, layout_of};
 
 const HEADER_BYTES: usize = 4 * HEADER;
 
-// Whether no count is over its limit: not 2.
+// Whether no count is over its limit, so that the record is not refused by `Count`.
 fn has_few(l: &Layout) -> bool
     ensures { result ≡ leb l.now.names NAMES && (leb l.now.publics PUBLICS
         && (leb l.now.definitions DEFINITIONS && (leb l.now.expressions EXPRESSIONS && leb l.now.nodes NODES))) }
@@ -33,14 +33,14 @@ fn has_few(l: &Layout) -> bool
         && l.nodes <= NODES
 }
 
-// Whether so many bytes hold the lists, and no text without names: not 1 after a whole header.
+// Whether so many bytes hold the lists, and no text without names: after a whole header, not refused by `Length`.
 fn is_whole(l: &Layout, size: usize) -> bool
     ensures { result ≡ leb l.now.text_at size && (ltb 0 l.now.names || eqb size l.now.text_at) }
 {
     l.text_at <= size && (0 < l.names || size == l.text_at)
 }
 
-// A source record: accepted, or refused with the first of the refusals 1 to 6.
+// A source record: accepted, or refused with the first of the refusals from `Length` to `Uses`.
 pub fn check_source(s: &[u8]) -> Result<(), Refusal>
     ensures { result ≡ checked (source_of s.now) }
 {
@@ -58,6 +58,7 @@ pub fn check_source(s: &[u8]) -> Result<(), Refusal>
     if !names_fit(s, l.text_at, l.names) {
         return Err(Refusal::Name);
     }
+    // Kept as it is: a literal here and in numbering, no `new`: its ghost fields follow from the tests above, and there from what a module has.
     let names = Names {
         bytes: s,
         text: l.text_at,

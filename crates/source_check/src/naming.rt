@@ -1,4 +1,4 @@
-// The names: their pairs and bytes (refusal 3), and that no two are equal (refusal 4).
+// The names: their pairs and bytes (refusal `Name`), and that no two are equal (refusal `EqualNames`).
 ghost use Rattle.std.specs.Prelude.{◌≡◌, ◌+◌, ◌*◌, ◌≤◌, ◌<◌, ◌&&◌, true, length, leb};
 ghost use Rattle.std.specs.List.{list_all};
 ghost use Rattle.source.specs.Layout.{NAME-WORDS};
@@ -47,7 +47,8 @@ fn name_fits(s: &[u8], text: usize, k: usize, end: usize) -> bool
     prints(&s[start..start + n])
 }
 
-// Whether n names fit, and the last ends with the file: not 3.
+// Whether n names fit, and the last ends with the file, so that the record is not refused by `Name`.
+// Kept as it is: a loop that returns false: where a name ends is handed to the next, and `all` would take a closure that changes it.
 pub fn names_fit(s: &[u8], text: usize, n: usize) -> bool
     requires { (4 * (HEADER + NAME-WORDS * n) ≤ length s.now) × (text ≤ length s.now) }
     ensures { result ≡ names_fit s.now text n }
@@ -90,7 +91,7 @@ impl Names<'_> {
         true
     }
 
-    // Whether the names are different: not 4.
+    // Whether the names are different, so that the record is not refused by `EqualNames`.
     pub fn differ(&self) -> bool
         ensures { result ≡ names_differ self.now.bytes.now self.now.text self.now.count }
     {

@@ -1,4 +1,4 @@
-// Nodes and lists fit (refusal 5), and every node is used exactly once (refusal 6): marks, none at the start, set at each use.
+// Nodes and lists fit (refusal `Entry`), and every node is used exactly once (refusal `Uses`): marks, none at the start, set at each use.
 ghost use Rattle.std.specs.Prelude.{◌≡◌, ◌+◌, ◌*◌, ◌≤◌, ◌<◌, length, ltb, ok_or};
 ghost use Rattle.marks.specs.Indices.{same};
 ghost use Rattle.marks.specs.Marks.{all_once};
@@ -38,6 +38,8 @@ impl Sort {
 }
 
 // The next node is the one with the index `count`: what it uses stands before it.
+// Kept as it is: the contracts hand on bytes, place and count one by one, since the definitions take these, and no struct.
+// Kept as it is: the marks are lent beside the nodes, since `first` copies these cut to the first k, which a struct with the marks in it could not be.
 impl Nodes<'_> {
     // Node k, which must be one.
     fn read(&self, k: usize) -> Result<Node, Refusal>
@@ -47,7 +49,7 @@ impl Nodes<'_> {
         self.entry(k).ok_or(Refusal::Entry)
     }
 
-    // The next node uses x, which must be one of these, of the sort.
+    // The next node uses a node, which must be one of these, of the sort.
     fn use_node(&self, sort: Sort, x: usize, marks: &mut Marks<NODES>) -> Result<(), Refusal>
         ensures { Judged result (sort_fits self.now.bytes.now self.now.at sort self.now.count x) marks.old marks.new (same x) }
     {
@@ -62,6 +64,7 @@ impl Nodes<'_> {
     }
 
     // The next node uses a name.
+    // Kept as it is: an `if` of Ok and Err, here and below; `then_some(()).ok_or(..)` says the same, no plainer.
     fn use_name(&self, v: usize) -> Result<(), Refusal>
         ensures { result ≡ verdict Refusal.Entry (ltb v self.now.names) }
     {
@@ -251,7 +254,7 @@ impl Nodes<'_> {
     }
 }
 
-// Whether nodes, publics, definitions and expressions fit (not 5), and then every node is used once (not 6).
+// Whether nodes, publics, definitions and expressions fit (else `Entry`), and then every node is used once (else `Uses`).
 pub fn read_trees(s: &[u8], l: Layout) -> Result<(), Refusal>
     requires { (l ≡ layout_of s.now) × ((l.text_at ≤ length s.now) × (l.nodes ≤ NODES)) }
     ensures { result ≡ outcome (shaped s.now) (used_once s.now) }

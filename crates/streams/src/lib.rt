@@ -34,6 +34,7 @@ fn words_of(text: &str) -> &str {
 }
 
 // A line on standard error: what failed, and why.
+// Kept as it is: a slice takes the front of words that are too long; an `ArrayString` takes a piece whole or not at all.
 fn say_failed(rt: &impl Eprint, what: &str, error: Error) -> Failed {
     let mut room = [0u8; WORDS];
     let mut rest = &mut room[..];

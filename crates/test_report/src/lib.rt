@@ -118,6 +118,7 @@ pub fn tell_last(rt: &(impl Print + Eprint), text: &[u8], counts: &[u64]) -> Res
 }
 
 // How many cases came to each kind, and the kind of those that differ.
+// Kept as it is: a kind is the place of its count in the text that says them; `test_source` has eight of them, `Verdict` three.
 #[derive(Drop)]
 pub struct Counts<const KINDS: usize> {
     pub of: [u64; KINDS],

@@ -1,4 +1,5 @@
 // A line of text. Where it is longer than the room for one it is cut.
+// Kept as it is: `tell` promises that it wrote as many bytes as the line has, and `println!` answers no such count.
 ghost use Rattle.std.specs.Prelude.{◌≡◌, ◌++◌, ◌≤◌, take, get_or};
 ghost use Rattle.constraint_text.specs.Text.{decimal};
 ghost use Rattle.test_report.specs.Lines.{LINE, piece, takes, filled};

@@ -42,7 +42,7 @@ fn judge(image: &[u8], answer: u32) -> usize {
     }
 }
 
-// Word i becomes w; an index beyond the image says that no word does.
+// A word of the image becomes another; an index beyond the image says that none does.
 fn damage(image: &mut [u8], i: usize, w: u32) {
     if i < image.len() / 4 {
         put_word(image, i, w);
@@ -80,6 +80,7 @@ impl Cases<KINDS_OF_CASES> for Records {
     ) -> Result<(), Stop> {
         let mut head = [0u8; HEAD];
         read_part(rt, &mut head)?;
+        // Kept as it is: a word of the input says which of the two follows, and both need the same room; an enum would be made to be taken apart.
         let is_base = word_at(&head, 0) == BASE;
         let n = if is_base {
             count(&head, 1)
