@@ -8,6 +8,7 @@ use super::rows::Scopes;
 use source::lists::{definition_at, expression_at};
 use source_check::nodes::Nodes;
 
+// Kept as it is: loops by index: what is left of a list is said by its index, in the definitions and in each loop's invariant.
 impl Scopes {
     // A definition of a pattern by a value: the value before the pattern, whose names stay bound and so leave the undo list.
     fn number_def_variables(&mut self, nodes: &Nodes, p: usize, v: usize)

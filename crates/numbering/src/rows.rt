@@ -1,4 +1,5 @@
 // The rows: a name's id, if it has one; the undo list has each bound name, and what its row held before.
+// Kept as it is: two arrays by name, not one of pairs: the definitions have locals and globals apart, and a scope's end restores locals alone.
 ghost use Rattle.std.specs.Prelude.{◌≡◌, ℕ, ◌≤◌, ◌<◌};
 ghost use Rattle.numbering.specs.Walks.{Sized, Chosen, undone, no_scopes, bound_to, unwound_to};
 ghost use Rattle.records.specs.FlatRecord.{IDS};

@@ -179,7 +179,7 @@ fn cuttable_equations(record: &Record) -> bool
     true
 }
 
-// Kept as it is: each asks that its id is below IDS, which the methods of Record promise of what they read; a type for ids is no plainer: it would be made of each id that is read.
+// Kept as it is: each asks that its id is below IDS, which Record's methods promise of what they read; a type for ids would be made of each id that is read.
 impl Classes<'_> {
     // Whether the id is not used.
     pub fn is_never(&self, v: usize) -> bool

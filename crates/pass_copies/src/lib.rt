@@ -28,6 +28,7 @@ pub enum Substitute {
 }
 
 // What stands for each id, and by how many steps an id is followed at most.
+// Kept as it is: the record is lent beside these: the passes have it in `Classes`, and what the substitutions are is said without it.
 #[derive(Drop)]
 pub struct Substitutions {
     pub terms: [Substitute; ID_COUNT],
@@ -87,6 +88,7 @@ impl Substitutions {
     }
 
     // The substitutions after a definition whose id is not the prover's: a term stands for its variable, unless it is the variable itself.
+    // Kept as it is: a term becomes a substitute here alone, with the test beside it; a `From` would have one caller.
     pub fn substitute(&mut self, record: &Record, d: DefinitionEntry)
         requires { (d.id < IDS) × (d.node < nodes record.now.bytes.now) }
         ensures { (self.new.terms ≡ put_definition self.old.steps self.old.terms (record { id = d.id; right = tree_of record.now.bytes.now d.node }))

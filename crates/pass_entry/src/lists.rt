@@ -51,6 +51,7 @@ pub fn put_provers(classes: &Classes, body: &mut [u8], at: usize) -> usize
 }
 
 // The first n bytes of one slice, in the other from byte `to` on.
+// Kept as it is: one call of std, whose promise is said once here, by `paste`, for both calls.
 pub fn copy_to(from: &[u8], n: usize, out: &mut [u8], to: usize)
     requires { (n ≤ length from.now) × (to + n ≤ length out.old) }
     ensures { out.new ≡ paste out.old to from.now n }

@@ -187,6 +187,7 @@ impl Nodes<'_> {
     }
 
     // Whether the nodes fit; then what they use is marked.
+    // Kept as it is: loops by index, here and below: what is left of a list is said by its index, in definitions and invariants.
     fn read_nodes(&self, marks: &mut Marks<NODES>) -> Result<(), Refusal>
         ensures { Judged result (nodes_fit self.now.bytes.now self.now.at self.now.names self.now.count) marks.old marks.new
             (by_nodes self.now.bytes.now self.now.at self.now.count) }

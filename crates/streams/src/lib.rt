@@ -16,6 +16,7 @@ use std::{fs, io, str};
 pub struct Failed;
 
 // What to read: standard input, or a file that was opened.
+// Kept as it is: two things to read, and no value that may be missing; a `None` would not say that standard input is read.
 #[derive(Drop)]
 pub enum Opened<F> {
     Standard,
@@ -105,6 +106,7 @@ fn write_more<W: Write>(rt: &impl Eprint, out: &mut W, bytes: &[u8]) -> Result<u
     Err(say_failed(rt, "standard output", error))
 }
 
+// Kept as it is: the runtime and the writer are two parameters, here and where text is printed: a struct of both has two types in each signature.
 // Writes all of the bytes to standard output. Nothing is written behind a write that failed, and of that one a front may be.
 pub fn write_output<W: Write>(rt: &impl Eprint, out: &mut W, bytes: &[u8]) -> Result<usize, Failed>
     ensures whole { Whole result (length bytes.now) }

@@ -55,6 +55,7 @@ fn count_at(counts: &[u64], k: usize) -> u64
 }
 
 // The text, with the next of the counts for each mark of it.
+// Kept as it is: the place of the next count goes on at a mark alone, so no `zip` or `enumerate` has it.
 pub fn fill_line(text: &[u8], counts: &[u64]) -> Line
     ensures { result.items ≡ take LINE (filled text.now counts.now) }
 {
