@@ -127,6 +127,7 @@ pub fn next_line(next: usize, out: &mut [u8; LINE]) -> usize
     ensures value { (result ≡ length (next_text next)) × (out.new ≡ set_bytes out.old 0 (next_text next)) }
     ensures prefix_len { IsPrefixLen result out.new }
 {
+    // Kept as it is: `as`, since Rust has no `From` of a usize for u64.
     put_line(out, "next ", next as u64)
 }
 
