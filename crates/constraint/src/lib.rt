@@ -18,6 +18,8 @@ use words::{put_word, put_words, unsigned};
 // Words of the record's header.
 pub const HEADER: usize = flat_record::HEADER;
 
+pub const HEADER_BYTES: usize = flat_record::HEADER_BYTES;
+
 // The words of an equality and of a kept definition.
 pub const EQUALITY_WORDS: usize = 7;
 

@@ -10,12 +10,10 @@ ghost use Rattle.streams.specs.Streams.{IsPrefixLen, Whole, Added};
 ghost use Rattle.constraint_text.specs.Reading.{lines, line_at, lines_text};
 
 use constraint::reading::{equality_at, layout_of};
-use constraint::{EQUALITY_WORDS, HEADER};
+use constraint::{EQUALITY_WORDS, HEADER_BYTES};
 pub use line::{LINE, equality_line, next_line, refused_line};
 use std::io::Write;
 use streams::{Failed, write_output};
-
-const HEADER_BYTES: usize = 4 * HEADER;
 
 // The counts of a record are any words, so lines are counted only as far as its bytes go.
 fn line_count(s: &[u8]) -> usize

@@ -6,10 +6,8 @@ ghost use Rattle.records.specs.declared.refusals.Refusal.{Refusal};
 
 use super::lists::{all_below, rises};
 use super::{Layout, layout_of};
-use records::flat_record::{HEADER, ID_COUNT, LISTED, NODES, PUBLICS};
+use records::flat_record::{HEADER, HEADER_BYTES, ID_COUNT, LISTED, NODES, PUBLICS};
 use records::refusals::Refusal;
-
-const HEADER_BYTES: usize = 4 * HEADER;
 
 // Whether no list is longer than a record's may be.
 #[tactic(auto, unfolding(crate::specs::Record::has_few))]

@@ -44,6 +44,7 @@ pub fn fits(n: NodeEntry, limit: usize, k: usize) -> bool
 }
 
 // The node's children are used once more.
+// Kept as it is: by kind, as `fits`. By Node, which was tried, six goals were left, for each case had to be led back to the words.
 pub fn use_children(n: NodeEntry, marks: &mut Marks<NODES>)
     requires { (n.kind ≡ INFIX → (n.a < NODES) × (n.b < NODES)) × (n.kind ≡ NEGATE → n.a < NODES) }
     ensures { Adds marks.old marks.new (λ k. used_by k n.kind n.a n.b 0) }

@@ -107,6 +107,7 @@ impl Substitutions {
 }
 
 // Whether an equation is obviously true: two equal constants, as they are written, or one variable twice.
+// Kept as it is: the match has the two cases of the definition; `a.is_some() && a == b` is no plainer.
 pub fn is_dead(a: Option<Term>, b: Option<Term>) -> bool
     ensures { result ≡ dead_roots a b }
 {

@@ -2,6 +2,8 @@
 // Kept as it is: the definitions have LAST-LISTED and LAST-ID by name, and Rust has no constant of two types (IDS, ID_COUNT).
 pub const HEADER: usize = 6;
 
+pub const HEADER_BYTES: usize = 4 * HEADER;
+
 pub const PUBLICS: usize = 64;
 
 pub const NODES: usize = 16384;

@@ -1,6 +1,8 @@
 // The source record: words of its header, the most of each list, and of a name's bytes.
 pub const HEADER: usize = 5;
 
+pub const HEADER_BYTES: usize = 4 * HEADER;
+
 pub const NAMES: usize = 512;
 
 pub const PUBLICS: usize = 64;

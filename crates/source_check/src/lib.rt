@@ -16,10 +16,8 @@ use names::Names;
 use naming::names_fit;
 use reading::read_trees;
 use records::refusals::Refusal;
-use records::source_record::{DEFINITIONS, EXPRESSIONS, HEADER, NAMES, NODES, PUBLICS};
+use records::source_record::{DEFINITIONS, EXPRESSIONS, HEADER_BYTES, NAMES, NODES, PUBLICS};
 use source::{Layout, layout_of};
-
-const HEADER_BYTES: usize = 4 * HEADER;
 
 // Whether no count is over its limit, so that the record is not refused by `Count`.
 fn has_few(l: &Layout) -> bool
