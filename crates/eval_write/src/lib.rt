@@ -11,7 +11,8 @@ ghost use Rattle.records.specs.FlatRecord.{HEADER, IDS, LISTED, PUBLICS};
 ghost use Rattle.records.specs.Kinds.{NODE-WORDS};
 
 use eval_memory::Memory;
-use flat::entries::{BYTES, DEFINITION_WORDS, EQUATION_WORDS, Header, put_header};
+use flat::Layout;
+use flat::entries::{BYTES, Header, put_header};
 use records::NODE_WORDS;
 use records::flat_record::{HEADER, IDS};
 use words::put_word;
@@ -57,7 +58,7 @@ fn write_provers(out: &mut FlatBytes, memory: &Memory, at: usize)
 }
 
 // The whole record: how many bytes it has.
-#[tactic(auto, unfolding(crate::specs::Written::write_flat, crate::specs::Written::write_ids))]
+#[tactic(auto, unfolding(crate::specs::Written::write_flat, crate::specs::Written::write_ids, flat::specs::Layout::layout_by))]
 pub fn write_flat(memory: &Memory, publics: &[u32], out: &mut FlatBytes) -> usize
     requires { ((length publics.now ≤ PUBLICS) × (memory.now.state.provers ≤ LISTED))
         × ((memory.now.state.definitions ≤ LISTED) × (memory.now.state.equations ≤ LISTED)) }
@@ -68,29 +69,25 @@ pub fn write_flat(memory: &Memory, publics: &[u32], out: &mut FlatBytes) -> usiz
         publics.now (length publics.now) out.old).nodes)) }
 {
     let s = memory.state;
-    let count = publics.len();
     let header = Header {
         next: s.next,
-        publics: count as u32,
+        publics: publics.len() as u32,
         provers: s.provers,
         first: s.definitions,
         second: s.equations,
         nodes: s.nodes,
     };
+    let layout = Layout::from(header);
     put_header(out, header);
     write_publics(out, publics);
-    let provers = HEADER + count;
-    write_provers(out, memory, provers);
-    let list = provers + (s.provers as usize);
-    let sides = list + DEFINITION_WORDS * (s.definitions as usize);
-    let at = sides + EQUATION_WORDS * (s.equations as usize);
+    write_provers(out, memory, layout.provers_at);
     let mut writer = Writer {
         memory,
         out,
-        at,
+        at: layout.nodes_at,
         nodes: 0,
     };
-    writer.definitions(list);
-    writer.equations(sides);
-    4 * (at + NODE_WORDS * (writer.nodes as usize))
+    writer.definitions(layout.definitions_at);
+    writer.equations(layout.equations_at);
+    4 * (layout.nodes_at + NODE_WORDS * (writer.nodes as usize))
 }

@@ -3,6 +3,7 @@
 use Rattle.std.specs.Prelude.{ℕ, ◌+◌, ◌*◌, ◌≤◌, List, [], ◌∷◌, length}
 use Rattle.words.specs.Words.{word_at}
 use Rattle.flat.specs.declared.Layout.{Layout}
+use Rattle.flat.specs.declared.entries.Header.{Header}
 use Rattle.flat.specs.declared.entries.DefinitionEntry.{DefinitionEntry}
 use Rattle.flat.specs.declared.entries.EquationEntry.{EquationEntry}
 use Rattle.records.specs.FlatRecord.{HEADER, LISTED, NODES, PUBLICS}
@@ -69,6 +70,22 @@ layout_of b = record {
   equations_at = equations_offset b;
   nodes_at = nodes_offset b;
   size = size b;
+}
+
+-- the layout that a header says, before it is written or after
+unfoldable pub layout_by : Header → Layout
+layout_by h = record {
+  next = h.next;
+  publics = h.publics;
+  provers = h.provers;
+  definitions = h.first;
+  equations = h.second;
+  nodes = h.nodes;
+  provers_at = HEADER + h.publics;
+  definitions_at = HEADER + h.publics + h.provers;
+  equations_at = HEADER + h.publics + h.provers + DEFINITION-WORDS * h.first;
+  nodes_at = HEADER + h.publics + h.provers + DEFINITION-WORDS * h.first + EQUATION-WORDS * h.second;
+  size = HEADER + h.publics + h.provers + DEFINITION-WORDS * h.first + EQUATION-WORDS * h.second + NODE-WORDS * h.nodes;
 }
 
 -- a layout of which each list ends within the bytes, and has no more nodes than a record may

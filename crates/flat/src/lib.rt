@@ -9,19 +9,19 @@ mod ordering;
 mod uses;
 
 ghost use Rattle.std.specs.Prelude.{◌≡◌, ◌+◌, ◌*◌, ◌≤◌, length};
-ghost use Rattle.flat.specs.Layout.{layout_of};
+ghost use Rattle.flat.specs.Layout.{layout_of, layout_by};
 ghost use Rattle.flat.specs.Record.{operator_of, node_of, flat_of, checked};
 ghost use Rattle.records.specs.FlatRecord.{HEADER};
 ghost use Rattle.records.specs.Kinds.{NODE-WORDS};
 
-use entries::{DEFINITION_WORDS, EQUATION_WORDS};
+use entries::{DEFINITION_WORDS, EQUATION_WORDS, Header};
 use field::InfixOp;
 use measured::Measured;
 use records::NODE_WORDS;
 use records::flat_record::HEADER;
 use records::nodes::NodeEntry;
 use records::refusals::Refusal;
-use words::count;
+use words::word_at;
 
 // A node, with its children by their indices.
 #[derive(Clone, Copy)]
@@ -65,34 +65,51 @@ pub fn node_at(s: &[u8], at: usize, k: usize) -> Node
     Node::from(NodeEntry::read(s, at, k))
 }
 
-// The layout that the header says.
-#[tactic(auto, unfolding(crate::specs::Layout::layout_of))]
+// The layout that a header says.
+#[tactic(auto, unfolding(crate::specs::Layout::layout_by))]
+impl From<Header> for Layout {
+    ghost from_gives = { λ header layout. layout ≡ layout_by header };
+
+    fn from(header: Header) -> Layout {
+        let publics = header.publics as usize;
+        let provers = header.provers as usize;
+        let definitions = header.first as usize;
+        let equations = header.second as usize;
+        let nodes = header.nodes as usize;
+        let provers_at = HEADER + publics;
+        let definitions_at = provers_at + provers;
+        let equations_at = definitions_at + DEFINITION_WORDS * definitions;
+        let nodes_at = equations_at + EQUATION_WORDS * equations;
+        Layout {
+            next: header.next as usize,
+            publics,
+            provers,
+            definitions,
+            equations,
+            nodes,
+            provers_at,
+            definitions_at,
+            equations_at,
+            nodes_at,
+            size: nodes_at + NODE_WORDS * nodes,
+        }
+    }
+}
+
+// The layout of a record.
+#[tactic(auto, unfolding(crate::specs::Layout::layout_of, crate::specs::Layout::layout_by))]
 pub fn layout_of(s: &[u8]) -> Layout
     requires { 4 * HEADER ≤ length s.now }
     ensures { result ≡ layout_of s.now }
 {
-    let publics = count(s, 1);
-    let provers = count(s, 2);
-    let definitions = count(s, 3);
-    let equations = count(s, 4);
-    let nodes = count(s, 5);
-    let provers_at = HEADER + publics;
-    let definitions_at = provers_at + provers;
-    let equations_at = definitions_at + DEFINITION_WORDS * definitions;
-    let nodes_at = equations_at + EQUATION_WORDS * equations;
-    Layout {
-        next: count(s, 0),
-        publics,
-        provers,
-        definitions,
-        equations,
-        nodes,
-        provers_at,
-        definitions_at,
-        equations_at,
-        nodes_at,
-        size: nodes_at + NODE_WORDS * nodes,
-    }
+    Layout::from(Header {
+        next: word_at(s, 0),
+        publics: word_at(s, 1),
+        provers: word_at(s, 2),
+        first: word_at(s, 3),
+        second: word_at(s, 4),
+        nodes: word_at(s, 5),
+    })
 }
 
 // A lent flat record: accepted, or refused by its length or by its rules.
