@@ -66,7 +66,6 @@ pub fn node_at(s: &[u8], at: usize, k: usize) -> Node
 }
 
 // The layout that a header says.
-#[tactic(auto, unfolding(crate::specs::Layout::layout_by))]
 impl From<Header> for Layout {
     ghost from_gives = { λ header layout. layout ≡ layout_by header };
 
