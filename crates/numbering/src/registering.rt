@@ -57,7 +57,7 @@ impl Scopes {
         // Kept as it is: the index reads the record too, and an iterator over the first entries of the array is no plainer.
         for i in 0..count {
             let x = public_at(names.bytes, list, i);
-            publics[i] = self.number_variable(x as usize);
+            publics[i] = self.number_variable(x);
         }
         publics
     }

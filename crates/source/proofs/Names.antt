@@ -15,7 +15,7 @@ use Rattle.source.specs.Names.{offset_of, length_of, end_of, printed, name_fits,
 use Rattle.source.specs.Layout.{name_entry}
 use Rattle.std.proofs.lemmas.Bool.{both_ways}
 use Rattle.std.proofs.lemmas.Bool.{cases_lt}
-use Rattle.marks.proofs.Indices.{and_no, and_left, and_right, every-fails, every-all, every-at}
+use Rattle.marks.proofs.Indices.{and_no, and_left, and_right, every-fails, every-at}
 
 eqb-sym-at : (t : Bool) (a b : ℕ) → eqb a b ≡ t → t ≡ eqb b a
 eqb-sym-at true a b e = sym (eq-eqb b a (sym (eqb-true a b e)))
@@ -112,24 +112,6 @@ pub names-end : (b : List ℕ) (text n k : ℕ) {end : ℕ} → every k (name_fi
     → eqb (length b) (text + end) ≡ names_fit b text n
 unfolding names_fit
 names-end b text n k {end} h e q = rw (← q, ← e, h) (eqb-sym (length b) (text + end))
-
--- ---- equal names
-
-pub new-fails : (b : List ℕ) (text k j : ℕ) {r : Bool} → j < k → r ≡ same_name b text j k → r ≡ true → false ≡ name_new b text k
-unfolding name_new
-new-fails b text k j l e f = every-fails k j (λ i. not (same_name b text i k)) l (ap not (sym e ∙ f))
-
-pub new-all : (b : List ℕ) (text k j : ℕ) → every j (λ i. not (same_name b text i k)) ≡ true → j ≡ k → true ≡ name_new b text k
-unfolding name_new
-new-all b text k j h e = every-all k j _ h e
-
-pub differ-fails : (b : List ℕ) (text n k : ℕ) {r : Bool} → k < n → r ≡ name_new b text k → r ≡ false → false ≡ names_differ b text n
-unfolding names_differ
-differ-fails b text n k l e f = every-fails n k (name_new b text) l (sym e ∙ f)
-
-pub differ-all : (b : List ℕ) (text n k : ℕ) → every k (name_new b text) ≡ true → k ≡ n → true ≡ names_differ b text n
-unfolding names_differ
-differ-all b text n k h e = every-all n k _ h e
 
 -- where the code reads a name that fits
 pub inside : (b : List ℕ) (text k : ℕ) {n offset : ℕ} → n ≡ (name_entry b k).size → offset ≡ (name_entry b k).offset → Named b text k →

@@ -1,10 +1,10 @@
 // The entries of a source record's lists, each by its place and its index.
-ghost use Rattle.std.specs.Prelude.{◌≡◌, ◌+◌, ◌*◌, ◌≤◌, length};
+ghost use Rattle.std.specs.Prelude.{◌≡◌, ◌+◌, ◌*◌, ◌≤◌, ◌<◌, length};
 ghost use Rattle.source.specs.Layout.{name_entry, public_at, definition_entry, expression_root, NAME-WORDS, DEFINITION-WORDS};
 ghost use Rattle.records.specs.SourceRecord.{HEADER};
 
 use records::source_record::HEADER;
-use words::word_at;
+use words::{count, word_at};
 
 // The words of a name and of a definition.
 pub const NAME_WORDS: usize = 2;
@@ -14,11 +14,12 @@ pub const DEFINITION_WORDS: usize = 2;
 // A name: where it starts in the name text, and its bytes.
 #[derive(Clone, Copy)]
 pub struct NameEntry {
-    pub offset: u32,
-    pub size: u32,
+    pub offset: usize,
+    pub size: usize,
 }
 
 // A definition: the nodes of its pattern and of its value.
+// Kept as it is: nodes as u32, here and in expression_at: evaluation takes the words as they are, and a usize would be narrowed there.
 #[derive(Clone, Copy)]
 pub struct DefinitionEntry {
     pub pattern: u32,
@@ -29,22 +30,24 @@ pub struct DefinitionEntry {
 // Kept as it is: a form for this and definition_at is no plainer, since each names what its two words are.
 pub fn name_at(s: &[u8], k: usize) -> NameEntry
     requires { 4 * (HEADER + NAME-WORDS * k + NAME-WORDS) ≤ length s.now }
-    ensures { result ≡ name_entry s.now k }
+    ensures value { result ≡ name_entry s.now k }
+    ensures upper_bound { (result.offset < 4294967296) × (result.size < 4294967296) }
 {
     let base = HEADER + NAME_WORDS * k;
     NameEntry {
-        offset: word_at(s, base),
-        size: word_at(s, base + 1),
+        offset: count(s, base),
+        size: count(s, base + 1),
     }
 }
 
 // The name of public k of those that start at word `at`.
 // Kept as it is: this, expression_at and a flat record's prover_at read one word; each names the list that its contract speaks of.
-pub fn public_at(s: &[u8], at: usize, k: usize) -> u32
+pub fn public_at(s: &[u8], at: usize, k: usize) -> usize
     requires { 4 * (at + k + 1) ≤ length s.now }
-    ensures { result ≡ public_at s.now at k }
+    ensures value { result ≡ public_at s.now at k }
+    ensures upper_bound { result < 4294967296 }
 {
-    word_at(s, at + k)
+    count(s, at + k)
 }
 
 // Definition k of those that start at word `at`.

@@ -25,7 +25,7 @@ impl Names<'_> {
         ensures { result.now ≡ name_of self.now.bytes.now self.now.text k }
     {
         let name = name_at(self.bytes, k);
-        let start = self.text + name.offset as usize;
-        &self.bytes[start..start + name.size as usize]
+        let start = self.text + name.offset;
+        &self.bytes[start..start + name.size]
     }
 }

@@ -2,7 +2,7 @@
 ghost use Rattle.std.specs.Prelude.{◌≡◌, ◌+◌, ◌*◌, ◌≤◌, ◌<◌, ◌&&◌, true, length, leb};
 ghost use Rattle.std.specs.List.{list_all};
 ghost use Rattle.source.specs.Layout.{NAME-WORDS};
-ghost use Rattle.source.specs.Names.{end_of, name_of, name_fits, names_fit, name_new, names_differ, FIRST-BYTE, LAST-BYTE};
+ghost use Rattle.source.specs.Names.{end_of, name_of, name_fits, names_fit, name_new, names_differ, same_name, FIRST-BYTE, LAST-BYTE};
 ghost use Rattle.source_check.specs.Fingerprints.{Fingerprinted};
 ghost use Rattle.records.specs.SourceRecord.{HEADER, NAMES};
 
@@ -11,16 +11,11 @@ use super::names::Names;
 use records::source_record::{NAME_BYTES, NAMES};
 use source::lists::name_at;
 
-// "Bytes 33 to 126."
-const FIRST_BYTE: u8 = 33;
-
-const LAST_BYTE: u8 = 126;
-
 // Whether all bytes are from 33 to 126.
 fn prints(bytes: &[u8]) -> bool
     ensures { result ≡ list_all (λ c. leb FIRST-BYTE c && leb c LAST-BYTE) bytes.now }
 {
-    bytes.iter().all(|c| (FIRST_BYTE <= *c) & (*c <= LAST_BYTE))
+    bytes.iter().all(u8::is_ascii_graphic)
 }
 
 // Whether name k fits, where the names before it end at `end`.
@@ -29,11 +24,11 @@ fn name_fits(s: &[u8], text: usize, k: usize, end: usize) -> bool
     ensures { result ≡ name_fits s.now text k }
 {
     let name = name_at(s, k);
-    let offset = name.offset as usize;
+    let offset = name.offset;
     if offset != end {
         return false;
     }
-    let n = name.size as usize;
+    let n = name.size;
     if n < 1 {
         return false;
     }
@@ -59,13 +54,14 @@ pub fn names_fit(s: &[u8], text: usize, n: usize) -> bool
             return false;
         }
         let name = name_at(s, k);
-        end = name.offset as usize + name.size as usize;
+        end = name.offset + name.size;
     }
     s.len() == text + end
 }
 
 impl Names<'_> {
     // The fingerprint of each name at its index.
+    // Kept as it is: of an array's values after `iter_mut().enumerate().take(n)` the kit says nothing, and no proof follows.
     fn fingerprints(&self) -> [u32; NAMES]
         ensures { Fingerprinted self.now.bytes.now self.now.text self.now.count result }
     {
@@ -76,19 +72,23 @@ impl Names<'_> {
         prints
     }
 
-    // Whether name k is none of those before it. Only where fingerprints are equal are bytes compared.
+    // Whether two names are equal. Only where fingerprints are equal are bytes compared.
+    fn are_equal(&self, prints: &[u32; NAMES], j: usize, k: usize) -> bool
+        requires below { (j < self.now.count) × (k < self.now.count) }
+        requires fingerprinted { Fingerprinted self.now.bytes.now self.now.text self.now.count prints.now }
+        ensures { result ≡ same_name self.now.bytes.now self.now.text j k }
+    {
+        prints[j] == prints[k] && self.name(j) == self.name(k)
+    }
+
+    // Whether name k is none of those before it.
     // Kept as it is: a set of names needs the heap, which the project does without.
     fn is_new(&self, prints: &[u32; NAMES], k: usize) -> bool
         requires below { k < self.now.count }
         requires fingerprinted { Fingerprinted self.now.bytes.now self.now.text self.now.count prints.now }
         ensures { result ≡ name_new self.now.bytes.now self.now.text k }
     {
-        for j in 0..k {
-            if prints[j] == prints[k] && self.name(j) == self.name(k) {
-                return false;
-            }
-        }
-        true
+        (0..k).all(|j| !self.are_equal(prints, j, k))
     }
 
     // Whether the names are different, so that the record is not refused by `EqualNames`.
@@ -96,11 +96,6 @@ impl Names<'_> {
         ensures { result ≡ names_differ self.now.bytes.now self.now.text self.now.count }
     {
         let prints = self.fingerprints();
-        for k in 0..self.count {
-            if !self.is_new(&prints, k) {
-                return false;
-            }
-        }
-        true
+        (0..self.count).all(|k| self.is_new(&prints, k))
     }
 }

@@ -205,7 +205,7 @@ impl Nodes<'_> {
         ensures { result ≡ verdict Refusal.Entry (publics_fit self.now.bytes.now self.now.names list n) }
     {
         for k in 0..n {
-            self.use_name(public_at(self.bytes, list, k) as usize)?;
+            self.use_name(public_at(self.bytes, list, k))?;
         }
         Ok(())
     }

@@ -21,7 +21,7 @@ returns-then-not-name_fits c =
 
 pub loop-k-preserved : goal.loop-k-preserved
 loop-k-preserved c =
-    let read = c.name_at-name.ensures in
+    let read = c.name_at-name.ensures.value in
     record {
       fit = every_more _ _ c.loop-k.invariant.fit (sym c.name_fits.ensures ∙ c.if-not-name_fits.false);
       end = end_more c.args.s.now _ (offset-is read) (size_is read);

@@ -9,8 +9,10 @@ loop-i-init c = record { few = omega arith; long = refl; left = λ s p w. public
 
 pub number_variable-requires : goal.number_variable-requires
 number_variable-requires c =
-    let few = c.requires.few in
-    (public-name _ _ _ _ _ c.requires.fit c.args.names.now.few c.loop-i-test.true c.public_at-x.ensures, omega (arith, c.loop-i.invariant.few, few.0, few.1))
+    let few = c.requires.few in (
+      public-name _ _ _ _ _ c.requires.fit c.args.names.now.few c.loop-i-test.true c.public_at-x.ensures.value,
+      omega (arith, c.loop-i.invariant.few, few.0, few.1),
+    )
 
 pub loop-i-preserved : goal.loop-i-preserved
 loop-i-preserved c =
@@ -21,7 +23,7 @@ loop-i-preserved c =
     let room : turn.i < length turn.publics = omega (arith, inv.long, less, c.requires.few.0) in record {
       few = omega (arith, v.few, inv.few);
       long = simp length-set inv.long;
-      left = λ s p w. inv.left s p (publics-step _ _ _ _ c.public_at-x.ensures less room v w);
+      left = λ s p w. inv.left s p (publics-step _ _ _ _ c.public_at-x.ensures.value less room v w);
     }
 
 pub returns : goal.returns

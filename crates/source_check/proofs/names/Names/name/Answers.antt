@@ -16,7 +16,7 @@ name-inside : (c : After-name_at-name) →
     names.text + name.offset + name.size ≤ length names.bytes.now
 name-inside c =
     let names = c.args.self.now in
-    let read = c.name_at-name.ensures in
+    let read = c.name_at-name.ensures.value in
     inside names.bytes.now _ _ (size_is read) (offset-is read) (named-at names.bytes.now names.text names.count c.args.k names.fit c.requires)
 
 pub overflow_add-start : goal.overflow_add-start
@@ -34,4 +34,4 @@ returns c =
     let names = c.args.self.now in
     let name = c.name_at-name.result in
     let e : names.text + name.offset + name.size - (names.text + name.offset) ≡ name.size = omega arith in
-    rw (e, c.name_at-name.ensures)
+    rw (e, c.name_at-name.ensures.value)

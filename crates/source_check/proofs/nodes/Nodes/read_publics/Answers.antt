@@ -18,12 +18,12 @@ returns-in_err-use_name c =
     let l : c.loop-k.k < c.args.n = omega arith in
     let no = refused Refusal.Entry _ c.use_name.ensures c.in_err-use_name.was in
     passes-on Refusal.Entry _ c.use_name.ensures c.in_err-use_name.was c.from_residual.ensures.1
-    ∙ refuses Refusal.Entry _ (sym (every-fails _ c.loop-k.k _ l (rw (← c.public_at.ensures, no.0))))
+    ∙ refuses Refusal.Entry _ (sym (every-fails _ c.loop-k.k _ l (rw (← c.public_at.ensures.value, no.0))))
 
 pub loop-k-preserved : goal.loop-k-preserved
 unfolding publics_fit
 loop-k-preserved c =
-    every_more _ _ c.loop-k.invariant (rw (← c.public_at.ensures, accepted Refusal.Entry _ c.use_name.ensures c.in_ok-use_name.was))
+    every_more _ _ c.loop-k.invariant (rw (← c.public_at.ensures.value, accepted Refusal.Entry _ c.use_name.ensures c.in_ok-use_name.was))
 
 pub returns : goal.returns
 returns c =
