@@ -116,23 +116,30 @@ def vectors():
         yield 11, b, 0, inverse(b)
 
 
+# The operations in the order of their numbers above.
+INFIX = ["Divide", "DivideZ", "Multiply", "Add", "Subtract", "Equal", "Exponentiate", "IntDivide", "Modulo"]
+OPERATIONS = [f"Operation::Infix(InfixOp::{name})" for name in INFIX] + ["Operation::Canonical", "Operation::Negate", "Operation::Inverse"]
+
+
+def option(v):
+    return "None" if v is None else f"Some({v})"
+
+
 rows = list(vectors())
-print("// Answers of the field, written by tools/field_vectors.py. A row is: operation, two operands, whether there is a value, the value.")
-print("// Operations 0 to 8 as in `InfixOp`; 9 canonical, 10 negate, 11 inverse.")
-print(f"pub const ROWS: usize = {len(rows)};\n")
-print(f"pub const VECTORS: [i64; {5 * len(rows)}] = [")
+print("// Answers of the field, written by tools/field_vectors.py.")
+print("use crate::{Operation, PowerCount, Vector};")
+print("use field::InfixOp;\n")
+print(f"pub static VECTORS: [Vector; {len(rows)}] = [")
 for op, a, b, v in rows:
-    print(f"    {op}, {a}, {b}, {0 if v is None else 1}, {0 if v is None else v},")
+    print(f"    Vector {{ operation: {OPERATIONS[op]}, a: {a}, b: {b}, answer: {option(v)} }},")
 print("];\n")
 print("// The counts of definitions of the exponents from 1 on.")
-print(f"pub const FIRST: usize = {len(FIRST)};\n")
-print(f"pub const FIRST_COUNTS: [u64; {len(FIRST)}] = [")
+print(f"pub static FIRST_COUNTS: [u64; {len(FIRST)}] = [")
 for n in FIRST:
     print(f"    {count(n)},")
 print("];\n")
-print("// An exponent and its count.")
-print(f"pub const COUNTS: usize = {len(COUNTS)};\n")
-print(f"pub const POWERS: [u64; {2 * len(COUNTS)}] = [")
+print("// More exponents with their counts.")
+print(f"pub static POWER_COUNTS: [PowerCount; {len(COUNTS)}] = [")
 for n in COUNTS:
-    print(f"    {n}, {count(n)},")
+    print(f"    PowerCount {{ exponent: {n}, count: {count(n)} }},")
 print("];")

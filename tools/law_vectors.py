@@ -50,6 +50,9 @@ LAWS = [
     ("a | 0", 2, lambda a, b, c: 0),
 ]
 NO_OTHER_IS, CANONICAL_SUM, CANONICAL_PRODUCT = 8, 18, 19
+NAMES = ["SumsCommute", "ProductsCommute", "SumsRegroup", "ProductsRegroup", "ProductsDistribute", "ProductsDistributeRight",
+         "OppositeElement", "OppositeSum", "OppositeOnly", "DifferenceSum", "DivideBySecond", "DivideByFirst", "DivideZBySecond",
+         "DivideZByFirst", "DivideElement", "DivideZElement", "DivideByZero", "DivideZByZero", "CanonicalSum", "CanonicalProduct"]
 
 
 def some(rng):
@@ -89,10 +92,10 @@ def canonical(rng):
 
 random_numbers = random.Random(20238)
 rows = list(laws(random_numbers)) + list(canonical(random_numbers))
-print("// Values of the desk's laws, written by tools/law_vectors.py. A row is: law, three operands, whether there is a value, the value of both sides.")
-print("// Laws as in `Law`; of the last two the third operand is the sum or the product.")
-print(f"pub const LAW_ROWS: usize = {len(rows)};\n")
-print(f"pub const LAW_VECTORS: [i64; {6 * len(rows)}] = [")
+print("// Values of both sides of the desk's laws, written by tools/law_vectors.py. Of the last two laws c is the sum or the product.")
+print("use crate::laws::{Law, LawVector};\n")
+print(f"pub static LAW_VECTORS: [LawVector; {len(rows)}] = [")
 for law, a, b, c, v in rows:
-    print(f"    {law}, {a}, {b}, {c}, {0 if v is None else 1}, {0 if v is None else v},")
+    value = "None" if v is None else f"Some({v})"
+    print(f"    LawVector {{ law: Law::{NAMES[law]}, a: {a}, b: {b}, c: {c}, value: {value} }},")
 print("];")

@@ -4,12 +4,11 @@ ghost use Rattle.std.specs.Prelude.{◌≡◌, ◌≤◌, length};
 ghost use Rattle.field.specs.Prime.{P};
 ghost use Rattle.field.specs.Desk.{chained};
 
-use crate::given;
 use field::InfixOp;
 
 // The fields of `DeskLaws`, in their order.
 #[derive(Clone, Copy)]
-enum Law {
+pub enum Law {
     SumsCommute,
     ProductsCommute,
     SumsRegroup,
@@ -32,7 +31,7 @@ enum Law {
     CanonicalProduct,
 }
 
-// All, by their numbers.
+// All of them.
 const LAWS: [Law; 20] = [
     Law::SumsCommute,
     Law::ProductsCommute,
@@ -75,6 +74,16 @@ const PAIRS: usize = 81;
 
 const TRIPLES: usize = 729;
 
+// A law at three operands, with the value that both sides are to have.
+#[derive(Clone, Copy)]
+pub struct LawVector {
+    pub law: Law,
+    pub a: i64,
+    pub b: i64,
+    pub c: i64,
+    pub value: Option<i64>,
+}
+
 // The two sides of a law.
 #[derive(Clone, Copy)]
 struct Sides {
@@ -87,6 +96,17 @@ struct Sides {
 pub struct Tried {
     pub cases: u64,
     pub differ: u64,
+}
+
+impl Tried {
+    fn of(cases: usize, differ: usize) -> Tried
+        ensures { (result.cases ≡ cases) × (result.differ ≡ differ) }
+    {
+        Tried {
+            cases: cases as u64,
+            differ: differ as u64,
+        }
+    }
 }
 
 // An operation on two answers.
@@ -216,76 +236,86 @@ fn is_broken(law: Law, a: i64, b: i64, c: i64) -> bool {
     sides.left != sides.right
 }
 
-// Whether both sides of the law with a number have the value given, if there is such an answer.
-fn row_holds(number: i64, a: i64, b: i64, c: i64, wanted: Option<Option<i64>>) -> bool {
-    let Some(value) = wanted else {
-        return false;
-    };
-    let Some(law) = usize::try_from(number).ok().and_then(|n| LAWS.get(n)) else {
-        return false;
-    };
-    let sides = sides_of(*law, a, b, c);
-    sides.left == value && sides.right == value
+// Whether both sides of a law have the value given.
+fn has_value(row: &LawVector) -> bool {
+    let sides = sides_of(row.law, row.a, row.b, row.c);
+    sides.left == row.value && sides.right == row.value
 }
 
-// On how many numbers, pairs or triples of the edges a law is tried. The last two have rows only, in which the sum or product stands.
-fn edge_cases(law: Law) -> usize
-    ensures { result ≤ 729 }
-{
+// How many operands a law has that are tried at the edges. The last two have rows only, in which the sum or product stands.
+fn operands(law: Law) -> u8 {
     match law {
-        Law::SumsRegroup => TRIPLES,
-        Law::ProductsRegroup => TRIPLES,
-        Law::ProductsDistribute => TRIPLES,
-        Law::ProductsDistributeRight => TRIPLES,
-        Law::OppositeElement => SINGLES,
-        Law::OppositeSum => SINGLES,
+        Law::SumsRegroup => 3,
+        Law::ProductsRegroup => 3,
+        Law::ProductsDistribute => 3,
+        Law::ProductsDistributeRight => 3,
+        Law::OppositeElement => 1,
+        Law::OppositeSum => 1,
         Law::CanonicalSum => 0,
         Law::CanonicalProduct => 0,
-        _ => PAIRS,
+        _ => 2,
     }
 }
 
-// A law on the first of the triples (729 at most, `TRIPLES`): the first number moves fastest and the third slowest, so that the first 9 are the numbers and
-// the first 81 the pairs.
-fn differing_edges(law: Law, cases: usize) -> u64
-    requires { cases ≤ 729 }
-    ensures { result ≤ cases }
+// How many of the edges a test finds.
+fn edges_with<F: Fn(i64) -> bool>(test: F) -> usize
+    requires { F.IsAlwaysCallable test }
+    ensures { result ≤ 9 }
 {
-    let mut wrong: u64 = 0;
-    for k in 0..cases {
-        let a = EDGES[k % SINGLES];
-        let b = EDGES[k / SINGLES % SINGLES];
-        if is_broken(law, a, b, EDGES[k / PAIRS]) {
-            wrong += 1;
-        }
+    EDGES.iter().filter(|a| test(**a)).count()
+}
+
+// How many pairs of them.
+fn pairs_with<F: Fn(i64, i64) -> bool>(test: F) -> usize
+    requires { F.IsAlwaysCallable test }
+    ensures { result ≤ 81 }
+{
+    let mut found = 0;
+    for a in EDGES {
+        found += edges_with(|b| test(a, b));
     }
-    wrong
+    found
+}
+
+// How many triples of them.
+fn triples_with<F: Fn(i64, i64, i64) -> bool>(test: F) -> usize
+    requires { F.IsAlwaysCallable test }
+    ensures { result ≤ 729 }
+{
+    let mut found = 0;
+    for a in EDGES {
+        found += pairs_with(|b, c| test(a, b, c));
+    }
+    found
+}
+
+// A law on the numbers, pairs or triples of the edges: how many there are, and how many of them break it.
+fn law_at_edges(law: Law) -> Tried
+    ensures { (result.differ ≤ result.cases) × (result.cases ≤ 729) }
+{
+    match operands(law) {
+        0 => Tried::of(0, 0),
+        1 => Tried::of(SINGLES, edges_with(|a| is_broken(law, a, 0, 0))),
+        2 => Tried::of(PAIRS, pairs_with(|a, b| is_broken(law, a, b, 0))),
+        _ => Tried::of(TRIPLES, triples_with(|a, b, c| is_broken(law, a, b, c))),
+    }
 }
 
 // Every law on the edges.
 pub fn laws_at_edges() -> Tried
     ensures { result.differ ≤ result.cases }
 {
-    let mut tried = Tried {
-        cases: 0,
-        differ: 0,
-    };
+    let mut all = Tried::of(0, 0);
     for law in LAWS {
-        let cases = edge_cases(law);
-        tried.cases += cases as u64;
-        tried.differ += differing_edges(law, cases);
+        let one = law_at_edges(law);
+        all.cases += one.cases;
+        all.differ += one.differ;
     }
-    tried
+    all
 }
 
-// Rows of six numbers: a law, three operands, whether there is a value, the value.
-pub fn differing_laws(rows: &[i64]) -> u64
+pub fn differing_laws(rows: &[LawVector]) -> u64
     ensures { result ≤ length rows.now }
 {
-    let (rows, _) = rows.as_chunks::<6>();
-    rows.iter()
-        .filter(|[law, a, b, c, there, value]| {
-            !row_holds(*law, *a, *b, *c, given(*there, *value))
-        })
-        .count() as u64
+    rows.iter().filter(|row| !has_value(row)).count() as u64
 }
