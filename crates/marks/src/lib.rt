@@ -63,7 +63,6 @@ impl<const N: usize> Marks<N> {
     }
 
     // Whether each of the first n nodes is used exactly once.
-    #[tactic(auto, unfolding(crate::specs::Marks::all_once, crate::specs::Marks::is_once))]
     pub fn all_once(&self, n: usize) -> bool
         requires { n ≤ N }
         ensures { result ≡ all_once self.now n }

@@ -1,4 +1,4 @@
-use Rattle.std.proofs.Common.{◌≡◌, ℕ, ◌+◌, ◌≤◌, List, ◌++◌, rules, length, take, sym, ap, ◌∙◌, subst, le_refl, drop_at, length-take-le}
+use Rattle.std.proofs.Common.{◌≡◌, ℕ, ◌+◌, ◌≤◌, ◌<◌, arith, List, ◌++◌, rules, length, take, sym, ap, ◌∙◌, subst, le_refl, drop_at, length-take-le}
 use Rattle.std.proofs.lemmas.Slice.{take-put_mid_below}
 use Rattle.std.specs.Io.KnownBytes.{Consumes}
 use Rattle.std.proofs.KnownBytes.{Consumes-trans}
@@ -20,3 +20,9 @@ loop-done-preserved g c = (
   search rules,
   subst (Consumes _ _) (joined _ _ _ _ _ c.loop-done.invariant.0 (search rules)) (Consumes-trans _ _ _ _ _ c.loop-done.invariant.1 c.in_ok-n.ensures.bytes.0),
 )
+
+-- a read that goes on gave a byte, so that the room falls
+pub loop-done-smaller : goal.loop-done-smaller
+loop-done-smaller g c =
+    let gave : 0 < c.in_ok-n.n = omega (arith, c.in_default) in
+    search rules
