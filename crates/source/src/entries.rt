@@ -25,14 +25,14 @@ fn zeros(words: &[u32]) -> bool
 }
 
 // The node, where the words that it does not use are 0.
-// Kept as it is: two cases here and in `operation`, which the proofs take apart; `then_some` and `ok().map(..)` would be opened there again.
 fn blank(unused: &[u32], node: Node) -> Option<Node>
     ensures { result ≡ all_unused unused.now (Some node) }
 {
-    if zeros(unused) { Some(node) } else { None }
+    zeros(unused).then_some(node)
 }
 
 // An operation on two expressions, where its operator is one.
+// Kept as it is: by `.ok()?` the proof would first turn the conversion's Result into an Option, which the match takes as it is.
 #[tactic(auto, unfolding(crate::specs::Nodes::infix_for, marks::specs::Indices::pick))]
 fn operation(c: u32, x: usize, y: usize) -> Option<Node>
     ensures { result ≡ infix_for c x y }

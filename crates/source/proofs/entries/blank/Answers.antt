@@ -1,6 +1,7 @@
 -- `source::entries::blank` meets its contract. Assumes nothing.
-use Rattle.std.proofs.Common.{◌≡◌, ℕ, List, [], ◌∷◌, Bool, true, false, refl, sym, ◌∙◌, eqb, ◌&&◌}
-use Rattle.std.specs.Prelude.{Option, None}
+use Rattle.std.proofs.Common.{◌≡◌, ℕ, List, [], ◌∷◌, Bool, true, false, refl, sym, ap, ◌∙◌, eqb, ◌&&◌}
+use Rattle.std.specs.Prelude.{Option, Some, None}
+use Rattle.std.specs.Bool.{then_some}
 use Rattle.std.specs.List.{list_all}
 use Rattle.source.specs.declared.Node.{Node}
 use Rattle.source.specs.Nodes.{all_unused}
@@ -17,10 +18,10 @@ unfolding pick
 unused-zeros [] e = refl
 unused-zeros (w ∷ ws) e = pick-and (eqb w 0) _ e (unused-zeros ws e)
 
-pub returns-then-zeros : goal.returns-then-zeros
+kept-some : (t : Bool) (n : Node) → then_some t n ≡ pick t (Some n) None
 unfolding pick
-returns-then-zeros c = sym (unused-zeros c.args.unused.now _ ∙ rw (← c.zeros.ensures, c.if-zeros.true))
+kept-some true n = refl
+kept-some false n = refl
 
-pub returns-else-zeros : goal.returns-else-zeros
-unfolding pick
-returns-else-zeros c = sym (unused-zeros c.args.unused.now _ ∙ rw (← c.zeros.ensures, c.if-zeros.false))
+pub returns : goal.returns
+returns c = c.then_some.ensures ∙ ap (λ (t : Bool). then_some t c.args.node) c.zeros.ensures ∙ kept-some _ _ ∙ sym (unused-zeros c.args.unused.now _)
