@@ -1,41 +1,72 @@
--- The turns of the loops that write lists: what is written so far and what is left to write is always the whole list.
+-- The lists that the body takes over: the public ids as their bytes, and the turns of the loop over the marked ids, where what is written and what is
+-- left to write is always the whole list.
 -- Assumes nothing.
-use Prim.Native.Nat.{ℕ, suc, ◌+◌, ◌-◌, ◌≤◌, ◌<◌}
+use Prim.Native.Nat.{ℕ, zero, suc, ◌+◌, ◌-◌, ◌*◌, ◌≤◌, ◌<◌}
 use mathlib.Core.Path.{◌≡◌, refl, sym, ap, ◌∙◌}
 use mathlib.Core.List.{List, [], ◌∷◌, ◌++◌}
 use mathlib.Core.Bool.{Bool, true, false}
 use native.Mathlib.Omega.{arith}
-use lib.ListN.{length, length-append}
-use Rattle.words.specs.Words.{set_word, set_words}
-use Rattle.words.proofs.Laws.{set_words-append}
+use lib.ListN.{length, length-append, length-drop, get_or, take, drop}
+use lib.Seq.{paste, take_all}
+use Rattle.std.proofs.lemmas.List.{get_or-take, get_or-drop, length-take-le}
+use Rattle.words.specs.Words.{word_at, set_word, set_words, bytes_of}
+use Rattle.words.proofs.Laws.{set_words-append, set_words-bytes}
 use Rattle.flat.specs.Record.{rows}
+use Rattle.flat.proofs.Rows.{length-rows, rows_at}
+use Rattle.flat.proofs.Standing.{Stands, standing-bytes}
 use Rattle.pass_trees.specs.Passes.{keep_if, ids_from}
 use Rattle.pass_trees.proofs.Loops.{ids-append}
 use Rattle.pass_classify.specs.Arrays.{marked}
 
--- ---- a list by its rows
+-- ---- the words of a record that are taken over as they are, with their bytes
 
-rows_next : {A : Type 0} (n k : ℕ) (f : ℕ → A) → k < n → rows (n - k) k f ≡ f k ∷ rows (n - (k + 1)) (k + 1) f
-unfolding rows
-rows_next n k f l =
-    let z : n - k ≡ suc (n - (k + 1)) = omega arith in
-    let y : suc k ≡ k + 1 = omega arith in
-    ap (λ (m : ℕ). rows m k f) z ∙ ap (λ (m : ℕ). f k ∷ rows (n - (k + 1)) m f) y
+bytes-taken : (n : ℕ) (l : List ℕ) (k : ℕ) → ((j : ℕ) → get_or l j 0 < 256) → get_or (take n l) k 0 < 256
+bytes-taken zero l k h = omega arith
+bytes-taken (suc n) [] k h = omega arith
+bytes-taken (suc n) (x ∷ l) zero h = h 0
+bytes-taken (suc n) (x ∷ l) (suc k) h = bytes-taken n l k (λ j. h (suc j))
 
-rows_none : {A : Type 0} (n k : ℕ) (f : ℕ → A) → n ≤ k → rows (n - k) k f ≡ []
-unfolding rows
-rows_none n k f l = let z : n - k ≡ 0 = omega arith in ap (λ (m : ℕ). rows m k f) z
+-- n words from word `at` on
+module _ (b : List ℕ) (at n : ℕ) (long : 4 * (at + n) ≤ length b) (bytes : (k : ℕ) → get_or b k 0 < 256) where
+  abbrev words : List ℕ
+  words = rows n 0 (λ k. word_at b (at + k))
 
-pub row-turn : {r : List ℕ} (b : List ℕ) (n k : ℕ) (f : ℕ → ℕ) (w : ℕ) → k < n → w ≡ f k → set_words b k (rows (n - k) k f) ≡ r
-    → set_words (set_word b k w) (k + 1) (rows (n - (k + 1)) (k + 1) f) ≡ r
-unfolding set_words
-row-turn b n k f w l e h =
-    ap (λ (x : ℕ). set_words (set_word b k x) (k + 1) (rows (n - (k + 1)) (k + 1) f)) e
-    ∙ sym (ap (set_words b k) (rows_next n k f l)) ∙ h
+  abbrev part : List ℕ
+  part = take (4 * n) (drop (4 * at) b)
 
-pub row-end : {r : List ℕ} (b : List ℕ) (n k : ℕ) (f : ℕ → ℕ) → n ≤ k → set_words b k (rows (n - k) k f) ≡ r → b ≡ r
-unfolding set_words
-row-end b n k f l h = sym (ap (set_words b k) (rows_none n k f l)) ∙ h
+  part_byte : (j i : ℕ) → j < 4 * n → 4 * at + j ≡ i → get_or part j 0 ≡ get_or b i 0
+  part_byte j i l e = get_or-take (4 * n) (drop (4 * at) b) j 0 l ∙ get_or-drop (4 * at) b j 0 ∙ ap (λ (k : ℕ). get_or b k 0) e
+
+  part-long : length part ≡ 4 * n
+  part-long = length-take-le (4 * n) (drop (4 * at) b) (omega (arith, length-drop (4 * at) b))
+
+  part-stands : Stands part 0 words
+  unfolding word_at
+  part-stands k l =
+      let m : k < n = omega (arith, length-rows (λ k. word_at b (at + k)) n 0) in
+      let e : word_at part (0 + k) ≡ word_at b (at + (0 + k)) =
+      omega (
+        arith,
+        part_byte (4 * (0 + k)) (4 * (at + (0 + k))) (omega arith) (omega arith),
+        part_byte (4 * (0 + k) + 1) (4 * (at + (0 + k)) + 1) (omega arith) (omega arith),
+        part_byte (4 * (0 + k) + 2) (4 * (at + (0 + k)) + 2) (omega arith) (omega arith),
+        part_byte (4 * (0 + k) + 3) (4 * (at + (0 + k)) + 3) (omega arith) (omega arith),
+      ) in
+      e ∙ sym (rows_at (λ k. word_at b (at + k)) n 0 k 0 m)
+
+  part-bytes : part ≡ bytes_of words
+  part-bytes =
+      standing-bytes words part (omega (arith, part-long, length-rows (λ k. word_at b (at + k)) n 0))
+      (λ i k l. bytes-taken (4 * n) (drop (4 * at) b) (4 * i + k) (λ j. rw (get_or-drop (4 * at) b j 0) (bytes (4 * at + j)))) part-stands
+
+  pub words-pasted : (m : ℕ) (body : List ℕ) {out : List ℕ} → length b - 4 * at ≤ m → 4 * n ≤ length body
+      → out ≡ paste body 0 (take m (drop (4 * at) b)) (4 * n) → out ≡ set_words body 0 words
+  words-pasted m body l f o =
+      let all : take m (drop (4 * at) b) ≡ drop (4 * at) b = take_all m (drop (4 * at) b) (omega (arith, length-drop (4 * at) b)) in
+      let count = length-rows (λ k. word_at b (at + k)) n 0 in
+      let end : 4 * (0 + length words) ≡ 0 + 4 * n = omega (arith, count) in
+      let put = rw (end, ← part-bytes) at (set_words-bytes words body 0 (omega (arith, count))) in
+      rw all at o ∙ sym put
 
 -- ---- the marked ids
 

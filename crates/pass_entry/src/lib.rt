@@ -10,11 +10,13 @@ ghost use Rattle.flat.specs.Trees.{module_nodes};
 ghost use Rattle.flat.specs.Record.{module_of};
 ghost use Rattle.flat.specs.Readable.{Readable};
 ghost use Rattle.pass_trees.specs.Passes.{cut_of};
+ghost use Rattle.pass_entry.specs.Body.{Passed, body_after, list_after};
 ghost use Rattle.pass_entry.specs.Cut.{cut_record, answer_for, output_for, need_of};
 ghost use Rattle.records.specs.FlatRecord.{NODES};
 ghost use Rattle.records.specs.Refusals.{numbered};
 
 use body::run_passes;
+use built::Built;
 pub use lists::OUTPUT_BYTES;
 use lists::{BODY_BYTES, LIST_BYTES};
 use pass_classify::classify_defs;
@@ -29,16 +31,42 @@ pub struct Need {
     pub bytes: usize,
 }
 
-// The passes on a readable record, lent or made by evaluation.
+// The lists that a constraint record is made in.
+#[derive(Drop)]
+struct Buffers {
+    body: [u8; BODY_BYTES],
+    list: [u8; LIST_BYTES],
+}
+
+impl Buffers {
+    // The passes on a readable record, up to its output.
+    fn pass(&mut self, s: &[u8]) -> Result<Built, Refusal>
+        requires { Readable s.now × (module_nodes (module_of s.now) ≤ NODES) }
+        ensures value { Passed (cut_of (module_of s.now)) result }
+        ensures body_after { self.new.body ≡ body_after self.old.body (module_of s.now) }
+        ensures list_after { self.new.list ≡ list_after self.old.list (module_of s.now) }
+    {
+        run_passes(
+            &classify_defs(Record::new(s)),
+            &mut self.body,
+            &mut self.list,
+        )
+    }
+}
+
+// The passes on a readable record, lent or made by evaluation. Not inlined: their arrays don't stand beside a caller's.
+#[inline(never)]
 pub fn passes(s: &[u8], out: &mut [u8]) -> Result<usize, Refusal>
     requires { Readable s.now × (module_nodes (module_of s.now) ≤ NODES) }
     ensures { (numbered result ≡ answer_for (length out.old) (cut_of (module_of s.now)))
         × (out.new ≡ output_for out.old (cut_of (module_of s.now))) }
 {
-    let mut body: [u8; BODY_BYTES] = filled(0);
-    let mut list: [u8; LIST_BYTES] = filled(0);
-    let built = run_passes(&classify_defs(Record::new(s)), &mut body, &mut list)?;
-    built.deliver(&body, &list, out)
+    let mut buffers = Buffers {
+        body: filled(0),
+        list: filled(0),
+    };
+    let built = buffers.pass(s)?;
+    built.deliver(&buffers.body, &buffers.list, out)
 }
 
 // What a lent flat record needs, or its refusal; nothing is written.
@@ -46,9 +74,11 @@ pub fn measure(s: &[u8]) -> Result<Need, Refusal>
     ensures { numbered result ≡ need_of (cut_record s.now) }
 {
     flat::check_flat(s)?;
-    let mut body: [u8; BODY_BYTES] = filled(0);
-    let mut list: [u8; LIST_BYTES] = filled(0);
-    let built = run_passes(&classify_defs(Record::new(s)), &mut body, &mut list)?;
+    let mut buffers = Buffers {
+        body: filled(0),
+        list: filled(0),
+    };
+    let built = buffers.pass(s)?;
     Ok(Need {
         equalities: built.equality_count(),
         bytes: built.bytes(),
