@@ -6,12 +6,11 @@ ghost use Rattle.source.specs.Names.{name_of};
 ghost use Rattle.source.specs.Nodes.{publics_fit};
 ghost use Rattle.numbering.specs.Numbering.{registered, same_text};
 ghost use Rattle.numbering.specs.Walks.{Holds, Published, Registered, OnlyGlobals, no_publics};
-ghost use Rattle.records.specs.FlatRecord.{IDS};
-ghost use Rattle.records.specs.Intrinsics.{FIRST-FREE-ID};
+ghost use Rattle.records.specs.Intrinsics.{FIRST-FREE-ID, id_of};
 ghost use Rattle.records.specs.SourceRecord.{PUBLICS};
 
 use super::rows::Scopes;
-use records::intrinsics::{FOLD_ID, FRESH_ID, ITER_ID};
+use records::intrinsics::Intrinsic;
 use records::source_record::PUBLICS;
 use source::lists::public_at;
 use source_check::names::Names;
@@ -25,13 +24,12 @@ fn index_of(names: &Names, t: &[u8]) -> Option<usize>
 }
 
 impl Scopes {
-    // The name with this text, if there is one, has this id.
-    fn register(&mut self, names: &Names, t: &[u8], id: u32)
-        requires { id < IDS }
-        ensures { Registered names.now.bytes.now t.now names.now.text names.now.count id self.old self.new }
+    // The name with this text, if there is one, has the intrinsic's id.
+    fn register(&mut self, names: &Names, t: &[u8], intrinsic: Intrinsic)
+        ensures { Registered names.now.bytes.now t.now names.now.text names.now.count (id_of intrinsic) self.old self.new }
     {
         if let Some(k) = index_of(names, t) {
-            self.globals[k] = Some(id);
+            self.globals[k] = Some(intrinsic.id());
         }
     }
 
@@ -41,9 +39,9 @@ impl Scopes {
         ensures holds { Holds self.old.globals []
             → Holds self.new.globals (registered (rows names.now.count 0 (name_of names.now.bytes.now names.now.text))).globals }
     {
-        self.register(names, b"fresh", FRESH_ID);
-        self.register(names, b"iter", ITER_ID);
-        self.register(names, b"fold", FOLD_ID);
+        self.register(names, b"fresh", Intrinsic::Fresh);
+        self.register(names, b"iter", Intrinsic::Iter);
+        self.register(names, b"fold", Intrinsic::Fold);
     }
 
     // The ids of the publics whose names start at word `list`, each at its position, and 0 elsewhere: publics are globals, never locals.
