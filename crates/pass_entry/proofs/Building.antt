@@ -34,8 +34,7 @@ use Rattle.pass_trees.specs.declared.Usage.{Usage}
 use Rattle.pass_copies.specs.Substituted.{subst_of, no_substitutions, put_definitions}
 use Rattle.pass_copies.proofs.Stored.{none_is, none-length}
 use Rattle.pass_copies.proofs.After.{record-storable, definitions-say}
-use Rattle.pass_keep.specs.declared.Kept.{Kept}
-use Rattle.pass_keep.specs.Keeping.{kept_of, put_kept, put_nodes, kept_from, NodeRoom, WordRoom}
+use Rattle.pass_keep.specs.Keeping.{Kept, kept_of, put_kept, put_nodes, kept_from, NodeRoom, WordRoom}
 use Rattle.pass_entry.specs.Sizes.{BODY-BYTES, LIST-BYTES}
 use Rattle.pass_entry.specs.Body.{body_words, Numbers, put_body, put_list}
 

@@ -19,7 +19,6 @@ use flat::entries::{Header, put_header};
 use pass_3ac::Writer;
 use pass_classify::{Classes, cuttable};
 use pass_copies::{Substitutions, used_definitions};
-use pass_keep::keep_defs;
 use records::NODE_WORDS;
 use records::flat_record::IDS;
 use records::refusals::Refusal;
@@ -85,23 +84,29 @@ pub fn build(classes: &Classes, body: &mut [u8], list: &mut [u8]) -> Built
     put_publics(record, body);
     let start = put_provers(classes, body, layout.publics);
     let mut writer = Writer {
-        body: &mut *body,
+        body,
         next: layout.next as u32,
         at: start,
     };
     let mut subs = Substitutions::new(used_definitions(classes));
     writer.flatten_defs(classes, &mut subs);
     writer.flatten_equations(record, &subs);
-    let Writer { next, at, .. } = writer;
+    let Writer { body, next, at } = writer;
     subs.clear();
-    let k = keep_defs(classes, &mut subs, body, at, list);
+    let mut keeper = pass_keep::Writer {
+        body,
+        at,
+        list,
+        nodes: 0,
+    };
+    keeper.keep_defs(classes, &mut subs);
     Built {
         next,
         publics: layout.publics,
         start,
         equalities: at,
-        kept: k.at,
-        nodes: k.nodes,
+        kept: keeper.at,
+        nodes: keeper.nodes,
     }
 }
 

@@ -2,7 +2,7 @@
 use mathlib.Core.Path.{◌≡◌, refl, sym, ap, ap₂, ◌∙◌}
 use mathlib.Core.List.{List, [], ◌∷◌, ◌++◌, append-nil}
 use mathlib.Core.Bool.{Bool, true, false}
-use Prim.Native.Nat.{ℕ, ◌+◌, ◌-◌, ◌*◌, ◌≤◌, ◌<◌}
+use Prim.Native.Nat.{ℕ, ◌+◌, ◌*◌, ◌≤◌}
 use native.Mathlib.Omega.{arith}
 use lib.ListN.{length}
 use Rattle.words.specs.Words.{set_words}
@@ -16,10 +16,9 @@ use Rattle.pass_trees.specs.declared.Usage.{Usage}
 use Rattle.pass_classify.specs.Arrays.{usage_of, marked, Classified}
 use Rattle.pass_copies.specs.Substituted.{subst_of, put_definition, put_definitions}
 use Rattle.pass_copies.proofs.After.{put-unused, put-prover, put-counted}
-use Rattle.pass_keep.specs.declared.Kept.{Kept}
 use Rattle.pass_classify.specs.Arrays.{provers_of, used_of, counted_of}
-use Rattle.pass_keep.specs.Keeping.{kept_of, put_tree, put_kept, put_nodes, kept_from, Keeps, NodeRoom}
-use Rattle.pass_keep.proofs.Nodes.{copied-nodes, next-is}
+use Rattle.pass_keep.specs.Keeping.{Kept, kept_of, put_tree, put_kept, put_nodes, kept_from, Keeps}
+use Rattle.pass_keep.proofs.Nodes.{copied-nodes}
 
 -- what is kept of it
 module _ (b : List ℕ) (steps : ℕ) (s : Substitutions) (d : Definition) where
@@ -86,15 +85,14 @@ module _ (b : List ℕ) (steps : ℕ) (ds : List Definition) (at base : ℕ) (m 
       }
 
   -- one definition is kept
-  pub keeps-one : (m' : List Substitute) {body' list' : List ℕ} {after : ℕ} (d : Definition) → kept_of b steps (subst_of m) ds ≡ d ∷ [] →
-      list' ≡ put_tree list base d.right → after ≡ next_from base d.right → body' ≡ set_words body at (definition_words d.id (after - 1)) →
+  pub keeps-one : (m' : List Substitute) {body' list' : List ℕ} {root after : ℕ} (d : Definition) → kept_of b steps (subst_of m) ds ≡ d ∷ [] →
+      list' ≡ put_tree list base d.right → root ≡ root_from base d.right → after ≡ next_from base d.right →
+      body' ≡ set_words body at (definition_words d.id root) →
       m' ≡ put_definitions steps m (counted_of b ds) → Keeps b steps ds at base m body list m' body' list' (record { at = at + KEPT-WORDS; nodes = after })
   unfolding put_kept put_nodes put_tree kept_from definitions_words definitions_trees definitions_nodes next_from root_from
-  keeps-one m' {after = after} d e p q r f =
-      let x : after - 1 ≡ root_from base d.right = omega arith in
-      let root : ℕ = root_from base d.right in
-      let w : definition_words d.id (after - 1) ≡ definition_words d.id root ++ [] =
-      ap (definition_words d.id) x ∙ sym (append-nil (definition_words d.id root)) in
+  keeps-one m' {root = root} {after = after} d e p x q r f =
+      let w : definition_words d.id root ≡ definition_words d.id (root_from base d.right) ++ [] =
+      ap (definition_words d.id) x ∙ sym (append-nil (definition_words d.id (root_from base d.right))) in
       let n : nodes_from base d.right ≡ nodes_from base d.right ++ [] = sym (append-nil (nodes_from base d.right)) in
       let y : at + KEPT-WORDS ≡ at + KEPT-WORDS * 1 = omega arith in
       let z : after ≡ base + (tree_nodes d.right + 0) = after_plus base d.right after q in
@@ -126,20 +124,12 @@ module _ {b : List ℕ} {u : List Usage} {p : List Bool} (c : Classified b u p) 
         let o = says-prover c id f in
         keeps-none b steps (definition ∷ []) at base m body list m' (other-kept b steps (subst_of m) definition n o) (w ∙ put-counted b steps m definition n o)
 
-    pub way-kept : {body' list' : List ℕ} {after : ℕ} → marked p id ≡ true → list' ≡ put_tree list base (copy_propagate_expr steps (subst_of m) right) →
-        after ≡ next_from base (copy_propagate_expr steps (subst_of m) right) → body' ≡ set_words body at (definition_words id (after - 1)) →
-        Way m body' list' (record { at = at + KEPT-WORDS; nodes = after })
+    pub way-kept : {body' list' : List ℕ} {root after : ℕ} → marked p id ≡ true → list' ≡ put_tree list base (copy_propagate_expr steps (subst_of m) right) →
+        root ≡ root_from base (copy_propagate_expr steps (subst_of m) right) → after ≡ next_from base (copy_propagate_expr steps (subst_of m) right) →
+        body' ≡ set_words body at (definition_words id root) → Way m body' list' (record { at = at + KEPT-WORDS; nodes = after })
     unfolding copy_propagate_def
-    way-kept f x y z =
+    way-kept f x r y z =
         let n = says-used c id e in
         let o = says-prover c id f in
         keeps-one b steps (definition ∷ []) at base m body list m (copy_propagate_def steps (subst_of m) definition)
-        (prover-kept b steps (subst_of m) definition n o) x y z (put-prover b steps m definition n o)
-
--- the index after the root, of a tree that there is room for
-pub kept-root : (base steps : ℕ) (m : List Substitute) (right : Flat) (list : List ℕ) {after : ℕ} → NodeRoom (tree_nodes right) base list
-    → after ≡ next_from base (copy_propagate_expr steps (subst_of m) right) → (0 < after) × (after ≤ 65536)
-kept-root base steps m right list r q =
-    let e = q ∙ next-is base steps (subst_of m) right in
-    let f = copied-nodes steps (subst_of m) right in
-    (omega arith, omega (arith, r.few))
+        (prover-kept b steps (subst_of m) definition n o) x r y z (put-prover b steps m definition n o)

@@ -1,7 +1,7 @@
 -- The nodes of a tree in the list: one after the other they are the tree's, and they fit. Assumes nothing.
 use mathlib.Core.Path.{◌≡◌, refl, sym, ap, ap₂, ◌∙◌}
 use mathlib.Core.List.{List, ◌++◌}
-use Prim.Native.Nat.{ℕ, suc, ◌+◌, ◌-◌, ◌*◌, ◌≤◌, ◌<◌}
+use Prim.Native.Nat.{ℕ, ◌+◌, ◌*◌, ◌<◌}
 use native.Mathlib.Omega.{arith}
 use lib.IntN.{ℤ}
 use lib.ListN.{length}
@@ -12,13 +12,12 @@ use Rattle.words.specs.Words.{set_words}
 use Rattle.words.proofs.Laws.{length-set_words, set_words-append}
 use Rattle.field.specs.declared.InfixOp.{InfixOp}
 use Rattle.field.specs.Operators.{operator_number}
-use Rattle.records.specs.Kinds.{NODE-WORDS}
 use Rattle.flat.specs.Trees.{Flat, tree_nodes}
 use Rattle.constraint.specs.declared.Term.{Term}
 use Rattle.constraint.specs.Record.{number_word, root_from, next_from, node_words, nodes_from}
 use Rattle.constraint.proofs.Lengths.{length-nodes, tree-positive}
 use Rattle.pass_trees.specs.Passes.{Substitutions, walk, to_expr, copy_propagate_expr}
-use Rattle.pass_keep.specs.Keeping.{put_tree, NodeRoom}
+use Rattle.pass_keep.specs.Keeping.{put_tree}
 
 -- ---- sizes
 
@@ -49,19 +48,17 @@ tree-length l base e = length-set_words (nodes_from base e) l (4 * base)
 
 -- ---- one node after the other
 
+pub leaf-variable : {t : Term} (v base : ℕ) → t ≡ Term.Variable v → node_words 8 v 0 0 ≡ nodes_from base (to_expr t)
+unfolding nodes_from to_expr
+leaf-variable v base e = sym (ap (λ (u : Term). nodes_from base (to_expr u)) e)
+
+pub leaf-constant : {t : Term} (c : ℤ) (n base : ℕ) → t ≡ Term.Constant c → SFits w32 c → n ≡ of_z w32 (to_z w32 (of_z w32 c))
+    → node_words 7 n 0 0 ≡ nodes_from base (to_expr t)
+unfolding nodes_from to_expr number_word
+leaf-constant c n base e f q =
+    ap (λ (w : ℕ). node_words 7 w 0 0) (q ∙ ap (of_z w32) (to_z-of_z w32 c f)) ∙ sym (ap (λ (u : Term). nodes_from base (to_expr u)) e)
+
 module _ (l : List ℕ) (base : ℕ) where
-  pub leaf-variable : {l' : List ℕ} {t : Term} (v : ℕ) → t ≡ Term.Variable v → l' ≡ set_words l (4 * base) (node_words 8 v 0 0)
-      → l' ≡ put_tree l base (to_expr t)
-  unfolding put_tree nodes_from to_expr
-  leaf-variable v e p = p ∙ sym (ap (λ (u : Term). put_tree l base (to_expr u)) e)
-
-  pub leaf-constant : {l' : List ℕ} {t : Term} (c : ℤ) (n : ℕ) → t ≡ Term.Constant c → SFits w32 c → n ≡ of_z w32 (to_z w32 (of_z w32 c))
-      → l' ≡ set_words l (4 * base) (node_words 7 n 0 0) → l' ≡ put_tree l base (to_expr t)
-  unfolding put_tree nodes_from to_expr number_word
-  leaf-constant c n e f q p =
-      p ∙ ap (λ (w : ℕ). set_words l (4 * base) (node_words 7 w 0 0)) (q ∙ ap (of_z w32) (to_z-of_z w32 c f))
-      ∙ sym (ap (λ (u : Term). put_tree l base (to_expr u)) e)
-
   -- after the nodes of a first child
   after_first : (ws : List ℕ) {l₁ : List ℕ} {a : ℕ} (x : Flat) → l₁ ≡ put_tree l base x → a ≡ next_from base x
       → set_words l (4 * base) (nodes_from base x ++ ws) ≡ set_words l₁ (4 * a) ws
@@ -70,100 +67,49 @@ module _ (l : List ℕ) (base : ℕ) where
       let e : 4 * base + length (nodes_from base x) ≡ 4 * a = omega (arith, length-nodes x base) in
       set_words-append (nodes_from base x) ws l (4 * base) ∙ ap₂ (λ (m : List ℕ) (i : ℕ). set_words m i ws) (sym p) e
 
-root_is : (a base : ℕ) (x : Flat) → a ≡ next_from base x → a - 1 ≡ root_from base x
-unfolding root_from
-root_is a base x q = omega arith
+-- the root of a tree of more nodes
+infix-root : (a b base : ℕ) (o : InfixOp) (x y : Flat) → a ≡ next_from base x → b ≡ next_from a y
+    → (b ≡ root_from base (Flat.infixed o x y)) × (b + 1 ≡ next_from base (Flat.infixed o x y))
+unfolding next_from root_from tree_nodes
+infix-root a b base o x y qa qb = (omega arith, omega arith)
 
-infix-next : (a b base : ℕ) (o : InfixOp) (x y : Flat) → a ≡ next_from base x → b ≡ next_from a y → b + 1 ≡ next_from base (Flat.infixed o x y)
-unfolding next_from tree_nodes
-infix-next a b base o x y qa qb = omega arith
+negate-root : (a base : ℕ) (x : Flat) → a ≡ next_from base x → (a ≡ root_from base (Flat.negate x)) × (a + 1 ≡ next_from base (Flat.negate x))
+unfolding next_from root_from tree_nodes
+negate-root a base x qa = (omega arith, omega arith)
 
-negate-next : (a base : ℕ) (x : Flat) → a ≡ next_from base x → a + 1 ≡ next_from base (Flat.negate x)
-unfolding next_from tree_nodes
-negate-next a base x qa = omega arith
-
-leaf-next : (base : ℕ) (t : Term) → base + 1 ≡ next_from base (to_expr t)
+pub leaf-root : (base : ℕ) (t : Term) → (base ≡ root_from base (to_expr t)) × (base + 1 ≡ next_from base (to_expr t))
 unfolding next_from root_from
-leaf-next base t = omega (arith, term-nodes t)
+leaf-root base t = (omega (arith, term-nodes t), omega (arith, term-nodes t))
 
-pub put-infix : (l : List ℕ) (base : ℕ) {l₁ l₂ l₃ : List ℕ} {a b o : ℕ} {op : InfixOp} {e x y : Flat} → e ≡ Flat.infixed op x y → l₁ ≡ put_tree l base x
-    → a ≡ next_from base x → l₂ ≡ put_tree l₁ a y → b ≡ next_from a y → o ≡ operator_number op → l₃ ≡ set_words l₂ (4 * b) (node_words 4 (a - 1) (b - 1) o)
-    → (l₃ ≡ put_tree l base e) × (b + 1 ≡ next_from base e)
+pub put-infix : (l : List ℕ) (base : ℕ) {l₁ l₂ l₃ : List ℕ} {a b r q o : ℕ} {op : InfixOp} {e x y : Flat} → e ≡ Flat.infixed op x y → l₁ ≡ put_tree l base x
+    → r ≡ root_from base x → a ≡ next_from base x → l₂ ≡ put_tree l₁ a y → q ≡ root_from a y → b ≡ next_from a y → o ≡ operator_number op
+    → l₃ ≡ set_words l₂ (4 * b) (node_words 4 r q o) → (l₃ ≡ put_tree l base e) × (b ≡ root_from base e) × (b + 1 ≡ next_from base e)
 unfolding put_tree nodes_from
-put-infix l base {l₁} {l₂} {l₃} {a} {b} {o} {op} {e} {x} {y} q p₁ qa p₂ qb qo p₃ =
+put-infix l base {l₁} {l₂} {l₃} {a} {b} {r} {q} {o} {op} {e} {x} {y} i p₁ er ea p₂ eq eb eo p₃ =
     let node : List ℕ = node_words 4 (root_from base x) (root_from (next_from base x) y) (operator_number op) in
-    let same : node_words 4 (a - 1) (b - 1) o ≡ node = rw (root_is a base x qa, root_is b a y qb, qo, qa) in
+    let same : node_words 4 r q o ≡ node = rw (er, eq, eo, ea) in
     let move : set_words l₁ (4 * a) (nodes_from (next_from base x) y ++ node) ≡ set_words l₁ (4 * a) (nodes_from a y ++ node) =
-    ap (λ (i : ℕ). set_words l₁ (4 * a) (nodes_from i y ++ node)) (sym qa) in
+    ap (λ (j : ℕ). set_words l₁ (4 * a) (nodes_from j y ++ node)) (sym ea) in
     let whole : put_tree l base (Flat.infixed op x y) ≡ set_words l₂ (4 * b) node =
-    after_first l base (nodes_from (next_from base x) y ++ node) x p₁ qa ∙ move ∙ after_first l₁ a node y p₂ qb in
-    (p₃ ∙ ap (set_words l₂ (4 * b)) same ∙ sym (ap (put_tree l base) q ∙ whole), infix-next a b base op x y qa qb ∙ ap (next_from base) (sym q))
+    after_first l base (nodes_from (next_from base x) y ++ node) x p₁ ea ∙ move ∙ after_first l₁ a node y p₂ eb in
+    let w = infix-root a b base op x y ea eb in
+    (p₃ ∙ ap (set_words l₂ (4 * b)) same ∙ sym (ap (put_tree l base) i ∙ whole), w.0 ∙ ap (root_from base) (sym i), w.1 ∙ ap (next_from base) (sym i))
 
-pub put-negate : (l : List ℕ) (base : ℕ) {l₁ l₂ : List ℕ} {a : ℕ} {e x : Flat} → e ≡ Flat.negate x → l₁ ≡ put_tree l base x → a ≡ next_from base x
-    → l₂ ≡ set_words l₁ (4 * a) (node_words 5 (a - 1) 0 0) → (l₂ ≡ put_tree l base e) × (a + 1 ≡ next_from base e)
+pub put-negate : (l : List ℕ) (base : ℕ) {l₁ l₂ : List ℕ} {a r : ℕ} {e x : Flat} → e ≡ Flat.negate x → l₁ ≡ put_tree l base x → r ≡ root_from base x
+    → a ≡ next_from base x → l₂ ≡ set_words l₁ (4 * a) (node_words 5 r 0 0)
+    → (l₂ ≡ put_tree l base e) × (a ≡ root_from base e) × (a + 1 ≡ next_from base e)
 unfolding put_tree nodes_from
-put-negate l base {l₁} {l₂} {a} {e} {x} q p₁ qa p₂ =
-    let same : node_words 5 (a - 1) 0 0 ≡ node_words 5 (root_from base x) 0 0 = rw (root_is a base x qa) in
+put-negate l base {l₁} {l₂} {a} {r} {e} {x} i p₁ er ea p₂ =
+    let same : node_words 5 r 0 0 ≡ node_words 5 (root_from base x) 0 0 = rw er in
     let whole : put_tree l base (Flat.negate x) ≡ set_words l₁ (4 * a) (node_words 5 (root_from base x) 0 0) =
-    after_first l base (node_words 5 (root_from base x) 0 0) x p₁ qa in
-    (p₂ ∙ ap (set_words l₁ (4 * a)) same ∙ sym (ap (put_tree l base) q ∙ whole), negate-next a base x qa ∙ ap (next_from base) (sym q))
+    after_first l base (node_words 5 (root_from base x) 0 0) x p₁ ea in
+    let w = negate-root a base x ea in
+    (p₂ ∙ ap (set_words l₁ (4 * a)) same ∙ sym (ap (put_tree l base) i ∙ whole), w.0 ∙ ap (root_from base) (sym i), w.1 ∙ ap (next_from base) (sym i))
 
-pub put-term : (l : List ℕ) (base : ℕ) {l₁ : List ℕ} {e : Flat} {t u : Term} → e ≡ to_expr t → u ≡ t → l₁ ≡ put_tree l base (to_expr u)
-    → (l₁ ≡ put_tree l base e) × (base + 1 ≡ next_from base e)
-put-term l base {e = e} {t = t} {u = u} q r p =
+pub put-term : (l : List ℕ) (base : ℕ) {l₁ ws : List ℕ} {e : Flat} {t u : Term} → e ≡ to_expr t → u ≡ t → ws ≡ nodes_from base (to_expr u)
+    → l₁ ≡ set_words l (4 * base) ws → (l₁ ≡ put_tree l base e) × (base ≡ root_from base e) × (base + 1 ≡ next_from base e)
+unfolding put_tree
+put-term l base {e = e} {t = t} {u = u} q r n p =
     let w : to_expr u ≡ e = ap to_expr r ∙ sym q in
-    (p ∙ ap (put_tree l base) w, leaf-next base u ∙ ap (next_from base) w)
-
--- ---- room
-
-module _ (t : Flat) (base n : ℕ) (s : Substitutions) (l : List ℕ) (room : NodeRoom (tree_nodes t) base l) where
-  module _ {o : InfixOp} {x y : Flat} (e : t ≡ Flat.infixed o x y) where
-    size : tree_nodes t ≡ suc (tree_nodes x + tree_nodes y)
-    unfolding tree_nodes
-    size = ap tree_nodes e
-
-    pub room-left : NodeRoom (tree_nodes x) base l
-    room-left = record { long = omega (arith, size, room.long); few = omega (arith, size, room.few) }
-
-    module _ {a : ℕ} {l₁ : List ℕ} (p₁ : l₁ ≡ put_tree l base (copy_propagate_expr n s x)) (qa : a ≡ next_from base (copy_propagate_expr n s x)) where
-      first-is : a ≡ base + tree_nodes x
-      first-is = qa ∙ next-is base n s x
-
-      first-length : length l₁ ≡ length l
-      first-length = ap length p₁ ∙ tree-length l base _
-
-      pub room-right : NodeRoom (tree_nodes y) a l₁
-      room-right = record { long = omega (arith, size, room.long, first-is, first-length); few = omega (arith, size, room.few, first-is) }
-
-      pub room-root : {c : ℕ} {l₂ : List ℕ} → l₂ ≡ put_tree l₁ a (copy_propagate_expr n s y) → c ≡ next_from a (copy_propagate_expr n s y)
-          → (4 * (NODE-WORDS * c + NODE-WORDS) ≤ length l₂) × (c < 65536) × (0 < a) × (0 < c) × (a < 65536)
-      room-root {c} {l₂} p₂ qc =
-          let u : c ≡ a + tree_nodes y = qc ∙ next-is a n s y in
-          let v : length l₂ ≡ length l₁ = ap length p₂ ∙ tree-length l₁ a _ in
-          let f = copied-nodes n s x in
-          let g = copied-nodes n s y in (
-            omega (arith, size, room.long, first-is, first-length),
-            omega (arith, size, room.few, first-is),
-            omega (arith, first-is),
-            omega (arith, first-is),
-            omega (arith, size, room.few, first-is),
-          )
-
-  module _ {x : Flat} (e : t ≡ Flat.negate x) where
-    size-negate : tree_nodes t ≡ suc (tree_nodes x)
-    unfolding tree_nodes
-    size-negate = ap tree_nodes e
-
-    pub room-child : NodeRoom (tree_nodes x) base l
-    room-child = record { long = omega (arith, size-negate, room.long); few = omega (arith, size-negate, room.few) }
-
-    pub room-above : {a : ℕ} {l₁ : List ℕ} → l₁ ≡ put_tree l base (copy_propagate_expr n s x) → a ≡ next_from base (copy_propagate_expr n s x)
-        → (4 * (NODE-WORDS * a + NODE-WORDS) ≤ length l₁) × (a < 65536) × (0 < a)
-    room-above {a} {l₁} p₁ qa =
-        let u : a ≡ base + tree_nodes x = qa ∙ next-is base n s x in
-        let v : length l₁ ≡ length l = ap length p₁ ∙ tree-length l base _ in
-        let f = copied-nodes n s x in
-        (omega (arith, size-negate, room.long), omega (arith, size-negate, room.few), omega arith)
-
-  pub room-leaf : NodeRoom 1 base l
-  room-leaf = let f = copied-nodes n s t in record { long = omega (arith, room.long); few = omega (arith, room.few) }
+    let z = leaf-root base u in
+    (p ∙ ap (set_words l (4 * base)) (n ∙ ap (nodes_from base) w), z.0 ∙ ap (root_from base) w, z.1 ∙ ap (next_from base) w)

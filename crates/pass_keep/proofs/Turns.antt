@@ -22,9 +22,8 @@ use Rattle.pass_classify.proofs.Lists.{definitions_from, definitions-none, defin
 use Rattle.pass_classify.specs.Readable.{tree_of}
 use Rattle.pass_copies.specs.Substituted.{subst_of, put_definitions}
 use Rattle.pass_copies.proofs.After.{put-none, put_first, after-says}
-use Rattle.pass_keep.specs.declared.Kept.{Kept}
 use Rattle.pass_classify.specs.Arrays.{provers_of, used_of, counted_of}
-use Rattle.pass_keep.specs.Keeping.{kept_of, put_kept, put_nodes, kept_from, Keeps, NodeRoom, WordRoom}
+use Rattle.pass_keep.specs.Keeping.{Kept, kept_of, put_kept, put_nodes, kept_from, Keeps, NodeRoom, WordRoom}
 use Rattle.pass_keep.proofs.Definitions.{keeps-none, kept_small}
 
 -- ---- a list with one definition more
@@ -83,15 +82,15 @@ kept-nil b steps s = refl
 
 -- ---- the loop
 
-module _ (b : List ℕ) (steps n at : ℕ) (m₀ : List Substitute) (body₀ list₀ : List ℕ) where
+module _ (b : List ℕ) (steps n at base₀ : ℕ) (m₀ : List Substitute) (body₀ list₀ : List ℕ) where
   abbrev kept : List Definition
   kept = kept_of b steps (subst_of m₀) (module_of b).definitions
 
   -- what is left from a state on, with room for it
   pub record Going (to base k : ℕ) (m : List Substitute) (body list : List ℕ) : Type 0 where
-    pub words : put_kept body to base (kept_of b steps (subst_of m) (definitions_from b k)) ≡ put_kept body₀ at 0 kept
-    pub nodes : put_nodes list base (kept_of b steps (subst_of m) (definitions_from b k)) ≡ put_nodes list₀ 0 kept
-    pub answer : kept_from to base (kept_of b steps (subst_of m) (definitions_from b k)) ≡ kept_from at 0 kept
+    pub words : put_kept body to base (kept_of b steps (subst_of m) (definitions_from b k)) ≡ put_kept body₀ at base₀ kept
+    pub nodes : put_nodes list base (kept_of b steps (subst_of m) (definitions_from b k)) ≡ put_nodes list₀ base₀ kept
+    pub answer : kept_from to base (kept_of b steps (subst_of m) (definitions_from b k)) ≡ kept_from at base₀ kept
     pub after : put_definitions steps m (counted_of b (definitions_from b k)) ≡ put_definitions steps m₀ (counted_of b (module_of b).definitions)
     pub body-long : length body ≡ length body₀
     pub list-long : length list ≡ length list₀
@@ -99,14 +98,14 @@ module _ (b : List ℕ) (steps n at : ℕ) (m₀ : List Substitute) (body₀ lis
     pub node-room : NodeRoom (definitions_nodes (definitions_from b k)) base list
     pub within : k ≤ n
 
-  pub going_start : WordRoom n at body₀ → NodeRoom (definitions_nodes (module_of b).definitions) 0 list₀
-      → Going at 0 0 m₀ body₀ list₀
+  pub going_start : WordRoom n at body₀ → NodeRoom (definitions_nodes (module_of b).definitions) base₀ list₀
+      → Going at base₀ 0 m₀ body₀ list₀
   going_start w r =
       let e : definitions_from b 0 ≡ (module_of b).definitions = sym (definitions-whole b) in
       record {
-        words = ap (λ (ds : List Definition). put_kept body₀ at 0 (kept_of b steps (subst_of m₀) ds)) e;
-        nodes = ap (λ (ds : List Definition). put_nodes list₀ 0 (kept_of b steps (subst_of m₀) ds)) e;
-        answer = ap (λ (ds : List Definition). kept_from at 0 (kept_of b steps (subst_of m₀) ds)) e;
+        words = ap (λ (ds : List Definition). put_kept body₀ at base₀ (kept_of b steps (subst_of m₀) ds)) e;
+        nodes = ap (λ (ds : List Definition). put_nodes list₀ base₀ (kept_of b steps (subst_of m₀) ds)) e;
+        answer = ap (λ (ds : List Definition). kept_from at base₀ (kept_of b steps (subst_of m₀) ds)) e;
         after = ap (λ (ds : List Definition). put_definitions steps m₀ (counted_of b ds)) e;
         body-long = refl;
         list-long = refl;
@@ -116,7 +115,7 @@ module _ (b : List ℕ) (steps n at : ℕ) (m₀ : List Substitute) (body₀ lis
       }
 
   module _ {to base k : ℕ} {m : List Substitute} {body list : List ℕ} (g : Going to base k m body list) where
-    pub going_end : n ≡ definitions b → n ≤ k → Keeps b steps (module_of b).definitions at 0 m₀ body₀ list₀ m body list (record { at = to; nodes = base })
+    pub going_end : n ≡ definitions b → n ≤ k → Keeps b steps (module_of b).definitions at base₀ m₀ body₀ list₀ m body list (record { at = to; nodes = base })
     going_end e l =
         let z : definitions_from b k ≡ [] = definitions-none b k (omega arith) in
         let q : kept_of b steps (subst_of m) (definitions_from b k) ≡ [] = ap (kept_of b steps (subst_of m)) z ∙ kept-nil b steps (subst_of m) in

@@ -8,7 +8,6 @@ use Rattle.pass_trees.specs.Passes.{member, those, Substitutions, copy_propagate
 use Rattle.pass_classify.specs.Arrays.{provers_of, used_of, counted_of}
 use Rattle.pass_copies.specs.declared.Substitute.{Substitute}
 use Rattle.pass_copies.specs.Substituted.{subst_of, put_definitions}
-use Rattle.pass_keep.specs.declared.Kept.{Kept}
 use Rattle.records.specs.FlatRecord.{IDS}
 
 -- definitions of that record, those that are used, with the substitutions made one after the other: "kept definitions are those of prover
@@ -30,6 +29,11 @@ put_kept body at base ds = set_words body at (definitions_words base ds)
 
 unfoldable pub put_nodes : List ℕ → ℕ → List Definition → List ℕ
 put_nodes list base ds = set_words list (4 * base) (definitions_trees base ds)
+
+-- the word after the last kept definition, and the index after the last node
+pub record Kept : Type 0 where
+  pub at : ℕ
+  pub nodes : ℕ
 
 unfoldable pub kept_from : ℕ → ℕ → List Definition → Kept
 kept_from at base ds = record { at = at + KEPT-WORDS * length ds; nodes = base + definitions_nodes ds }

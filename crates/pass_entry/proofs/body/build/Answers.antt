@@ -1,4 +1,5 @@
 -- `pass_entry::body::build` meets its contract. Assumes nothing.
+use borrow.Author.Rules.{rules}
 use native.Mathlib.Omega.{arith}
 use mathlib.Core.Path.{◌≡◌, sym, ap, ◌∙◌}
 use mathlib.Core.List.{List}
@@ -58,18 +59,17 @@ flatten_equations-requires c =
     room-of-equations classes.record.readable classes.classified c.requires.few c.requires.body_len.0 l c.new-subs.result.steps _
     (next-laid classes.record.bytes.now classes.record.laid) _ _ c.new-subs.ensures.0 _ _ (its-now d.body_after, (d.value, d.subs_after))
 
-pub keep_defs-k-requires : goal.keep_defs-k-requires
-keep_defs-k-requires c =
+pub keep_defs-requires : goal.keep_defs-requires
+keep_defs-requires c =
     let classes = c.args.classes.now in
     let r = classes.record.readable in
     let n = next-laid classes.record.bytes.now classes.record.laid in
-    let l = lists (goal.at.keep_defs-k-requires c).After-put_provers-start in
+    let l = lists (goal.at.keep_defs-requires c).After-put_provers-start in
     let d = c.flatten_defs.ensures in
     let e = rw d.steps at c.flatten_equations.ensures in
-    let back = c.body-3-1.given.1.1 (sym (its-name e.body_after ∙ its-name d.body_after)) in
     let long = c.requires.body_len in (
-      rw back (room-of-kept r classes.classified c.requires.few long.0 l c.new-subs.result.steps _ n _ _ c.new-subs.ensures.0 _ _
-          (its-now d.body_after, (d.value, d.subs_after)) _ _ (its-now e.body_after, e.value)),
+      room-of-kept r classes.classified c.requires.few long.0 l c.new-subs.result.steps _ n _ _ c.new-subs.ensures.0 _ _
+          (its-now d.body_after, (d.value, d.subs_after)) _ _ (its-now e.body_after, e.value),
       room-of-nodes r classes.classified c.requires.few long.0 l c.new-subs.result.steps _ n _ _ c.new-subs.ensures.0 _ _
           (its-now d.body_after, (d.value, d.subs_after)) _ _ (its-now e.body_after, e.value) long.1,
     )
@@ -81,12 +81,12 @@ invariant_of-result c =
     let l = lists (goal.at.invariant_of-result c).After-put_provers-start in
     let d = c.flatten_defs.ensures in
     let e = rw d.steps at c.flatten_equations.ensures in
-    let back = c.body-3-1.given.1.1 (sym (its-name e.body_after ∙ its-name d.body_after)) in
-    let k = rw (c.clear.ensures.1 ∙ d.steps, back) at c.keep_defs-k.ensures in
+    let k = rw (c.clear.ensures.1 ∙ d.steps) at c.keep_defs.ensures in
     let n = next-laid classes.record.bytes.now classes.record.laid in
     let p = publics-laid classes.record.bytes.now classes.record.laid in
-    let says = numbers classes.record.readable classes.classified c.requires.few c.requires.body_len.0 l c.new-subs.result.steps _ n _ _ c.new-subs.ensures.0 _ _
-    (its-now d.body_after, (d.value, d.subs_after)) _ _ (its-now e.body_after, e.value) _ _ _ _ _ c.clear.ensures.0 _ (k.body_after, (k.list_after, (k.value, k.subs_after))) _ p in
+    let says = numbers classes.record.readable classes.classified c.requires.few c.requires.body_len.0 l c.new-subs.result.steps _ n _ _
+    c.new-subs.ensures.0 _ _ (its-now d.body_after, (d.value, d.subs_after)) _ _ (its-now e.body_after, e.value) _ _ _ _ _ c.clear.ensures.0 _
+    (its-now k.body_after, (its-now k.list_after, (k.value, k.subs_after))) _ p in
     let small = parts-small classes.record.readable c.requires.few c.new-subs.result.steps in
     record { ordered = ordered-of small says; bounded = bounded-of small says }
 
@@ -96,14 +96,22 @@ returns c =
     let l = lists (goal.at.returns c).After-put_provers-start in
     let d = c.flatten_defs.ensures in
     let e = rw d.steps at c.flatten_equations.ensures in
-    let back = c.body-3-1.given.1.1 (sym (its-name e.body_after ∙ its-name d.body_after)) in
-    let k = rw (c.clear.ensures.1 ∙ d.steps, back) at c.keep_defs-k.ensures in
+    let k = rw (c.clear.ensures.1 ∙ d.steps) at c.keep_defs.ensures in
     let n = next-laid classes.record.bytes.now classes.record.laid in
     let p = publics-laid classes.record.bytes.now classes.record.laid in
-    let says = numbers classes.record.readable classes.classified c.requires.few c.requires.body_len.0 l c.new-subs.result.steps _ n _ _ c.new-subs.ensures.0 _ _
-    (its-now d.body_after, (d.value, d.subs_after)) _ _ (its-now e.body_after, e.value) _ _ _ _ _ c.clear.ensures.0 _ (k.body_after, (k.list_after, (k.value, k.subs_after))) _ p in
+    let says = numbers classes.record.readable classes.classified c.requires.few c.requires.body_len.0 l c.new-subs.result.steps _ n _ _
+    c.new-subs.ensures.0 _ _ (its-now d.body_after, (d.value, d.subs_after)) _ _ (its-now e.body_after, e.value) _ _ _ _ _ c.clear.ensures.0 _
+    (its-now k.body_after, (its-now k.list_after, (k.value, k.subs_after))) _ p in
     let used = c.new-subs.ensures.1 ∙ c.used_definitions.ensures ∙ ap length (sym (classified-definitions classes.classified)) in
     let by = by_parts classes.record.bytes.now c.new-subs.result.steps used in
     let made = built classes.record.readable classes.classified c.requires.few c.requires.body_len.0 l c.new-subs.result.steps _ n _ _ c.new-subs.ensures.0 _ _
-    (its-now d.body_after, (d.value, d.subs_after)) _ _ (its-now e.body_after, e.value) _ _ _ _ _ c.clear.ensures.0 _ (k.body_after, (k.list_after, (k.value, k.subs_after))) in
-    rw by (record { value = says; body_after = made.0; list_after = made.1 })
+    (its-now d.body_after, (d.value, d.subs_after)) _ _ (its-now e.body_after, e.value) _ _ _ _ _ c.clear.ensures.0 _
+    (its-now k.body_after, (its-now k.list_after, (k.value, k.subs_after))) in
+    let body-name = sym (its-name k.body_after) in
+    let equations-name = sym (its-name e.body_after ∙ its-name d.body_after) in
+    let list-name = sym (its-name k.list_after) in
+    rw by (record {
+      value = says;
+      body_after = search (rules, body-name, equations-name) ∙ made.0;
+      list_after = search (rules, list-name) ∙ made.1;
+    })
