@@ -4,3 +4,4 @@ pub mod Walks
 pub mod Lists
 pub mod Turns
 pub mod Whole
+pub mod Operators

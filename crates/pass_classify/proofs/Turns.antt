@@ -1,8 +1,9 @@
 -- The turns and the ends of the loops. Assumes nothing.
-use Prim.Native.Nat.{ℕ, ◌+◌, ◌≤◌, ◌<◌}
+use Prim.Native.Nat.{ℕ, zero, suc, ◌+◌, ◌≤◌, ◌<◌}
 use mathlib.Core.Path.{◌≡◌, refl, sym, ap, ◌∙◌, fun_ext}
 use mathlib.Core.List.{List, ◌∷◌}
-use mathlib.Core.Bool.{Bool, true, false, not, ◌&&◌, ◌||◌, or-false}
+use mathlib.Core.Bool.{Bool, true, false, not, ◌&&◌, ◌||◌, or-false, and-true, and_assoc}
+use native.Mathlib.Numerals.{add-one}
 use mathlib.Core.Logic.{⊎_elim}
 use native.Mathlib.Omega.{arith}
 use lib.ListN.{length, set}
@@ -15,6 +16,9 @@ use Rattle.flat.specs.Trees.{Flat, Definition, Equation}
 use Rattle.flat.specs.Layout.{provers, definitions, equations, nodes, provers_offset, definitions_offset, equations_offset}
 use Rattle.flat.specs.Layout.{prover_at, definition_entry, equation_entry}
 use Rattle.flat.specs.Record.{module_of}
+use Rattle.flat.specs.Readable.{Readable}
+use Rattle.flat.proofs.Reading.{definition-below, equation-below}
+use Rattle.marks.specs.Indices.{every}
 use Rattle.std.proofs.lemmas.Bool.{cases_lt, cases_eq}
 use Rattle.pass_trees.specs.declared.Usage.{Usage}
 use Rattle.pass_trees.specs.declared.Usage.TheVariants.{Constraint}
@@ -156,38 +160,41 @@ witnesses-end u m₀ m n k e i l = record { says = rw e at (fun_ext i); long = l
 
 -- ---- no `^` and no inner `=`
 
-abbrev pub CuttableFrom : List ℕ → ℕ → Type 0
-CuttableFrom b k = cuttable_equations (equations_from b k) ≡ cuttable_equations (module_of b).equations
+-- where each turn tests one index and leaves the rest, every index is tested, and then what is left at the end
+every-turns : (n : ℕ) (rest p : ℕ → Bool) → ((k : ℕ) → k < n → rest k ≡ (p k && rest (k + 1))) → rest 0 ≡ (every n p && rest n)
+unfolding every
+every-turns zero rest p h = refl
+every-turns (suc n) rest p h =
+    let last = rw add-one at (h n (omega arith)) in
+    every-turns n rest p (λ k l. h k (omega arith)) ∙ ap (λ (c : Bool). every n p && c) last ∙ sym (and_assoc (every n p) (p n) (rest (suc n)))
 
-pub cuttable-start : (b : List ℕ) → CuttableFrom b 0
-cuttable-start b = ap cuttable_equations (sym (equations-whole b))
+-- so where nothing is left at the end, all of it is tested
+every-left : (n : ℕ) (rest p : ℕ → Bool) → ((k : ℕ) → k < n → rest k ≡ (p k && rest (k + 1))) → rest n ≡ true → every n p ≡ rest 0
+every-left n rest p h e = sym (every-turns n rest p h ∙ rw (e, and-true))
 
-pub cuttable-turn : (b : List ℕ) {k : ℕ} {entry : EquationEntry} {x : Bool} → k < equations b → entry ≡ equation_entry b (equations_offset b) k →
-    (entry.left < nodes b) × (entry.right < nodes b) → x ≡ (cuttable_expr (tree_of b entry.left) && cuttable_expr (tree_of b entry.right)) → CuttableFrom b k →
-    (x && cuttable_equations (equations_from b (k + 1))) ≡ cuttable_equations (module_of b).equations
-unfolding cuttable_equations
-cuttable-turn b {k} {entry} h read within f i =
-    ap (λ (c : Bool). c && cuttable_equations (equations_from b (k + 1))) f
-    ∙ regroup (cuttable_expr (tree_of b entry.left)) _ _
-    ∙ sym (ap cuttable_equations (equations-more b h read within))
-    ∙ i
-  where
-    regroup : (x y z : Bool) → ((x && y) && z) ≡ (x && (y && z))
-    regroup true y z = refl
-    regroup false y z = refl
+module _ (b : List ℕ) where
+  -- whether the sides of the equation at an index can be cut
+  abbrev pub cuttable-at : ℕ → Bool
+  cuttable-at k =
+      let e = equation_entry b (equations_offset b) k in
+      cuttable_expr (tree_of b e.left) && cuttable_expr (tree_of b e.right)
 
-pub cuttable-end : (b : List ℕ) {k : ℕ} → equations b ≤ k → CuttableFrom b k → true ≡ cuttable_equations (module_of b).equations
-unfolding cuttable_equations
-cuttable-end b {k} h i = sym (ap cuttable_equations (equations-none b k h)) ∙ i
+  pub cuttable-read : (k : ℕ) {entry : EquationEntry} {x : Bool} → entry ≡ equation_entry b (equations_offset b) k
+      → x ≡ (cuttable_expr (tree_of b entry.left) && cuttable_expr (tree_of b entry.right)) → x ≡ cuttable-at k
+  cuttable-read k e f = rw e at f
+
+  pub cuttable-every : Readable b → every (equations b) cuttable-at ≡ cuttable_equations (module_of b).equations
+  unfolding cuttable_equations
+  cuttable-every r =
+      every-left (equations b) (λ k. cuttable_equations (equations_from b k)) cuttable-at
+      (λ k l.
+      let entry : EquationEntry = equation_entry b (equations_offset b) k in
+      ap cuttable_equations (equations-more b l refl (equation-below r k l))
+      ∙ sym (and_assoc (cuttable_expr (tree_of b entry.left)) (cuttable_expr (tree_of b entry.right)) (cuttable_equations (equations_from b (k + 1)))))
+      (ap cuttable_equations (equations-none b (equations b) (omega arith)))
+      ∙ ap cuttable_equations (sym (equations-whole b))
 
 -- ---- of the counted definitions
-
-abbrev pub CountedFrom : List ℕ → ℕ → Type 0
-CountedFrom b k = cuttable_defs (counted_of b (definitions_from b k)) ≡ cuttable_defs (counted (module_of b))
-
-pub counted_start : (b : List ℕ) → CountedFrom b 0
-unfolding counted_of used_of provers_of counted classify_defs
-counted_start b = ap (λ (ds : List Definition). cuttable_defs (counted_of b ds)) (sym (definitions-whole b))
 
 counted_step : (s t : ℕ → Bool) (d : Definition) (ds : List Definition) (a c : Bool) → t d.id ≡ not a → s d.id ≡ not c
     → cuttable_defs (those s (those t (d ∷ ds))) ≡ ((a || (c || cuttable_expr d.right)) && cuttable_defs (those s (those t ds)))
@@ -196,27 +203,30 @@ counted_step s t d ds true c e f = rw e
 counted_step s t d ds false true e f = rw (e, those, f)
 counted_step s t d ds false false e f = rw (e, those, f)
 
-pub counted-turn : (b : List ℕ) {k : ℕ} {entry : DefinitionEntry} {u : List Usage} {m : List Bool} {x : Bool} → Classified b u m → k < definitions b →
-    entry ≡ definition_entry b (definitions_offset b) k → (entry.id < 65536) × (entry.node < nodes b) →
-    x ≡ (is_never (usage_of u entry.id) || (marked m entry.id || cuttable_expr (tree_of b entry.node))) → CountedFrom b k →
-    (x && cuttable_defs (counted_of b (definitions_from b (k + 1)))) ≡ cuttable_defs (counted (module_of b))
-unfolding counted_of used_of provers_of
-counted-turn b {k} {entry} {u} {m} w h read within f i =
-    let id : ℕ = entry.id in
-    let e : Definition = record { id = id; right = tree_of b entry.node } in
-    ap (λ (c : Bool). c && cuttable_defs (counted_of b (definitions_from b (k + 1)))) f
-    ∙ sym (counted_step _ _ e (definitions_from b (k + 1)) (is_never (usage_of u id)) (marked m id)
-    (ap (λ (c : ℕ → Usage). not (is_never (c id))) (sym w.used)) (ap (λ (c : ℕ → Bool). not (c id)) (sym w.proved)))
-    ∙ sym (ap (λ (ds : List Definition). cuttable_defs (counted_of b ds)) (definitions-more b h read within))
-    ∙ i
+-- where an id is used and not the prover's, only the tree decides
+pub counted_cut : (n p : Bool) {x y : Bool} → n ≡ false → p ≡ false → x ≡ y → x ≡ (n || (p || y))
+counted_cut n p e f q = rw (e, f) q
 
-pub counted-end : (b : List ℕ) {k : ℕ} → definitions b ≤ k → CountedFrom b k → true ≡ cuttable_defs (counted (module_of b))
-unfolding counted_of used_of those cuttable_defs
-counted-end b {k} h i = sym (ap (λ (ds : List Definition). cuttable_defs (counted_of b ds)) (definitions-none b k h)) ∙ i
+module _ (b : List ℕ) (u : List Usage) (m : List Bool) where
+  -- whether the definition at an index is not counted, or can be cut
+  abbrev pub counted-at : ℕ → Bool
+  counted-at k =
+      let d = definition_entry b (definitions_offset b) k in
+      is_never (usage_of u d.id) || (marked m d.id || cuttable_expr (tree_of b d.node))
 
--- a test that failed decides, and one that held leaves the rest
-pub fails : {x : Bool} (y : Bool) {z : Bool} → x ≡ false → (x && y) ≡ z → false ≡ z
-fails y e f = rw e at f
+  pub counted-read : (k : ℕ) {entry : DefinitionEntry} {x : Bool} → entry ≡ definition_entry b (definitions_offset b) k
+      → x ≡ (is_never (usage_of u entry.id) || (marked m entry.id || cuttable_expr (tree_of b entry.node))) → x ≡ counted-at k
+  counted-read k e f = rw e at f
 
-pub holds : {x : Bool} (y : Bool) {z : Bool} → x ≡ true → (x && y) ≡ z → y ≡ z
-holds y e f = rw e at f
+  pub counted-every : Readable b → Classified b u m → every (definitions b) counted-at ≡ cuttable_defs (counted (module_of b))
+  unfolding counted_of used_of provers_of counted classify_defs those cuttable_defs
+  counted-every r w =
+      every-left (definitions b) (λ k. cuttable_defs (counted_of b (definitions_from b k))) counted-at
+      (λ k l.
+      let d = definition-below r k l in
+      let entry : DefinitionEntry = definition_entry b (definitions_offset b) k in
+      ap (λ (ds : List Definition). cuttable_defs (counted_of b ds)) (definitions-more b l refl (omega (arith, d.0, r.next_small), d.1))
+      ∙ counted_step _ _ (record { id = entry.id; right = tree_of b entry.node }) (definitions_from b (k + 1)) (is_never (usage_of u entry.id)) (marked m entry.id)
+      (ap (λ (c : ℕ → Usage). not (is_never (c entry.id))) (sym w.used)) (ap (λ (c : ℕ → Bool). not (c entry.id)) (sym w.proved)))
+      (ap (λ (ds : List Definition). cuttable_defs (counted_of b ds)) (definitions-none b (definitions b) (omega arith)))
+      ∙ ap (λ (ds : List Definition). cuttable_defs (counted_of b ds)) (sym (definitions-whole b))

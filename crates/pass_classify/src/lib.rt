@@ -107,6 +107,7 @@ fn mark_provers(record: &Record, provers: &mut Provers)
 }
 
 // The ids below the next id that are used as a witness are the prover's.
+// Kept as it is: `iter_mut().zip(usage)` was tried; a loop's invariant knows nothing of the elements that an adapter of iter_mut has lent.
 fn add_witnesses(usage: &Usages, next: usize, provers: &mut Provers)
     requires { next ≤ IDS }
     ensures { Marks provers.new (λ w. marked provers.old w || (ltb w next && is_witness (usage_of usage.now w))) }
@@ -137,7 +138,6 @@ pub fn classify_defs<'a>(record: Record<'a>) -> Classes<'a>
 }
 
 // Neither `^` nor `=`.
-#[tactic(auto, unfolding(pass_trees::specs::Passes::cuttable))]
 fn cuttable_operator(op: InfixOp) -> bool
     ensures { result ≡ cuttable op }
 {
@@ -170,13 +170,7 @@ fn cuttable_equation(record: &Record, e: EquationEntry) -> bool
 fn cuttable_equations(record: &Record) -> bool
     ensures { result ≡ cuttable_equations (module_of record.now.bytes.now).equations }
 {
-    for k in 0..record.layout.equations {
-        let e = record.equation(k);
-        if !cuttable_equation(record, e) {
-            return false;
-        }
-    }
-    true
+    (0..record.layout.equations).all(|k| cuttable_equation(record, record.equation(k)))
 }
 
 // Kept as it is: each asks that its id is below IDS, which Record's methods promise of what they read; a type for ids would be made of each id that is read.
@@ -206,7 +200,8 @@ fn cuttable_def(classes: &Classes, d: DefinitionEntry) -> bool
         || cuttable_expr (tree_of classes.now.record.bytes.now d.node))) }
 {
     let id = d.id as usize;
-    classes.is_never(id) || classes.is_prover(id) || cuttable_expr(&classes.record, d.node)
+    let prover = classes.is_prover(id);
+    classes.is_never(id) || prover || cuttable_expr(&classes.record, d.node)
 }
 
 // Whether no counted definition has `^` or `=`.
@@ -214,13 +209,7 @@ fn cuttable_defs(classes: &Classes) -> bool
     ensures { result ≡ cuttable_defs (counted (module_of classes.now.record.bytes.now)) }
 {
     let record = &classes.record;
-    for k in 0..record.layout.definitions {
-        let d = record.definition(k);
-        if !cuttable_def(classes, d) {
-            return false;
-        }
-    }
-    true
+    (0..record.layout.definitions).all(|k| cuttable_def(classes, record.definition(k)))
 }
 
 // Whether the record can be cut, so that it is not refused by `Uncuttable`.

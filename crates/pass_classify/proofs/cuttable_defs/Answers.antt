@@ -1,26 +1,27 @@
 -- `pass_classify::cuttable_defs` meets its contract. Assumes nothing.
+use borrow.Author.Tests.{tests}
+use borrow.Author.Rules.{rules}
 use native.Mathlib.Omega.{arith}
+use mathlib.Core.Path.{◌≡◌, refl, ap, ◌∙◌}
+use Prim.Native.Nat.{ℕ, ◌+◌}
+use Rattle.std.proofs.lemmas.Iterator.{serves_from_Range}
+use Rattle.marks.specs.Indices.{every}
+use Rattle.marks.proofs.Indices.{every-from_all}
 use Rattle.pass_classify.proofs.Laid.{definitions-laid}
-use Rattle.pass_classify.proofs.Turns.{counted_start, counted-turn, counted-end, fails, holds}
+use Rattle.pass_classify.proofs.Turns.{counted-at, counted-read, counted-every}
 use Rattle.pass_classify.proofs.cuttable_defs.Goals as goal
 
-pub loop-k-init : goal.loop-k-init
-loop-k-init c = record { end = definitions-laid _ c.args.classes.now.record.laid; rest = counted_start _ }
-
-pub returns-then-not-cuttable_def : goal.returns-then-not-cuttable_def
-returns-then-not-cuttable_def c =
-    let i = c.loop-k.invariant in
-    let d = c.definition-d.ensures in
-    let w = c.args.classes.now.classified in
-    fails _ c.if-not-cuttable_def.true (counted-turn _ w (omega (arith, i.end, c.loop-k-test.true)) d.value d.within c.cuttable_def.ensures i.rest)
-
-pub loop-k-preserved : goal.loop-k-preserved
-loop-k-preserved c =
-    let i = c.loop-k.invariant in
-    let d = c.definition-d.ensures in
-    let w = c.args.classes.now.classified in
-    let turn = counted-turn _ w (omega (arith, i.end, c.loop-k-test.true)) d.value d.within c.cuttable_def.ensures i.rest in
-    record { end = i.end; rest = holds _ c.if-not-cuttable_def.false turn }
+pub all-requires-clause-callable : goal.all-requires-clause-callable
+all-requires-clause-callable c =
+    let n = definitions-laid _ c.args.classes.now.record.laid in
+    serves_from_Range (λ x q k. search (rules, tests)) (λ x l h. search (rules, n))
 
 pub returns : goal.returns
-returns c = let i = c.loop-k.invariant in counted-end _ (omega (arith, i.end, c.loop-k-test.false)) i.rest
+returns c =
+    let classes = c.args.classes.now in
+    let b = classes.record.bytes.now in
+    let p = counted-at b classes.usage classes.provers in
+    let n = definitions-laid b classes.record.laid in
+    every-from_all _ _ _ _ _ p p _ _ _ c.all.ensures.ran (λ x t q k. search (rules, tests, counted-read))
+    refl (omega arith) (λ k l. let e : 0 + k ≡ k = omega arith in rw e)
+    ∙ ap (λ (m : ℕ). every m p) n ∙ counted-every b classes.usage classes.provers classes.record.readable classes.classified

@@ -1,24 +1,25 @@
 -- `pass_classify::cuttable_equations` meets its contract. Assumes nothing.
+use borrow.Author.Tests.{tests}
+use borrow.Author.Rules.{rules}
 use native.Mathlib.Omega.{arith}
+use mathlib.Core.Path.{◌≡◌, refl, ap, ◌∙◌}
+use Prim.Native.Nat.{ℕ, ◌+◌}
+use Rattle.std.proofs.lemmas.Iterator.{serves_from_Range}
+use Rattle.marks.specs.Indices.{every}
+use Rattle.marks.proofs.Indices.{every-from_all}
 use Rattle.pass_classify.proofs.Laid.{equations-laid}
-use Rattle.pass_classify.proofs.Turns.{cuttable-start, cuttable-turn, cuttable-end, fails, holds}
+use Rattle.pass_classify.proofs.Turns.{cuttable-at, cuttable-read, cuttable-every}
 use Rattle.pass_classify.proofs.cuttable_equations.Goals as goal
 
-pub loop-k-init : goal.loop-k-init
-loop-k-init c = record { end = equations-laid _ c.args.record.now.laid; rest = cuttable-start _ }
-
-pub returns-then-not-cuttable_equation : goal.returns-then-not-cuttable_equation
-returns-then-not-cuttable_equation c =
-    let i = c.loop-k.invariant in
-    let e = c.equation-e.ensures in
-    fails _ c.if-not-cuttable_equation.true (cuttable-turn _ (omega (arith, i.end, c.loop-k-test.true)) e.value e.within c.cuttable_equation.ensures i.rest)
-
-pub loop-k-preserved : goal.loop-k-preserved
-loop-k-preserved c =
-    let i = c.loop-k.invariant in
-    let e = c.equation-e.ensures in
-    let turn = cuttable-turn _ (omega (arith, i.end, c.loop-k-test.true)) e.value e.within c.cuttable_equation.ensures i.rest in
-    record { end = i.end; rest = holds _ c.if-not-cuttable_equation.false turn }
+pub all-requires-clause-callable : goal.all-requires-clause-callable
+all-requires-clause-callable c =
+    let n = equations-laid _ c.args.record.now.laid in
+    serves_from_Range (λ x q k. search (rules, tests)) (λ x l h. search (rules, n))
 
 pub returns : goal.returns
-returns c = let i = c.loop-k.invariant in cuttable-end _ (omega (arith, i.end, c.loop-k-test.false)) i.rest
+returns c =
+    let b = c.args.record.now.bytes.now in
+    let n = equations-laid b c.args.record.now.laid in
+    every-from_all _ _ _ _ _ (cuttable-at b) (cuttable-at b) _ _ _ c.all.ensures.ran (λ x t q k. search (rules, tests, cuttable-read))
+    refl (omega arith) (λ k l. let e : 0 + k ≡ k = omega arith in rw e)
+    ∙ ap (λ (m : ℕ). every m (cuttable-at b)) n ∙ cuttable-every b c.args.record.now.readable
