@@ -122,12 +122,7 @@ pub fn used_definitions(classes: &Classes) -> usize
     ensures { result ≡ length (those (λ v. not (is_never (usage_of classes.now.usage v))) (module_of classes.now.record.bytes.now).definitions) }
 {
     let record = &classes.record;
-    let mut count = 0;
-    for k in 0..record.layout.definitions {
-        let d = record.definition(k);
-        if !classes.is_never(d.id as usize) {
-            count += 1;
-        }
-    }
-    count
+    (0..record.layout.definitions)
+        .filter(|&k| !classes.is_never(record.definition(k).id as usize))
+        .count()
 }

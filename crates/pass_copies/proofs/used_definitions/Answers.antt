@@ -1,30 +1,28 @@
 -- `pass_copies::used_definitions` meets its contract. Assumes nothing.
+use borrow.Author.Rules.{rules}
+use borrow.Author.Tests.{tests}
 use native.Mathlib.Omega.{arith}
-use Rattle.flat.specs.Record.{pick}
+use mathlib.Core.Path.{ap, ◌∙◌}
+use Prim.Native.Nat.{ℕ}
+use lib.ListN.{length}
+use Rattle.std.specs.List.{filter, range_with_len}
+use Rattle.std.proofs.lemmas.Iterator.{serves_from_Range, YieldsList-from_range}
+use Rattle.std.proofs.lemmas.Iterator.Consumers.{count_from_yields_List, YieldsList-from_filter}
 use Rattle.pass_classify.proofs.Laid.{definitions-laid}
-use Rattle.pass_copies.proofs.Used.{used_start, used-end, used_turn}
+use Rattle.pass_copies.proofs.Used.{used-at, used-read, used_all}
 use Rattle.pass_copies.proofs.used_definitions.Goals as goal
-use Rattle.pass_copies.proofs.used_definitions.Goals.{then-not-is_never, else-not-is_never}
 
-pub loop-k-init : goal.loop-k-init
-loop-k-init c =
-    let record_is = c.args.classes.now.record in
-    record { end = definitions-laid record_is.bytes.now record_is.laid; sum = used_start _ _; few = omega arith }
-
-pub loop-k-preserved : goal.loop-k-preserved
-unfolding pick
-loop-k-preserved c =
-    let i = c.loop-k.invariant in
-    let d = c.definition-d.ensures in
-    let turn = used_turn _ _ (omega (arith, i.end, c.loop-k-test.true)) d.value d.within _ i.sum in
-    let never = c.is_never.ensures in
-    elim c.if-not-is_never.branch [
-      | then-not-is_never w ↦
-          let one = rw (← never, w.if-not-is_never.true) at turn in record { end = i.end; sum = rw w.count-is one; few = omega (arith, w.count-is) }
-      | else-not-is_never w ↦
-          let none = rw (← never, w.if-not-is_never.false) at turn in
-          record { end = i.end; sum = rw w.count-is (omega (arith, none)); few = omega (arith, w.count-is, i.few) }
-    ]
+pub count-requires-clause-can : goal.count-requires-clause-can
+count-requires-clause-can c =
+    let n = definitions-laid _ c.args.classes.now.record.laid in
+    (tt, tt, serves_from_Range (λ x q k. search (rules, tests)) (λ x l h. search (rules, n)))
 
 pub returns : goal.returns
-returns c = let i = c.loop-k.invariant in used-end _ _ _ _ (omega (arith, i.end, c.loop-k-test.false)) i.sum
+returns c =
+    let classes = c.args.classes.now in
+    let test = used-at classes.record.readable classes.usage in
+    let n = definitions-laid classes.record.bytes.now classes.record.laid in
+    let range = YieldsList-from_range 0 _ classes.record.layout.definitions c.filter.ensures.source (omega arith) in
+    count_from_yields_List _ _ c.count.ensures.ran
+    (YieldsList-from_filter _ test range c.filter.ensures.closure (λ x t q k. search (rules, tests, used-read)))
+    ∙ ap (λ (m : ℕ). length (filter test (range_with_len 0 m))) n ∙ used_all classes.record.readable classes.usage
