@@ -19,6 +19,10 @@ use Rattle.pass_keep.proofs.Nodes.{copied-nodes, next-is, tree-length, put-infix
 pub lent-on : {A : Type 0} (x : MutBor A) {y z : MutBor A} → y ≡ record x { now = y.now } → z ≡ record y { now = z.now } → z ≡ record x { now = z.now }
 lent-on {A} x {z = z} e f = f ∙ ap (λ (m : MutBor A). record m { now = z.now }) e
 
+-- and so with the values that stand in it then
+pub lent-as : {A : Type 0} (x : MutBor A) {y : MutBor A} {a : A} → y ≡ record x { now = y.now } → y.now ≡ a → y ≡ record x { now = a }
+lent-as {A} x e q = e ∙ ap (λ (n : A). record x { now = n }) q
+
 pub lent-then : {u v w : Writer} → Lent u v → Lent v w → Lent u w
 lent-then {u} p q = record { body = lent-on u.body p.body q.body; list = lent-on u.list p.list q.list }
 

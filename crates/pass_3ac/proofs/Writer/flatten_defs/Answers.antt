@@ -1,13 +1,11 @@
 -- `pass_3ac::Writer::flatten_defs` meets its contract. Assumes nothing.
 use native.Mathlib.Omega.{arith}
-use mathlib.Core.Path.{refl, ap, ◌∙◌}
-use mathlib.Core.List.{List}
-use Prim.Native.Nat.{ℕ}
+use mathlib.Core.Path.{refl, ◌∙◌}
 use Rattle.pass_trees.specs.Passes.{classify_defs, counted}
 use Rattle.pass_classify.specs.Arrays.{provers_of, used_of, counted_of}
 use Rattle.pass_classify.proofs.Laid.{definitions-laid}
 use Rattle.pass_3ac.proofs.Turns.{defs-start, defs-turn, defs-end, room-start, room-def, room-turn}
-use Rattle.pass_3ac.proofs.Writers.{lent-on}
+use Rattle.pass_3ac.proofs.Writers.{lent-on, lent-as}
 use Rattle.pass_3ac.proofs.Writer.flatten_defs.Goals as goal
 
 pub loop-k-init : goal.loop-k-init
@@ -44,4 +42,4 @@ unfolding counted counted_of used_of provers_of classify_defs
 returns c =
     let i = c.loop-k.invariant in
     let w = defs-end _ (omega (arith, i.end, c.loop-k-test.false)) _ _ _ _ _ _ _ _ _ i.from in
-    record { body_after = i.lent ∙ ap (λ (x : List ℕ). record c.args.self.now.body { now = x }) w.0; value = w.1; subs_after = w.2; steps = i.steps }
+    record { body_after = lent-as c.args.self.now.body i.lent w.0; value = w.1; subs_after = w.2; steps = i.steps }

@@ -1,11 +1,9 @@
 -- `pass_3ac::Writer::flatten_equations` meets its contract. Assumes nothing.
 use native.Mathlib.Omega.{arith}
-use mathlib.Core.Path.{refl, ap, ◌∙◌}
-use mathlib.Core.List.{List}
-use Prim.Native.Nat.{ℕ}
+use mathlib.Core.Path.{refl}
 use Rattle.pass_classify.proofs.Laid.{equations-laid}
 use Rattle.pass_3ac.proofs.Turns.{equations-start, equations-turn, equations-end, room-equations-start, room-equation, room-equations-turn}
-use Rattle.pass_3ac.proofs.Writers.{puts, lent-on}
+use Rattle.pass_3ac.proofs.Writers.{puts, lent-on, lent-as}
 use Rattle.pass_3ac.proofs.Writer.flatten_equations.Goals as goal
 
 pub loop-k-init : goal.loop-k-init
@@ -38,4 +36,4 @@ pub returns : goal.returns
 returns c =
     let i = c.loop-k.invariant in
     let w = equations-end _ (omega (arith, i.end, c.loop-k-test.false)) _ _ _ _ _ _ _ _ i.from in
-    record { body_after = i.lent ∙ ap (λ (x : List ℕ). record c.args.self.now.body { now = x }) w.0; value = w.1 }
+    record { body_after = lent-as c.args.self.now.body i.lent w.0; value = w.1 }

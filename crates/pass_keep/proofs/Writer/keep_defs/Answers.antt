@@ -7,7 +7,7 @@ use Rattle.pass_trees.specs.Passes.{classify_defs, counted}
 use Rattle.pass_classify.specs.Arrays.{provers_of, used_of, counted_of}
 use Rattle.pass_classify.proofs.Laid.{definitions-laid}
 use Rattle.pass_keep.proofs.Turns.{going_start, going-turn, going_end, first-room}
-use Rattle.pass_keep.proofs.Writers.{lent-then}
+use Rattle.pass_keep.proofs.Writers.{lent-then, lent-as}
 use Rattle.pass_keep.proofs.Writer.keep_defs.Goals as goal
 
 pub loop-k-init : goal.loop-k-init
@@ -41,8 +41,8 @@ returns c =
     let w = going_end _ _ _ _ _ _ _ _ i.going refl (omega (arith, i.end, c.loop-k-test.false)) in
     let first = c.args.self.now in
     record {
-      body_after = i.lent.body ∙ ap (λ (x : List ℕ). record first.body { now = x }) w.body_is;
-      list_after = i.lent.list ∙ ap (λ (x : List ℕ). record first.list { now = x }) w.list-is;
+      body_after = lent-as first.body i.lent.body w.body_is;
+      list_after = lent-as first.list i.lent.list w.list-is;
       value = w.answer-is;
       subs_after = w.subs-are;
     }
