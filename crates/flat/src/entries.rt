@@ -107,6 +107,7 @@ pub fn put_header(out: &mut [u8], header: Header)
 }
 
 // A definition at word `at`: its id and its root.
+// Kept as it is: two words, and no DefinitionEntry, whose node is an index of any size; it would have to be below 4294967296 then.
 #[tactic(auto, unfolding(crate::specs::Layout::definition_words))]
 pub fn put_definition(out: &mut [u8], at: usize, id: u32, node: u32)
     requires { 4 * (at + DEFINITION-WORDS) ≤ length out.old }
