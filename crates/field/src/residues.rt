@@ -41,7 +41,6 @@ pub fn centred(r: u64) -> i64
 }
 
 // The power of a residue, by squares.
-// Kept as it is: "below P" is six clauses of a line; a struct of a residue is no plainer, since each statement of powers and inverses would say its field.
 // Kept as it is: that a residue is below P is a line of each contract here; a struct round it would put a projection into every statement.
 pub fn power_of(b: u64, n: u64) -> u64
     requires { b < P }
