@@ -60,6 +60,7 @@ impl Substitutions {
     {
         let mut id = v;
         // Kept as it is: counted down, so that the steps that are left are those of the definition, `walk`.
+        // Kept as it is: with `get`, which was tried, None and Itself in one pattern left the proof no fact of the second; two arms are no plainer.
         for _left in (0..self.steps).rev() {
             let i = id as usize;
             if ID_COUNT <= i {

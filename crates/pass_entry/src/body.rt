@@ -14,7 +14,7 @@ ghost use Rattle.records.specs.Refusals.{numbered};
 
 use super::built::Built;
 use super::lists::{copy_to, put_provers, put_publics};
-use constraint::{EQUALITY_WORDS, HEADER, KEPT_WORDS};
+use constraint::{EQUALITY_WORDS, HEADER_BYTES, KEPT_WORDS};
 use flat::entries::{Header, put_header};
 use pass_3ac::Writer;
 use pass_classify::{Classes, cuttable};
@@ -22,8 +22,6 @@ use pass_copies::{Substitutions, used_definitions};
 use records::NODE_WORDS;
 use records::flat_record::IDS;
 use records::refusals::Refusal;
-
-const HEADER_BYTES: usize = 4 * HEADER;
 
 const NODE_BYTES: usize = 4 * NODE_WORDS;
 

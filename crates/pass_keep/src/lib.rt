@@ -55,6 +55,7 @@ pub struct Writer<'a> {
 
 impl Writer<'_> {
     // One node more; answers its index.
+    // Kept as it is: four words, which its callers name; of a Node their indices would be widened to usize, and narrowed again here.
     fn push_node(&mut self, node: NodeEntry) -> u32
         requires { NodesIn 1 self.old }
         ensures { NodePut (node_words node.kind node.a node.b node.c) result self.old self.new }
