@@ -9,10 +9,11 @@ use lib.ListN.{length}
 use Rattle.words.proofs.Laws.{length-set_words}
 use Rattle.pass_classify.proofs.Laid.{next-laid, publics-laid}
 use Rattle.pass_classify.proofs.Whole.{classified-definitions}
-use Rattle.pass_entry.proofs.Building.{Lists, by_parts, lists-made, room-definitions, room-of-equations, room-of-kept, room-of-nodes, numbers, built}
+use Rattle.pass_entry.specs.Body.{Numbers}
+use Rattle.pass_entry.proofs.Building.{Lists, parts, by_parts, lists-made, room-definitions, room-of-equations, room-of-kept, room-of-nodes, numbers, built}
 use Rattle.pass_entry.proofs.Fits.{parts-small, ordered-of, bounded-of}
 use Rattle.pass_entry.proofs.body.build.Goals as goal
-use Rattle.pass_entry.proofs.body.build.Goals.{After-put_provers-start}
+use Rattle.pass_entry.proofs.body.build.Goals.{After-put_provers-start, After-keep_defs}
 
 pub put_publics-requires : goal.put_publics-requires
 put_publics-requires c = let r = c.args.classes.now.record.readable in omega (arith, r.publics-few, c.requires.body_len.0)
@@ -74,34 +75,38 @@ keep_defs-requires c =
           (its-now d.body_after, (d.value, d.subs_after)) _ _ (its-now e.body_after, e.value) long.1,
     )
 
--- the numbers follow each other, and are not too large
-pub invariant_of-result : goal.invariant_of-result
-invariant_of-result c =
+-- the numbers say where the parts stand that were written
+says : (c : After-keep_defs) → Lists c.args.classes.now.record.bytes.now c.args.classes.now.provers c.args.body.now c.put_provers-start.new.body
+    c.put_provers-start.result → Numbers (parts c.args.classes.now.record.bytes.now c.new-subs.result.steps) c.flatten_equations.new.self.next
+    c.args.classes.now.record.layout.publics c.put_provers-start.result c.flatten_equations.new.self.at c.keep_defs.new.self.at c.keep_defs.new.self.nodes
+says c l =
     let classes = c.args.classes.now in
-    let l = lists (goal.at.invariant_of-result c).After-put_provers-start in
     let d = c.flatten_defs.ensures in
     let e = rw d.steps at c.flatten_equations.ensures in
     let k = rw (c.clear.ensures.1 ∙ d.steps) at c.keep_defs.ensures in
     let n = next-laid classes.record.bytes.now classes.record.laid in
     let p = publics-laid classes.record.bytes.now classes.record.laid in
-    let says = numbers classes.record.readable classes.classified c.requires.few c.requires.body_len.0 l c.new-subs.result.steps _ n _ _
+    numbers classes.record.readable classes.classified c.requires.few c.requires.body_len.0 l c.new-subs.result.steps _ n _ _
     c.new-subs.ensures.0 _ _ (its-now d.body_after, (d.value, d.subs_after)) _ _ (its-now e.body_after, e.value) _ _ _ _ _ c.clear.ensures.0 _
-    (its-now k.body_after, (its-now k.list_after, (k.value, k.subs_after))) _ p in
-    let small = parts-small classes.record.readable c.requires.few c.new-subs.result.steps in
-    record { ordered = ordered-of small says; bounded = bounded-of small says }
+    (its-now k.body_after, (its-now k.list_after, (k.value, k.subs_after))) _ p
+
+-- the numbers follow each other, and are not too large
+pub invariant_of-result : goal.invariant_of-result
+invariant_of-result c =
+    let at = goal.at.invariant_of-result c in
+    let numbered = says at.After-keep_defs (lists at.After-put_provers-start) in
+    let small = parts-small c.args.classes.now.record.readable c.requires.few c.new-subs.result.steps in
+    record { ordered = ordered-of small numbered; bounded = bounded-of small numbered }
 
 pub returns : goal.returns
 returns c =
     let classes = c.args.classes.now in
-    let l = lists (goal.at.returns c).After-put_provers-start in
+    let at = goal.at.returns c in
+    let l = lists at.After-put_provers-start in
     let d = c.flatten_defs.ensures in
     let e = rw d.steps at c.flatten_equations.ensures in
     let k = rw (c.clear.ensures.1 ∙ d.steps) at c.keep_defs.ensures in
     let n = next-laid classes.record.bytes.now classes.record.laid in
-    let p = publics-laid classes.record.bytes.now classes.record.laid in
-    let says = numbers classes.record.readable classes.classified c.requires.few c.requires.body_len.0 l c.new-subs.result.steps _ n _ _
-    c.new-subs.ensures.0 _ _ (its-now d.body_after, (d.value, d.subs_after)) _ _ (its-now e.body_after, e.value) _ _ _ _ _ c.clear.ensures.0 _
-    (its-now k.body_after, (its-now k.list_after, (k.value, k.subs_after))) _ p in
     let used = c.new-subs.ensures.1 ∙ c.used_definitions.ensures ∙ ap length (sym (classified-definitions classes.classified)) in
     let by = by_parts classes.record.bytes.now c.new-subs.result.steps used in
     let made = built classes.record.readable classes.classified c.requires.few c.requires.body_len.0 l c.new-subs.result.steps _ n _ _ c.new-subs.ensures.0 _ _
@@ -111,7 +116,7 @@ returns c =
     let equations-name = sym (its-name e.body_after ∙ its-name d.body_after) in
     let list-name = sym (its-name k.list_after) in
     rw by (record {
-      value = says;
+      value = says at.After-keep_defs l;
       body_after = search (rules, body-name, equations-name) ∙ made.0;
       list_after = search (rules, list-name) ∙ made.1;
     })

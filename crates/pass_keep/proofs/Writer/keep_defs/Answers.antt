@@ -1,8 +1,6 @@
 -- `pass_keep::Writer::keep_defs` meets its contract. Assumes nothing.
 use native.Mathlib.Omega.{arith}
-use mathlib.Core.Path.{refl, ap, ◌∙◌}
-use mathlib.Core.List.{List}
-use Prim.Native.Nat.{ℕ}
+use mathlib.Core.Path.{refl, ◌∙◌}
 use Rattle.pass_trees.specs.Passes.{classify_defs, counted}
 use Rattle.pass_classify.specs.Arrays.{provers_of, used_of, counted_of}
 use Rattle.pass_classify.proofs.Laid.{definitions-laid}
