@@ -18,4 +18,5 @@ returns c =
     let used = sym c.is_never.ensures ∙ c.if-is_never.false in
     let counted = sym c.is_prover.ensures ∙ c.if-is_prover.false in
     let cut = c.flatten_expr_to_3ac.ensures in
-    record { defs_put = way-counted c.args.classes.now.classified _ _ _ _ _ _ _ _ used counted (left cut) c.substitute.ensures.0; lent = cut.lent; steps = c.substitute.ensures.1 }
+    let put = way-counted c.args.classes.now.classified _ _ _ _ _ _ _ _ used counted (left cut) c.substitute.ensures.0 in
+    record { defs_put = put; lent = cut.lent; steps = c.substitute.ensures.1 }

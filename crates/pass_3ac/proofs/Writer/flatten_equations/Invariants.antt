@@ -10,9 +10,10 @@ use Rattle.pass_3ac.proofs.Writer.flatten_equations.Given as goal
 abbrev pub invariant-loop-k : goal.invariant-loop-k
 invariant-loop-k l =
     let b = l.record.bytes.now in
+    let first = l.initial.self in
     record {
       end : l.k-end ≡ equations b;
-      from : EquationsFrom b l.subs.steps (subst_of l.subs.terms) l.initial.self.body.now l.initial.self.at l.initial.self.next l.self.body.now l.self.at l.self.next l.k;
+      from : EquationsFrom b l.subs.steps (subst_of l.subs.terms) first.body.now first.at first.next l.self.body.now l.self.at l.self.next l.k;
       room : Room (equations_nodes (equations_from b l.k)) l.self.at l.self.next l.self.body.now;
-      lent : l.self.body ≡ record l.initial.self.body { now = l.self.body.now };
+      lent : l.self.body ≡ record first.body { now = l.self.body.now };
     }

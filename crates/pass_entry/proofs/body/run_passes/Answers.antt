@@ -11,13 +11,13 @@ returns-then-not-cuttable c =
 pub returns-then-built-gt-IDS : goal.returns-then-built-gt-IDS
 returns-then-built-gt-IDS c =
     let built = c.build-built.ensures in
-    let w = passes-32 (module_of c.args.classes.now.record.bytes.now) _ _ c.cuttable.ensures c.build-built.result c.if-not-cuttable.false built.value built.body_after
-    built.list_after c.if-built-gt-IDS.true in
+    let w = passes-32 (module_of c.args.classes.now.record.bytes.now) _ _ c.cuttable.ensures c.build-built.result c.if-not-cuttable.false
+    built.value built.body_after built.list_after c.if-built-gt-IDS.true in
     record { value = w.0; body_after = w.1.0; list_after = w.1.1 }
 
 pub returns : goal.returns
 returns c =
     let built = c.build-built.ensures in
-    let w = passes-made (module_of c.args.classes.now.record.bytes.now) _ _ c.cuttable.ensures c.build-built.result c.if-not-cuttable.false built.value built.body_after
-    built.list_after c.if-built-gt-IDS.false in
+    let w = passes-made (module_of c.args.classes.now.record.bytes.now) _ _ c.cuttable.ensures c.build-built.result c.if-not-cuttable.false
+    built.value built.body_after built.list_after c.if-built-gt-IDS.false in
     record { value = w.0; body_after = w.1.0; list_after = w.1.1 }
