@@ -86,7 +86,7 @@ impl Writer<'_, '_> {
                 self.below(n, b);
                 self.add(INFIX, left, self.last(), op);
             }
-            _ => self.add(kind as u32, a, 0, 0),
+            _ => self.add(kind.into(), a, 0, 0),
         }
     }
 
