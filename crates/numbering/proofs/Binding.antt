@@ -17,7 +17,7 @@ use Rattle.source.specs.Nodes.{entry_of, children_of, three, is_pattern, item_fi
 use Rattle.source.specs.Record.{Tree, tree, pattern_of}
 use Rattle.numbering.specs.Numbering.{Ids, Names, Naming, ◌>>=◌, return, generate_id, number_pattern_variables, number_parameters}
 use Rattle.numbering.specs.Numbers.{is_name, bears, entry_with, shape_with, numbered_tree}
-use Rattle.numbering.specs.Walks.{weight, chain_weight, each, bound_to, Sized, Room, Ready, ReadyChain, PatternWalk, ParameterWalk}
+use Rattle.numbering.specs.Walks.{depth, weight, chain_weight, each, bound_to, Sized, Room, Ready, ReadyChain, PatternWalk, ParameterWalk}
 use Rattle.numbering.specs.declared.rows.Scopes.{Scopes}
 use Rattle.numbering.proofs.Weights.{child_weight}
 use Rattle.numbering.proofs.Grown.{Growing, trees-grow, numbered-grow, entry-with, stem-is, as_is}
@@ -40,7 +40,7 @@ number_two make p q locals = do
 
 module _ {b : List ℕ} {at n k : ℕ} {s : Scopes} (R : Ready b at n is_pattern k s) where
   -- a child that is a pattern
-  child : {x : ℕ} {s₁ : Scopes} → (x < k) × (is_pattern (entry_of b at x) ≡ true) → Room (λ own. weight b at own x) s₁.next s₁.top
+  child : {x : ℕ} {s₁ : Scopes} → (x < k) × (is_pattern (entry_of b at x) ≡ true) → Room (λ own. weight b at own x) s₁.next (depth s₁)
       → (x < k) × Ready b at n is_pattern x s₁
   child i r = (i.0, record { walk = R.walk; below = omega (arith, i.0, R.below); sorted = i.1; room = r })
 
@@ -75,7 +75,7 @@ module _ {b : List ℕ} {at n k : ℕ} {s : Scopes} (R : Ready b at n is_pattern
 
   -- what `bind` asks
   pub as-bind : {p x : ℕ} {s₁ : Scopes} → entry_of b at k ≡ Some (Node.Pattern (Shape.As p x)) → PatternWalk b at n p s s₁
-      → ((x < 512) × (k < 2048)) × ((s₁.next < 65536) × (s₁.top < 2048))
+      → ((x < 512) × (k < 2048)) × ((s₁.next < 65536) × (depth s₁ < 2048))
   unfolding each
   as-bind {p} {x} e u =
       let r = room-inner (as_parts e) R.room u.more u.few u.entries in (
@@ -86,7 +86,7 @@ module _ {b : List ℕ} {at n k : ℕ} {s : Scopes} (R : Ready b at n is_pattern
   variable-facts : {x : ℕ} → entry_of b at k ≡ Some (Node.Pattern (Shape.Variable x)) → Child-facts b at n R.walk k (Child.Name x) Child.Nothing Child.Nothing
   variable-facts e = child-facts b at n R.walk k R.below _ _ _ e refl
 
-  pub variable-bind : {x : ℕ} → entry_of b at k ≡ Some (Node.Pattern (Shape.Variable x)) → ((x < 512) × (k < 2048)) × ((s.next < 65536) × (s.top < 2048))
+  pub variable-bind : {x : ℕ} → entry_of b at k ≡ Some (Node.Pattern (Shape.Variable x)) → ((x < 512) × (k < 2048)) × ((s.next < 65536) × (depth s < 2048))
   unfolding each child_weight
   variable-bind {x} e =
       let w = (variable-facts e).weighs each in (

@@ -24,7 +24,7 @@ use Rattle.source_check.specs.Answer.{checked}
 use Rattle.numbering.specs.Numbering.{Names, Numbered, ◌>>=◌, return, found, named, fresh_text, iter_text}
 use Rattle.numbering.specs.Numbering.{fold_text, registered, number_module_variables, names_of, numbered}
 use Rattle.numbering.specs.Numbers.{NumberedIn, numbered_module, numbered_definition, numbered_expression}
-use Rattle.numbering.specs.Walks.{weight, each, coded, Holds, names as both, no_row, Room}
+use Rattle.numbering.specs.Walks.{depth, weight, each, coded, Holds, names as both, no_row, Room}
 use Rattle.numbering.specs.Walks.{Walkable, ReadyDefinitions, ReadyExpressions, sum_from, definitions_weight}
 use Rattle.numbering.specs.Walks.{expressions_weight, Published, Registered, DefinitionsWalk, ExpressionsWalk}
 use Rattle.numbering.specs.declared.rows.Scopes.{Scopes}
@@ -215,21 +215,21 @@ module _ (b : List ℕ) (Q : Readable b) (l : Layout) (e : l ≡ layout_of b) wh
   unfolding layout_of
   nodes-asked = rw e (Q.long, Q.nodes-few)
 
-  pub definitions-asked : (s : Scopes) → s.next ≤ 9 + l.publics → s.top ≡ 0 →
+  pub definitions-asked : (s : Scopes) → s.next ≤ 9 + l.publics → depth s ≡ 0 →
       let list = l.definitions_at in
       ((4 * (list + DEFINITION-WORDS * l.definitions) ≤ length b) × (definitions_fit b l.nodes_at l.nodes list l.definitions ≡ true))
-      × ReadyDefinitions b l.nodes_at l.nodes list l.definitions 0 s.next s.top
+      × ReadyDefinitions b l.nodes_at l.nodes list l.definitions 0 s.next (depth s)
   unfolding layout_of
   definitions-asked s =
       rw e (λ q t. ((omega (arith, Q.long), Q.definitions-fit), rw t (definitions-ready b Q s.next (omega (arith, Q.publics-few)))))
 
-  pub expressions-asked : {s s₁ : Scopes} → s.next ≤ 9 + l.publics → s.top ≡ 0 → DefinitionsWalk b l.nodes_at l.nodes l.definitions_at l.definitions 0 s s₁
+  pub expressions-asked : {s s₁ : Scopes} → s.next ≤ 9 + l.publics → depth s ≡ 0 → DefinitionsWalk b l.nodes_at l.nodes l.definitions_at l.definitions 0 s s₁
       → ((4 * (l.expressions_at + l.expressions) ≤ length b) × (expressions_fit b l.nodes_at l.nodes l.expressions_at l.expressions ≡ true))
-      × ReadyExpressions b l.nodes_at l.nodes l.expressions_at l.expressions 0 s₁.next s₁.top
+      × ReadyExpressions b l.nodes_at l.nodes l.expressions_at l.expressions 0 s₁.next (depth s₁)
   unfolding layout_of
   expressions-asked {s} {s₁} =
       rw e (λ q t d.
-      let r : s₁.top ≡ 0 = d.same_top ∙ t in
+      let r : depth s₁ ≡ 0 = d.same_top ∙ t in
       ((omega (arith, Q.long), Q.expressions-fit), rw r (expressions-ready b Q s.next s₁.next (omega (arith, Q.publics-few)) d.few)))
 
   pub names-asked : ((names_fit b l.text_at l.names ≡ true) × (4 * (HEADER + NAME-WORDS * l.names) ≤ length b)) × (l.names ≤ 512)

@@ -60,7 +60,7 @@ module _ (b t : List ℕ) (text count id : ℕ) where
   found-yes k s l m z e =
       let w : named t id 0 (rows count 0 (name_of b text)) ≡ (k, id) ∷ [] = named-found count 0 ∙ ap entry_of (sym e) in
       record {
-        rest = record { same_locals = refl; same_undo = refl; same_top = refl; same_ids = refl };
+        rest = record { same_locals = refl; same_undo = refl; same_ids = refl };
         same_next = refl;
         holds = λ gs h. rw w (held_more s.globals gs k id h (omega arith));
       }
@@ -104,7 +104,6 @@ module _ (b : List ℕ) (list count : ℕ) where
         rest = record {
           same_locals = w.rest.same_locals ∙ u.rest.same_locals;
           same_undo = w.rest.same_undo ∙ u.rest.same_undo;
-          same_top = w.rest.same_top ∙ u.rest.same_top;
           same_ids = w.rest.same_ids ∙ u.rest.same_ids;
         };
         before = λ j q. w.before j (omega arith) ∙ get_or-set_other public i j id 0 (λ (z : j ≡ i). omega arith);

@@ -1,20 +1,20 @@
 -- What rows hold: a name found, a new name, and rows unwound. Assumes nothing.
-use Prim.Native.Nat.{ℕ, zero, suc, ◌+◌, ◌-◌, ◌<◌}
+use Prim.Native.Nat.{ℕ, zero, suc, ◌+◌, ◌≤◌, ◌<◌}
 use mathlib.Core.Path.{◌≡◌, refl, sym, ap, ap₂, ◌∙◌}
-use mathlib.Core.List.{List, ◌∷◌}
+use mathlib.Core.List.{List, [], ◌∷◌, ◌++◌}
 use mathlib.Core.Bool.{Bool, cond}
 use mathlib.Core.Option.{Option, none, some}
 use mathlib.Core.Logic.{⊎_elim}
 use native.Mathlib.Numerals.{add-one}
 use native.Mathlib.Omega.{arith}
-use lib.ListN.{length, get_or, set}
-use lib.Seq.{get_or-set_same, get_or-set_other}
+use lib.ListN.{length, get_or, set, take, drop}
+use lib.Seq.{get_or-append_seam, take-append_seam, get_or-set_same, get_or-set_other}
 use borrow.Author.Tests.{eq-eqb, ne_eqb}
 use Rattle.std.specs.Prelude.{Option as Maybe, Some, None}
 use Rattle.std.specs.Option.{option_or}
-use Rattle.std.proofs.lemmas.List.{set-set, set-get_or}
+use Rattle.std.proofs.lemmas.List.{set-set, set-get_or, get_or-drop, get_or-take, length-append, length-drop, length-take, take-take}
 use Rattle.numbering.specs.Numbering.{Ids, Names, found, chosen, number_variable}
-use Rattle.numbering.specs.Walks.{coded, Holds, names, undone, unwound, OnlyGlobals, Chosen, SameBelow}
+use Rattle.numbering.specs.Walks.{coded, Holds, names, no_undo, undone, unwound, OnlyGlobals, Chosen, SameBelow}
 use Rattle.numbering.specs.declared.rows.Scopes.{Scopes}
 use Rattle.numbering.specs.declared.rows.Undo.{Undo}
 use Rattle.std.proofs.lemmas.Bool.{cases_eq}
@@ -52,7 +52,7 @@ chosen-new x none (some i) g next e q = absurd (not-none (sym e))
 chosen-new x none none g next e q = rw (add-one, ← q)
 
 pub only-globals : (s : Scopes) → OnlyGlobals s s
-only-globals s = record { same_locals = refl; same_undo = refl; same_top = refl; same_ids = refl }
+only-globals s = record { same_locals = refl; same_undo = refl; same_ids = refl }
 
 module _ (x : ℕ) (s : Scopes) (l : x < 512) where
   abbrev pub row : Maybe ℕ
@@ -80,7 +80,7 @@ module _ (x : ℕ) (s : Scopes) (l : x < 512) where
   variable-new w e = record {
     more = omega arith;
     few = omega arith;
-    rest = record { same_locals = refl; same_undo = refl; same_top = refl; same_ids = refl };
+    rest = record { same_locals = refl; same_undo = refl; same_ids = refl };
     numbers = λ ls g h k q. (
       (x, s.next) ∷ g.globals,
       (
@@ -96,15 +96,33 @@ pub unwound-none : (undo : List Undo) (base : ℕ) (row : List (Maybe ℕ)) {n :
 unfolding unwound
 unwound-none undo base row e = rw e
 
--- the last entry first
-pub unwound-last : (undo : List Undo) (base : ℕ) (row : List (Maybe ℕ)) (i : ℕ) → base < i
-    → unwound undo base (i - 1 - base) (set row (undone undo (i - 1)).name (undone undo (i - 1)).before) ≡ unwound undo base (i - base) row
-unfolding unwound
-unwound-last undo base row i l =
-    let e : i - base ≡ suc (i - 1 - base) = omega arith in
-    let f : base + (i - 1 - base) ≡ i - 1 = omega arith in
-    sym (ap (λ (m : ℕ). unwound undo base m row) e
-    ∙ ap (λ (m : ℕ). unwound undo base (i - 1 - base) (set row (undone undo m).name (undone undo m).before)) f)
+-- entries left of a list from `base` on, the last of them, and those before it
+module _ (undo : List Undo) (base : ℕ) (left rest : List Undo) (e : Undo) (s : left ≡ rest ++ e ∷ []) (t : left ≡ take (length left) (drop base undo)) where
+  one-more : length left ≡ suc (length rest)
+  one-more = omega (arith, ap length s, length-append rest (e ∷ []))
+
+  last-is : undone undo (base + length rest) ≡ e
+  last-is =
+      sym (get_or-drop base undo (length rest) no_undo)
+      ∙ sym (get_or-take (length left) (drop base undo) (length rest) no_undo (omega (arith, one-more)))
+      ∙ ap (λ (l : List Undo). undone l (length rest)) (sym t ∙ s)
+      ∙ get_or-append_seam rest e [] no_undo
+
+  pub last-names : ((i : ℕ) → base ≤ i → i < length undo → (undone undo i).name < 512) → e.name < 512
+  last-names bounds =
+      let few : base + length rest < length undo = omega (arith, ap length t, length-take (length left) (drop base undo), length-drop base undo, one-more) in
+      rw last-is at (bounds (base + length rest) (omega arith) few)
+
+  pub rest-left : rest ≡ take (length rest) (drop base undo)
+  rest-left =
+      sym (take-append_seam rest (e ∷ [])) ∙ ap (take (length rest)) (sym s ∙ t)
+      ∙ take-take (length rest) (length left) (drop base undo) (omega (arith, one-more))
+
+  pub unwound-last : (locals : List (Maybe ℕ)) → unwound undo base (length rest) (set locals e.name e.before) ≡ unwound undo base (length left) locals
+  unfolding unwound
+  unwound-last locals =
+      sym (ap (λ (m : ℕ). unwound undo base m locals) one-more
+      ∙ ap (λ (u : Undo). unwound undo base (length rest) (set locals u.name u.before)) last-is)
 
 -- in two parts
 pub unwound-parts : (undo : List Undo) (base m n : ℕ) (row : List (Maybe ℕ))
@@ -128,10 +146,10 @@ unwound-same undo undo' base (suc n) row p =
     (unwound-same undo undo' base n (set row (undone undo (base + n)).name (undone undo (base + n)).before) (λ i l. p i (omega arith)))
 
 -- an entry written and unwound
-pub unwound-bound : (undo : List Undo) (top x : ℕ) (v : Maybe ℕ) (row : List (Maybe ℕ)) → top < length undo
-    → unwound (set undo top (record { name = x; before = get_or row x None })) top 1 (set row x v) ≡ row
+pub unwound-bound : (undo : List Undo) (x : ℕ) (v : Maybe ℕ) (row : List (Maybe ℕ))
+    → unwound (undo ++ record { name = x; before = get_or row x None } ∷ []) (length undo) 1 (set row x v) ≡ row
 unfolding unwound
-unwound-bound undo top x v row p =
-    let e : top + 0 ≡ top = omega arith in
-    rw (e, get_or-set_same undo top (record { name = x; before = get_or row x None }) (record { name = 0; before = None }) p)
+unwound-bound undo x v row =
+    let e : length undo + 0 ≡ length undo = omega arith in
+    rw (e, get_or-append_seam undo (record { name = x; before = get_or row x None }) [] (record { name = 0; before = None }))
     (set-set row x v (get_or row x None) ∙ set-get_or row x None)

@@ -11,8 +11,10 @@ use Rattle.source.specs.Record.{definition_at, expression_at}
 use Rattle.source.specs.Layout.{definition_entry, expression_root}
 use Rattle.numbering.specs.Numbering.{Ids, Names, Naming, ◌>>=◌, return, number_def_variables, number_definitions, number_expressions}
 use Rattle.numbering.specs.Numbers.{numbered_definition, numbered_expression}
-use Rattle.numbering.specs.Walks.{names, weight, each, Ready, ReadyTwo, ReadyDefinitions}
+use Rattle.numbering.specs.Walks.{names, depth, weight, each, Ready, ReadyTwo, ReadyDefinitions}
+use Rattle.arrayvec.specs.ArrayVec.{ArrayVec, array_vec_len}
 use Rattle.numbering.specs.declared.rows.Scopes.{Scopes}
+use Rattle.numbering.specs.declared.rows.Undo.{Undo}
 use Rattle.numbering.specs.Walks.{ReadyExpressions, Defined, sum_from, definitions_weight, expressions_weight}
 use Rattle.numbering.specs.Walks.{PatternWalk, ExpressionWalk, DefinitionWalk, DefinitionsWalk, ExpressionsWalk}
 use Rattle.marks.proofs.Indices.{every-at, and_left, and_right}
@@ -43,16 +45,17 @@ module _ {b : List ℕ} {at n p v : ℕ} {s : Scopes} (R : ReadyTwo b at n is_pa
   def-parts : Parts (λ own. weight b at own p + weight b at own v) (λ own. weight b at own v) (λ own. weight b at own p)
   def-parts = record { hold = λ own. omega arith }
 
-  pub def-way : {s₁ s₂ : Scopes} → ExpressionWalk b at n v s s₁ → PatternWalk b at n p s₁ s₂ → DefinitionWalk b at n p v s (record s₂ { top = s.top })
+  pub def-way : {s₁ s₂ : Scopes} (undo : ArrayVec Undo) → array_vec_len undo ≡ depth s → ExpressionWalk b at n v s s₁ → PatternWalk b at n p s₁ s₂
+      → DefinitionWalk b at n p v s (record s₂ { undo = undo })
   unfolding number_def_variables ◌>>=◌ return
-  def-way {s₁} {s₂} u w = record {
+  def-way {s₁} {s₂} undo e u w = record {
     more = omega (arith, u.more, w.more);
     few = omega (arith, u.few, w.few);
-    same_top = refl;
+    same_top = e;
     elsewhere = both-else s.ids s₁.ids s₂.ids def-parts u.elsewhere w.elsewhere;
     unnamed = λ j z. w.unnamed j z ∙ u.unnamed j z;
-    numbers = λ l g final h k e a.
-        let q = u.numbers l g final h k e (earlier s₁.ids s₂.ids final def-parts R.room.met-once w.elsewhere a) in
+    numbers = λ l g final h k q₀ a.
+        let q = u.numbers l g final h k q₀ (earlier s₁.ids s₂.ids final def-parts R.room.met-once w.elsewhere a) in
         let z =
         w.numbers l (names q.0 s₁.next) final (held-same l u.same_locals h) refl (later s₂.ids final def-parts a) in
         (z.0, (q.0, (rw (q.1.0, z.1.0), (z.1.1, held-same q.0 w.same_globals q.1.1))));
@@ -99,7 +102,7 @@ module _ (b : List ℕ) (at n list count : ℕ) where
   step-parts i l = record { hold = λ own. omega (arith, sum_step count i (entry_weight own) l) }
 
   pub definitions-first : (i : ℕ) {p v : ℕ} (s : Scopes) → p ≡ (definition_entry b list i).pattern → v ≡ (definition_entry b list i).value →
-      definitions_fit b at n list count ≡ true → i < count → ReadyDefinitions b at n list (count - i) i s.next s.top → ReadyTwo b at n is_pattern p v s
+      definitions_fit b at n list count ≡ true → i < count → ReadyDefinitions b at n list (count - i) i s.next (depth s) → ReadyTwo b at n is_pattern p v s
   unfolding definitions_fit
   definitions-first i s ep ev f l R =
       let w = every-at count i _ f l in
@@ -115,12 +118,12 @@ module _ (b : List ℕ) (at n list count : ℕ) where
       })
 
   pub definitions-rest : (i : ℕ) {p v : ℕ} {s s₁ : Scopes} → p ≡ (definition_entry b list i).pattern → v ≡ (definition_entry b list i).value → i < count →
-      ReadyDefinitions b at n list (count - i) i s.next s.top → DefinitionWalk b at n p v s s₁ →
-      ReadyDefinitions b at n list (count - (i + 1)) (i + 1) s₁.next s₁.top
+      ReadyDefinitions b at n list (count - i) i s.next (depth s) → DefinitionWalk b at n p v s s₁ →
+      ReadyDefinitions b at n list (count - (i + 1)) (i + 1) s₁.next (depth s₁)
   definitions-rest i {s = s} {s₁ = s₁} ep ev l R u = record { walk = R.walk; room = room-second (step-parts i l) R.room (rw (ep, ev) at u.few) u.same_top }
 
   pub definitions-step : (i : ℕ) {p v : ℕ} {s s₁ s₂ : Scopes} → p ≡ (definition_entry b list i).pattern → v ≡ (definition_entry b list i).value →
-      i < count → ReadyDefinitions b at n list (count - i) i s.next s.top → DefinitionWalk b at n p v s s₁ →
+      i < count → ReadyDefinitions b at n list (count - i) i s.next (depth s) → DefinitionWalk b at n p v s s₁ →
       DefinitionsWalk b at n list (count - (i + 1)) (i + 1) s₁ s₂ → DefinitionsWalk b at n list (count - i) i s s₂
   unfolding number_definitions ◌>>=◌ return definition_at numbered_definition
   definitions-step i {s = s} {s₁ = s₁} ep ev l R u w =
@@ -150,19 +153,19 @@ module _ (b : List ℕ) (at n list count : ℕ) where
   turn-parts i l = record { hold = λ own. omega (arith, sum_step count i (λ k. weight b at own (expression_root b list k)) l) }
 
   pub expressions-first : (i : ℕ) {e : ℕ} (s : Scopes) → e ≡ expression_root b list i → expressions_fit b at n list count ≡ true → i < count →
-      ReadyExpressions b at n list (count - i) i s.next s.top → Ready b at n is_expression e s
+      ReadyExpressions b at n list (count - i) i s.next (depth s) → Ready b at n is_expression e s
   unfolding expressions_fit
   expressions-first i s ee f l R =
       let x = expression-item b at n R.walk n (expression_root b list i) (every-at count i _ f l) in
       rw ee (record { walk = R.walk; below = x.0; sorted = x.1; room = room-first (turn-parts i l) R.room })
 
   pub expressions-rest : (i : ℕ) {e : ℕ} {s s₁ : Scopes} → e ≡ expression_root b list i → i < count →
-      ReadyExpressions b at n list (count - i) i s.next s.top → ExpressionWalk b at n e s s₁ →
-      ReadyExpressions b at n list (count - (i + 1)) (i + 1) s₁.next s₁.top
+      ReadyExpressions b at n list (count - i) i s.next (depth s) → ExpressionWalk b at n e s s₁ →
+      ReadyExpressions b at n list (count - (i + 1)) (i + 1) s₁.next (depth s₁)
   expressions-rest i {s = s} {s₁ = s₁} ee l R u = record { walk = R.walk; room = room-second (turn-parts i l) R.room (rw ee at u.few) u.same_top }
 
   pub expressions-step : (i : ℕ) {e : ℕ} {s s₁ s₂ : Scopes} → e ≡ expression_root b list i →
-      i < count → ReadyExpressions b at n list (count - i) i s.next s.top → ExpressionWalk b at n e s s₁ →
+      i < count → ReadyExpressions b at n list (count - i) i s.next (depth s) → ExpressionWalk b at n e s s₁ →
       ExpressionsWalk b at n list (count - (i + 1)) (i + 1) s₁ s₂ → ExpressionsWalk b at n list (count - i) i s s₂
   unfolding number_expressions ◌>>=◌ return expression_at numbered_expression
   expressions-step i {s = s} {s₁ = s₁} ee l R u w =

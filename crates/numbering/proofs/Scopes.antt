@@ -1,20 +1,22 @@
 -- Walks put together: one after the other, and in a scope. Assumes nothing.
 use Prim.Native.Nat.{ℕ, suc, ◌+◌, ◌-◌, ◌≤◌, ◌<◌}
 use mathlib.Core.Path.{◌≡◌, refl, ap, ◌∙◌}
-use mathlib.Core.List.{List, ◌∷◌}
+use mathlib.Core.List.{List, [], ◌∷◌, ◌++◌}
 use mathlib.Core.Bool.{Bool, true}
 use mathlib.Core.Logic.{⊎_elim}
 use native.Mathlib.Numerals.{add-one}
 use native.Mathlib.Omega.{arith}
 use lib.ListN.{length, get_or, set}
-use lib.Seq.{get_or-set_same, get_or-set_other}
+use lib.Seq.{get_or-append_seam, get_or-set_same, get_or-set_other}
 use Rattle.std.specs.Prelude.{Some, None}
 use Rattle.marks.specs.Indices.{same}
 use Rattle.numbering.specs.Numbering.{Ids, Names, Naming, number_variable}
-use Rattle.numbering.specs.Walks.{names, undone, unwound, bound_to, unwound_to, each, Sized, Room, Else, Agree, Bound, Walked, Chosen}
+use Rattle.numbering.specs.Walks.{names, depth, no_undo, undone, unwound, bound_to, unwound_to, each, Sized, Room, Else, Agree, Bound, Walked, Chosen}
 use Rattle.numbering.specs.declared.rows.Scopes.{Scopes}
 use Rattle.numbering.specs.declared.rows.Undo.{Undo}
 use Rattle.std.proofs.lemmas.Bool.{cases_eq, cases_lt}
+use Rattle.std.proofs.lemmas.List.{get_or_append_left, get_or-take, length-append, length-take}
+use Rattle.arrayvec.specs.ArrayVec.{ArrayVec, array_vec_len}
 use Rattle.numbering.proofs.Laws.{not-both}
 use Rattle.marks.proofs.Indices.{same-yes}
 use Rattle.numbering.proofs.Held.{held-same, held_more, unwound-none, unwound-parts, unwound-same, unwound-bound}
@@ -89,7 +91,7 @@ bound-none {s = s} is = record {
   same_globals = refl;
   undo-below = λ i l. refl;
   undo-names = λ i l m. absurd (omega arith);
-  unwinds = unwound-none s.undo s.top s.locals (omega arith);
+  unwinds = unwound-none s.undo.items (depth s) s.locals (omega arith);
   elsewhere = λ j l. refl;
   unnamed = λ j l. refl;
   numbers = λ l g final h e a. (l, (rw (← e) (is l g final), h));
@@ -99,24 +101,24 @@ bound-none {s = s} is = record {
 abbrev pub drawn : ℕ → Ids → Naming (ℕ × Ids)
 drawn x l g = ((g.next, ((x, g.next) ∷ l)), names g.globals (suc g.next))
 
-pub bound-one : {named : ℕ → Bool} (x k : ℕ) {s s' : Scopes} → named k ≡ true → x < 512 → k < 2048 → s.top < 2048
+pub bound-one : {named : ℕ → Bool} (x k : ℕ) {s s' : Scopes} → named k ≡ true → x < 512 → k < 2048 → depth s < 2048
     → Sized s → s' ≡ bound_to x k s
     → Bound named (λ own. own k) (drawn x) (λ t. get_or t k 0) s s'
 unfolding each
 bound-one {named} x k {s} nk xl kl tl z is = rw is (record {
   more = omega arith;
   few = omega arith;
-  entries = omega arith;
+  entries = omega (arith, longer);
   same_globals = refl;
-  undo-below = λ i l. get_or-set_other s.undo s.top i entry nothing (λ e. omega arith);
+  undo-below = λ i l. get_or_append_left s.undo.items (entry ∷ []) nothing i l;
   undo-names = λ i l m.
-      let e : i ≡ s.top = omega arith in
-      let q : (undone (set s.undo s.top entry) i).name ≡ x = ap (λ (j : ℕ). (undone (set s.undo s.top entry) j).name) e
-      ∙ ap (λ (u : Undo). u.name) (get_or-set_same s.undo s.top entry nothing (omega (arith, z.entries))) in
+      let e : i ≡ depth s = omega (arith, longer) in
+      let q : (undone (s.undo.items ++ entry ∷ []) i).name ≡ x = ap (λ (j : ℕ). (undone (s.undo.items ++ entry ∷ []) j).name) e
+      ∙ ap (λ (u : Undo). u.name) (get_or-append_seam s.undo.items entry [] nothing) in
       omega arith;
   unwinds =
-      let e : s.top + 1 - s.top ≡ 1 = omega arith in
-      rw e (unwound-bound s.undo s.top x (Some s.next) s.locals (omega (arith, z.entries)));
+      let e : length (s.undo.items ++ entry ∷ []) - depth s ≡ 1 = omega (arith, longer) in
+      rw e (unwound-bound s.undo.items x (Some s.next) s.locals);
   elsewhere = λ j l. get_or-set_other s.ids k j s.next 0 (λ (e : j ≡ k). omega (arith, same-yes j k e));
   unnamed = λ j l. get_or-set_other s.ids k j s.next 0 (λ (e : j ≡ k). not-both (rw e at l) nk);
   numbers = λ l g final h e a.
@@ -130,6 +132,9 @@ bound-one {named} x k {s} nk xl kl tl z is = rw is (record {
 
     nothing : Undo
     nothing = record { name = 0; before = None }
+
+    longer : length (s.undo.items ++ entry ∷ []) ≡ depth s + 1
+    longer = length-append s.undo.items (entry ∷ [])
 
 -- the same by another name
 pub bound-as-is : {A B : Type 0} {named : ℕ → Bool} {w u : Weight} {f : Ids → Naming (A × Ids)} {value : List ℕ → A} {s s' : Scopes}
@@ -153,7 +158,7 @@ bound-as-is f' value' make p is val r = record {
 
 -- one pattern, then another
 pub bound-two : {A B C : Type 0} {named : ℕ → Bool} {w u v : Weight} {f : Ids → Naming (A × Ids)} {one : List ℕ → A} {g : Ids → Naming (B × Ids)}
-    {two : List ℕ → B} {s s₁ s₂ : Scopes} (both : Ids → Naming (C × Ids)) (value : List ℕ → C) (make : A → B → C) → Parts w u v → Room w s.next s.top
+    {two : List ℕ → B} {s s₁ s₂ : Scopes} (both : Ids → Naming (C × Ids)) (value : List ℕ → C) (make : A → B → C) → Parts w u v → Room w s.next (depth s)
     → ((l : Ids) (h : Names) (a : A) (l₁ : Ids) (h₁ : Names) (b : B) (l₂ : Ids) (h₂ : Names) → f l h ≡ ((a, l₁), h₁)
     → g l₁ h₁ ≡ ((b, l₂), h₂) → both l h ≡ ((make a b, l₂), h₂)) → ((t : List ℕ) → value t ≡ make (one t) (two t))
     → Bound named u f one s s₁ → Bound named v g two s₁ s₂ → Bound named w both value s s₂
@@ -164,17 +169,17 @@ bound-two {s = s} {s₁ = s₁} {s₂ = s₂} both value make p room is val r q 
   same_globals = q.same_globals ∙ r.same_globals;
   undo-below = λ i l. q.undo-below i (omega (arith, r.entries)) ∙ r.undo-below i l;
   undo-names = λ i l m. ⊎_elim
-      (λ (z : i < s₁.top). rw (q.undo-below i z) (r.undo-names i l z))
-      (λ (z : s₁.top ≤ i). q.undo-names i z m)
-      (cases_lt i s₁.top);
+      (λ (z : i < depth s₁). rw (q.undo-below i z) (r.undo-names i l z))
+      (λ (z : depth s₁ ≤ i). q.undo-names i z m)
+      (cases_lt i (depth s₁));
   unwinds =
-      let e : s₂.top - s.top ≡ (s₁.top - s.top) + (s₂.top - s₁.top) = omega (arith, r.entries, q.entries) in
-      let t : s.top + (s₁.top - s.top) ≡ s₁.top = omega (arith, r.entries) in
-      ap (λ (m : ℕ). unwound s₂.undo s.top m s₂.locals) e
-      ∙ unwound-parts s₂.undo s.top (s₁.top - s.top) (s₂.top - s₁.top) s₂.locals
-      ∙ ap (λ (m : ℕ). unwound s₂.undo s.top (s₁.top - s.top) (unwound s₂.undo m (s₂.top - s₁.top) s₂.locals)) t
-      ∙ ap (unwound s₂.undo s.top (s₁.top - s.top)) q.unwinds
-      ∙ unwound-same s₁.undo s₂.undo s.top (s₁.top - s.top) s₁.locals (λ i l. q.undo-below i (omega arith))
+      let e : depth s₂ - depth s ≡ (depth s₁ - depth s) + (depth s₂ - depth s₁) = omega (arith, r.entries, q.entries) in
+      let t : depth s + (depth s₁ - depth s) ≡ depth s₁ = omega (arith, r.entries) in
+      ap (λ (m : ℕ). unwound s₂.undo.items (depth s) m s₂.locals) e
+      ∙ unwound-parts s₂.undo.items (depth s) (depth s₁ - depth s) (depth s₂ - depth s₁) s₂.locals
+      ∙ ap (λ (m : ℕ). unwound s₂.undo.items (depth s) (depth s₁ - depth s) (unwound s₂.undo.items m (depth s₂ - depth s₁) s₂.locals)) t
+      ∙ ap (unwound s₂.undo.items (depth s) (depth s₁ - depth s)) q.unwinds
+      ∙ unwound-same s₁.undo.items s₂.undo.items (depth s) (depth s₁ - depth s) s₁.locals (λ i l. q.undo-below i (omega arith))
       ∙ r.unwinds;
   elsewhere = both-else s.ids s₁.ids s₂.ids p r.elsewhere q.elsewhere;
   unnamed = λ j z. q.unnamed j z ∙ r.unnamed j z;
@@ -206,9 +211,9 @@ unfolding each
 walked-variable x k {s} {id} {s'} nk kl c = record {
   more = c.more;
   few = c.few;
-  same_top = c.rest.same_top;
+  same_top = ap array_vec_len c.rest.same_undo;
   same_locals = c.rest.same_locals;
-  undo-below = λ i l. ap (λ (u : List Undo). undone u i) c.rest.same_undo;
+  undo-below = λ i l. ap (λ (u : ArrayVec Undo). undone u.items i) c.rest.same_undo;
   elsewhere = λ j l. get_or-set_other s'.ids k j id 0 (λ (e : j ≡ k). omega (arith, same-yes j k e)) ∙ same-id j;
   unnamed = λ j l. get_or-set_other s'.ids k j id 0 (λ (e : j ≡ k). not-both (rw e at l) nk) ∙ same-id j;
   numbers = λ l g final h m e a.
@@ -240,7 +245,7 @@ walked-as-is f' value' make p is val r = record {
 
 -- one expression, then another
 pub walked-two : {A B C : Type 0} {named : ℕ → Bool} {w u v : Weight} {f : Ids → Naming A} {one : List ℕ → A} {g : Ids → Naming B}
-    {two : List ℕ → B} {s s₁ s₂ : Scopes} (both : Ids → Naming C) (value : List ℕ → C) (make : A → B → C) → Parts w u v → Room w s.next s.top
+    {two : List ℕ → B} {s s₁ s₂ : Scopes} (both : Ids → Naming C) (value : List ℕ → C) (make : A → B → C) → Parts w u v → Room w s.next (depth s)
     → ((l : Ids) (h : Names) (a : A) (h₁ : Names) (b : B) (h₂ : Names) → f l h ≡ (a, h₁) → g l h₁ ≡ (b, h₂) → both l h ≡ (make a b, h₂))
     → ((t : List ℕ) → value t ≡ make (one t) (two t)) → Walked named u f one s s₁ → Walked named v g two s₁ s₂ → Walked named w both value s s₂
 walked-two {s = s} {s₁ = s₁} {s₂ = s₂} both value make p room is val r q = record {
@@ -259,20 +264,20 @@ walked-two {s = s} {s₁ = s₁} {s₂ = s₂} both value make p room is val r q
 
 -- what a pattern binds, for an expression; then the rows are unwound
 pub walked-scope : {A B C : Type 0} {named : ℕ → Bool} {w u v : Weight} {f : Ids → Naming (A × Ids)} {one : List ℕ → A} {g : Ids → Naming B}
-    {two : List ℕ → B} {s s₁ s₂ s₃ : Scopes} (both : Ids → Naming C) (value : List ℕ → C) (make : A → B → C) → Parts w u v → Room w s.next s.top
+    {two : List ℕ → B} {s s₁ s₂ s₃ : Scopes} (both : Ids → Naming C) (value : List ℕ → C) (make : A → B → C) → Parts w u v → Room w s.next (depth s)
     → ((l : Ids) (h : Names) (a : A) (l₁ : Ids) (h₁ : Names) (b : B) (h₂ : Names) → f l h ≡ ((a, l₁), h₁) → g l₁ h₁ ≡ (b, h₂) → both l h ≡ (make a b, h₂))
-    → ((t : List ℕ) → value t ≡ make (one t) (two t)) → Bound named u f one s s₁ → Walked named v g two s₁ s₂ → s₃ ≡ unwound_to s.top s₂
+    → ((t : List ℕ) → value t ≡ make (one t) (two t)) → Bound named u f one s s₁ → Walked named v g two s₁ s₂ → s₃ ≡ unwound_to (depth s) s₂
     → Walked named w both value s s₃
 walked-scope {s = s} {s₁ = s₁} {s₂ = s₂} both value make p room is val r q u = rw u (record {
   more = omega (arith, r.more, q.more);
   few = omega (arith, p.hold each, r.few, q.few);
-  same_top = refl;
+  same_top = omega (arith, length-take (depth s) s₂.undo.items, r.entries, q.same_top);
   same_locals =
-      ap (λ (m : ℕ). unwound s₂.undo s.top (m - s.top) s₂.locals) q.same_top
-      ∙ ap (unwound s₂.undo s.top (s₁.top - s.top)) q.same_locals
-      ∙ unwound-same s₁.undo s₂.undo s.top (s₁.top - s.top) s₁.locals (λ i l. q.undo-below i (omega (arith, r.entries)))
+      ap (λ (m : ℕ). unwound s₂.undo.items (depth s) (m - depth s) s₂.locals) q.same_top
+      ∙ ap (unwound s₂.undo.items (depth s) (depth s₁ - depth s)) q.same_locals
+      ∙ unwound-same s₁.undo.items s₂.undo.items (depth s) (depth s₁ - depth s) s₁.locals (λ i l. q.undo-below i (omega (arith, r.entries)))
       ∙ r.unwinds;
-  undo-below = λ i l. q.undo-below i (omega (arith, r.entries)) ∙ r.undo-below i l;
+  undo-below = λ i l. get_or-take (depth s) s₂.undo.items i no_undo l ∙ q.undo-below i (omega (arith, r.entries)) ∙ r.undo-below i l;
   elsewhere = both-else s.ids s₁.ids s₂.ids p r.elsewhere q.elsewhere;
   unnamed = λ j z. q.unnamed j z ∙ r.unnamed j z;
   numbers = λ l g final h k e a.

@@ -18,7 +18,7 @@ use Rattle.source.specs.Nodes.{entry_of, children_of, three, is_expression, is_p
 use Rattle.source.specs.Record.{Tree, tree, expression_of}
 use Rattle.numbering.specs.Numbering.{Ids, Names, Naming, ◌>>=◌, return, number_expr_variables, number_items, number_arms}
 use Rattle.numbering.specs.Numbers.{is_name, bears, entry_with, form_with, numbered_tree}
-use Rattle.numbering.specs.Walks.{weight, chain_weight, each, unwound_to, Room, Ready, ReadyTwo}
+use Rattle.numbering.specs.Walks.{depth, weight, chain_weight, each, unwound_to, Room, Ready, ReadyTwo}
 use Rattle.numbering.specs.Walks.{ReadyFunction, ReadyChain, Chosen, number_scope, number_function}
 use Rattle.numbering.specs.Walks.{PatternWalk, ParameterWalk, ExpressionWalk, ScopeWalk, FunctionWalk, ItemWalk, ArmWalk}
 use Rattle.numbering.specs.declared.rows.Scopes.{Scopes}
@@ -36,12 +36,12 @@ whole_parts u v = record { hold = λ own. omega arith }
 -- ---- a pattern, or parameters, and an expression in their scope
 
 pub scope-way : {b : List ℕ} {at n p y : ℕ} {s s₁ s₂ s₃ : Scopes} → ReadyTwo b at n is_pattern p y s → PatternWalk b at n p s s₁
-    → ExpressionWalk b at n y s₁ s₂ → s₃ ≡ unwound_to s.top s₂ → ScopeWalk b at n p y s s₃
+    → ExpressionWalk b at n y s₁ s₂ → s₃ ≡ unwound_to (depth s) s₂ → ScopeWalk b at n p y s s₃
 unfolding number_scope ◌>>=◌ return
 scope-way R u v w = walked-scope _ _ (λ p q. (p, q)) (whole_parts _ _) R.room (λ l t p l₁ t₁ q t₂ g h. rw (g, h)) (λ t. refl) u v w
 
 pub body-way : {b : List ℕ} {at n l y : ℕ} {s s₁ s₂ s₃ : Scopes} → ReadyFunction b at n l y s → ParameterWalk b at n l s s₁
-    → ExpressionWalk b at n y s₁ s₂ → s₃ ≡ unwound_to s.top s₂ → FunctionWalk b at n l y s s₃
+    → ExpressionWalk b at n y s₁ s₂ → s₃ ≡ unwound_to (depth s) s₂ → FunctionWalk b at n l y s s₃
 unfolding number_function ◌>>=◌ return
 body-way R u v w = walked-scope _ _ (λ p q. (p, q)) (whole_parts _ _) R.room (λ l t p l₁ t₁ q t₂ g h. rw (g, h)) (λ t. refl) u v w
 
@@ -172,7 +172,7 @@ operands (inr (inr (inr e))) = rw e refl
 
 module _ {b : List ℕ} {at n k : ℕ} {s : Scopes} (R : Ready b at n is_expression k s) where
   -- a child that is an expression
-  child : {x : ℕ} {s₁ : Scopes} → (x < k) × (is_expression (entry_of b at x) ≡ true) → Room (λ own. weight b at own x) s₁.next s₁.top
+  child : {x : ℕ} {s₁ : Scopes} → (x < k) × (is_expression (entry_of b at x) ≡ true) → Room (λ own. weight b at own x) s₁.next (depth s₁)
       → (x < k) × Ready b at n is_expression x s₁
   child i r = (i.0, record { walk = R.walk; below = omega (arith, i.0, R.below); sorted = i.1; room = r })
 

@@ -1,5 +1,5 @@
 -- For the contracts of numbering's private functions: what its rows hold, how its undo list is unwound, and what a walk over a node leaves.
-use Rattle.std.specs.Prelude.{ℕ, zero, suc, ◌+◌, ◌*◌, ◌-◌, ◌≤◌, ◌<◌, ◌≡◌, List, [], ◌++◌, Bool, true, false, length, get_or, set, replicate, eqb}
+use Rattle.std.specs.Prelude.{ℕ, zero, suc, ◌+◌, ◌*◌, ◌-◌, ◌≤◌, ◌<◌, ◌≡◌, List, [], ◌∷◌, ◌++◌, Bool, true, false, length, get_or, set, take, replicate, eqb}
 use Rattle.std.proofs.Math.Option.{Option, none, some}
 use Rattle.source.specs.declared.Chain.{Chain}
 use Rattle.std.specs.Prelude.{Option as Maybe, Some, None}
@@ -17,6 +17,7 @@ use Rattle.numbering.specs.Numbering.{number_def_variables, number_definitions, 
 use Rattle.numbering.specs.Numbers.{bears, numbered_tree, numbered_definition, numbered_expression}
 use Rattle.numbering.specs.declared.rows.Scopes.{Scopes}
 use Rattle.numbering.specs.declared.rows.Undo.{Undo}
+use Rattle.arrayvec.specs.ArrayVec.{array_vec_len}
 use Rattle.records.specs.FlatRecord.{IDS}
 use Rattle.records.specs.Intrinsics.{FIRST-FREE-ID}
 use Rattle.records.specs.SourceRecord.{NAMES, NODES, PUBLICS}
@@ -34,6 +35,10 @@ abbrev pub names : Ids → ℕ → Names
 names g n = record { globals = g; next = n }
 
 -- ---- the undo list: names, and what their rows held before; n entries from `base` on are undone from the last to the first
+-- how many entries the undo list has
+abbrev pub depth : Scopes → ℕ
+depth s = array_vec_len s.undo
+
 abbrev pub no_undo : Undo
 no_undo = record { name = 0; before = None }
 
@@ -61,15 +66,14 @@ no_publics = replicate PUBLICS 0
 
 -- no name has an id
 abbrev pub no_scopes : Scopes
-no_scopes = record { locals = no_row; globals = no_row; undo = replicate NODES no_undo; top = 0; ids = no_entries; next = FIRST-FREE-ID }
+no_scopes = record { locals = no_row; globals = no_row; undo = record { items = [] }; ids = no_entries; next = FIRST-FREE-ID }
 
 -- name x bound to the next id, at node k
 abbrev pub bound_to : ℕ → ℕ → Scopes → Scopes
 bound_to x k s = record {
   locals = set s.locals x (Some s.next);
   globals = s.globals;
-  undo = set s.undo s.top (record { name = x; before = get_or s.locals x None });
-  top = s.top + 1;
+  undo = record { items = s.undo.items ++ record { name = x; before = get_or s.locals x None } ∷ [] };
   ids = set s.ids k s.next;
   next = s.next + 1;
 }
@@ -77,10 +81,9 @@ bound_to x k s = record {
 -- the entries from `base` on undone
 abbrev pub unwound_to : ℕ → Scopes → Scopes
 unwound_to base s = record {
-  locals = unwound s.undo base (s.top - base) s.locals;
+  locals = unwound s.undo.items base (depth s - base) s.locals;
   globals = s.globals;
-  undo = s.undo;
-  top = base;
+  undo = record { items = take base s.undo.items };
   ids = s.ids;
   next = s.next;
 }
@@ -88,14 +91,12 @@ unwound_to base s = record {
 -- an array's length is part of its type, and not of its list
 pub record Sized (s : Scopes) : Type 0 where
   pub rows : length s.locals ≡ NAMES
-  pub entries : length s.undo ≡ NODES
   pub nodes : length s.ids ≡ NODES
 
 -- nothing but the globals, and the next id
 pub record OnlyGlobals (s s' : Scopes) : Type 0 where
   pub same_locals : s'.locals ≡ s.locals
   pub same_undo : s'.undo ≡ s.undo
-  pub same_top : s'.top ≡ s.top
   pub same_ids : s'.ids ≡ s.ids
 
 -- ---- the nodes of a node's tree
@@ -138,7 +139,7 @@ pub record Ready (b : List ℕ) (at n : ℕ) (sort : Maybe Node → Bool) (k : �
   pub walk : Walkable b at n
   pub below : k < n
   pub sorted : sort (entry_of b at k) ≡ true
-  pub room : Room (λ own. weight b at own k) s.next s.top
+  pub room : Room (λ own. weight b at own k) s.next (depth s)
 
 -- at two nodes, the second an expression
 pub record ReadyTwo (b : List ℕ) (at n : ℕ) (sort : Maybe Node → Bool) (x y : ℕ) (s : Scopes) : Type 0 where
@@ -147,7 +148,7 @@ pub record ReadyTwo (b : List ℕ) (at n : ℕ) (sort : Maybe Node → Bool) (x 
   pub second_below : y < n
   pub first-sorted : sort (entry_of b at x) ≡ true
   pub second-sorted : is_expression (entry_of b at y) ≡ true
-  pub room : Room (λ own. weight b at own x + weight b at own y) s.next s.top
+  pub room : Room (λ own. weight b at own x + weight b at own y) s.next (depth s)
 
 -- at the parameters from link l on, and a body
 pub record ReadyFunction (b : List ℕ) (at n l y : ℕ) (s : Scopes) : Type 0 where
@@ -156,13 +157,13 @@ pub record ReadyFunction (b : List ℕ) (at n l y : ℕ) (s : Scopes) : Type 0 w
   pub second_below : y < n
   pub chained : chain_fits b at Chain.Parameters (suc l) l ≡ true
   pub second-sorted : is_expression (entry_of b at y) ≡ true
-  pub room : Room (λ own. chain_weight b at n own Chain.Parameters l + weight b at own y) s.next s.top
+  pub room : Room (λ own. chain_weight b at n own Chain.Parameters l + weight b at own y) s.next (depth s)
 
 pub record ReadyChain (b : List ℕ) (at n : ℕ) (h : Chain) (l : ℕ) (s : Scopes) : Type 0 where
   pub walk : Walkable b at n
   pub below : l < n
   pub chained : chain_fits b at h (suc l) l ≡ true
-  pub room : Room (λ own. chain_weight b at n own h l) s.next s.top
+  pub room : Room (λ own. chain_weight b at n own h l) s.next (depth s)
 
 -- ---- what a walk leaves
 
@@ -178,11 +179,11 @@ Agree w s t = (j : ℕ) → 0 < w (same j) → get_or t j 0 ≡ get_or s j 0
 pub record Bound {A : Type 0} (named : ℕ → Bool) (w : (ℕ → ℕ) → ℕ) (numbering : Ids → Naming (A × Ids)) (value : List ℕ → A) (s s' : Scopes) : Type 0 where
   pub more : s.next ≤ s'.next
   pub few : s'.next ≤ s.next + w each
-  pub entries : s'.top ≡ s.top + (s'.next - s.next)
+  pub entries : depth s' ≡ depth s + (s'.next - s.next)
   pub same_globals : s'.globals ≡ s.globals
-  pub undo-below : SameBelow s.top s.undo s'.undo
-  pub undo-names : (i : ℕ) → s.top ≤ i → i < s'.top → (undone s'.undo i).name < NAMES
-  pub unwinds : unwound s'.undo s.top (s'.top - s.top) s'.locals ≡ s.locals
+  pub undo-below : SameBelow (depth s) s.undo.items s'.undo.items
+  pub undo-names : (i : ℕ) → depth s ≤ i → i < depth s' → (undone s'.undo.items i).name < NAMES
+  pub unwinds : unwound s'.undo.items (depth s) (depth s' - depth s) s'.locals ≡ s.locals
   pub elsewhere : Else w s.ids s'.ids
   pub unnamed : (j : ℕ) → named j ≡ false → get_or s'.ids j 0 ≡ get_or s.ids j 0
   pub numbers : (l : Ids) (g : Names) (final : List ℕ) → Holds s.locals l → g.next ≡ s.next → Agree w s'.ids final
@@ -192,9 +193,9 @@ pub record Bound {A : Type 0} (named : ℕ → Bool) (w : (ℕ → ℕ) → ℕ)
 pub record Walked {A : Type 0} (named : ℕ → Bool) (w : (ℕ → ℕ) → ℕ) (numbering : Ids → Naming A) (value : List ℕ → A) (s s' : Scopes) : Type 0 where
   pub more : s.next ≤ s'.next
   pub few : s'.next ≤ s.next + w each
-  pub same_top : s'.top ≡ s.top
+  pub same_top : depth s' ≡ depth s
   pub same_locals : s'.locals ≡ s.locals
-  pub undo-below : SameBelow s.top s.undo s'.undo
+  pub undo-below : SameBelow (depth s) s.undo.items s'.undo.items
   pub elsewhere : Else w s.ids s'.ids
   pub unnamed : (j : ℕ) → named j ≡ false → get_or s'.ids j 0 ≡ get_or s.ids j 0
   pub numbers : (l : Ids) (g : Names) (final : List ℕ) → Holds s.locals l → Holds s.globals g.globals → g.next ≡ s.next → Agree w s'.ids final
@@ -276,7 +277,7 @@ expressions_weight b at list m i own = sum_from m i (λ k. weight b at own (expr
 pub record Defined {A : Type 0} (named : ℕ → Bool) (w : (ℕ → ℕ) → ℕ) (numbering : Ids → Naming (A × Ids)) (value : List ℕ → A) (s s' : Scopes) : Type 0 where
   pub more : s.next ≤ s'.next
   pub few : s'.next ≤ s.next + w each
-  pub same_top : s'.top ≡ s.top
+  pub same_top : depth s' ≡ depth s
   pub elsewhere : Else w s.ids s'.ids
   pub unnamed : (j : ℕ) → named j ≡ false → get_or s'.ids j 0 ≡ get_or s.ids j 0
   pub numbers : (l : Ids) (g : Names) (final : List ℕ) → Holds s.locals l → Holds s.globals g.globals → g.next ≡ s.next → Agree w s'.ids final

@@ -17,7 +17,7 @@ impl Scopes {
         requires { ReadyTwo nodes.now.bytes.now nodes.now.at nodes.now.count is_pattern p y self.old }
         ensures { ScopeWalk nodes.now.bytes.now nodes.now.at nodes.now.count p y self.old self.new }
     {
-        let base = self.top;
+        let base = self.undo.len();
         self.number_pattern_variables(nodes, p);
         self.number_expr_variables(nodes, y);
         self.unwind(base);
@@ -29,7 +29,7 @@ impl Scopes {
         requires { ReadyFunction nodes.now.bytes.now nodes.now.at nodes.now.count l y self.old }
         ensures { FunctionWalk nodes.now.bytes.now nodes.now.at nodes.now.count l y self.old self.new }
     {
-        let base = self.top;
+        let base = self.undo.len();
         self.number_parameters(nodes, l);
         self.number_expr_variables(nodes, y);
         self.unwind(base);

@@ -1,27 +1,27 @@
 // The rows: a name's id, if it has one; the undo list has each bound name, and what its row held before.
 // Kept as it is: two arrays by name, not one of pairs: the definitions have locals and globals apart, and a scope's end restores locals alone.
 ghost use Rattle.std.specs.Prelude.{◌≡◌, ℕ, ◌≤◌, ◌<◌};
-ghost use Rattle.numbering.specs.Walks.{Sized, Chosen, undone, no_scopes, bound_to, unwound_to};
+ghost use Rattle.numbering.specs.Walks.{Sized, Chosen, depth, undone, no_scopes, bound_to, unwound_to};
 ghost use Rattle.records.specs.FlatRecord.{IDS};
 ghost use Rattle.records.specs.SourceRecord.{NAMES, NODES};
 
+use arrayvec::ArrayVec;
 use records::intrinsics::FIRST_FREE_ID;
 use records::source_record::{NAMES, NODES};
 
 // A name that a pattern bound, and what its row held before.
-#[derive(Clone, Copy)]
+#[derive(Clone, Copy, Default)]
 pub struct Undo {
     pub name: u32,
     pub before: Option<u32>,
 }
 
-// What numbering changes: the rows of the locals and of the globals, the undo list with its length, the id of each node, and the next free id.
+// What numbering changes: the rows of the locals and of the globals, the undo list, the id of each node, and the next free id.
 #[derive(Drop)]
 pub struct Scopes {
     pub locals: [Option<u32>; NAMES],
     pub globals: [Option<u32>; NAMES],
-    pub undo: [Undo; NODES],
-    pub top: usize,
+    pub undo: ArrayVec<Undo, NODES>,
     pub ids: [u32; NODES],
     pub next: u32,
 }
@@ -34,11 +34,7 @@ impl Scopes {
         Scopes {
             locals: [None; NAMES],
             globals: [None; NAMES],
-            undo: [Undo {
-                name: 0,
-                before: None,
-            }; NODES],
-            top: 0,
+            undo: ArrayVec::new(),
             ids: [0; NODES],
             next: FIRST_FREE_ID,
         }
@@ -62,15 +58,14 @@ impl Scopes {
 
     // A new id for name x, at node k: what its row held goes to the undo list.
     pub fn bind(&mut self, x: usize, k: usize)
-        requires { ((x < NAMES) × (k < NODES)) × ((self.old.next < IDS) × (self.old.top < NODES)) }
+        requires { ((x < NAMES) × (k < NODES)) × ((self.old.next < IDS) × (depth self.old < NODES)) }
         ensures bound { self.new ≡ bound_to x k self.old }
         ensures sized { Sized self.old }
     {
-        self.undo[self.top] = Undo {
+        self.undo.push(Undo {
             name: x as u32,
             before: self.locals[x],
-        };
-        self.top += 1;
+        });
         self.ids[k] = self.next;
         self.locals[x] = Some(self.next);
         self.next += 1;
@@ -78,15 +73,14 @@ impl Scopes {
 
     // The end of a scope: the entries of the undo list from `base` on are undone, the last first.
     pub fn unwind(&mut self, base: usize)
-        requires within { (base ≤ self.old.top) × (self.old.top ≤ NODES) }
-        requires names { (i : ℕ) → base ≤ i → i < self.old.top → (undone self.old.undo i).name < NAMES }
+        requires within { base ≤ depth self.old }
+        requires names { (i : ℕ) → base ≤ i → i < depth self.old → (undone self.old.undo.items i).name < NAMES }
         ensures { self.new ≡ unwound_to base self.old }
     {
-        // Kept as it is: `.iter().rev()` lends the undo list while the rows beside it are written, and no proof of that closed.
-        for i in (base..self.top).rev() {
-            let entry = self.undo[i];
+        // Kept as it is: with `for .. in self.undo.drain(base..).rev()` nothing is known of the list that the loop's end gives back.
+        let mut entries = self.undo.drain(base..);
+        while let Some(entry) = entries.next_back() {
             self.locals[entry.name as usize] = entry.before;
         }
-        self.top = base;
     }
 }

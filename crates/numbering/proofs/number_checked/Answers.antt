@@ -2,7 +2,8 @@
 use Rattle.std.proofs.Common.{◌≡◌, ℕ, [], ◌≤◌, ◌+◌, arith, ap, sym, ◌∙◌, length}
 use Rattle.std.proofs.Math.ListN.{length-replicate}
 use Rattle.numbering.specs.Outcome.{Outcome}
-use Rattle.numbering.specs.Walks.{Holds, no_entries, no_publics}
+use Rattle.arrayvec.specs.ArrayVec.{array_vec_len}
+use Rattle.numbering.specs.Walks.{Holds, depth, no_entries, no_publics}
 use Rattle.numbering.specs.declared.rows.Scopes.{Scopes}
 use Rattle.numbering.specs.declared.Numbering.{Numbering}
 use Rattle.numbering.proofs.Entire.{no-row-holds, names-asked, nodes-asked, publics-asked, definitions-asked, expressions-asked, entire-at}
@@ -18,9 +19,9 @@ next_few c =
     let e : c.register_intrinsics.new.self.next ≡ 9 = c.register_intrinsics.ensures.rest.1 ∙ ap (λ (s : Scopes). s.next) c.new-scopes.ensures in
     omega (arith, c.number_publics-publics.ensures.few, e)
 
-top_none : (c : After-number_publics-publics) → c.number_publics-publics.new.self.top ≡ 0
+top_none : (c : After-number_publics-publics) → depth c.number_publics-publics.new.self ≡ 0
 top_none c =
-    c.number_publics-publics.ensures.rest.same_top ∙ c.register_intrinsics.ensures.rest.0.same_top ∙ ap (λ (s : Scopes). s.top) c.new-scopes.ensures
+    ap array_vec_len (c.number_publics-publics.ensures.rest.same_undo ∙ c.register_intrinsics.ensures.rest.0.same_undo) ∙ ap depth c.new-scopes.ensures
 
 pub invariant_of-names : goal.invariant_of-names
 invariant_of-names c = let w = names-asked _ c.requires.1 _ c.layout_of-l.ensures in record { listed = w.0.1; fit = w.0.0; few = w.1 }

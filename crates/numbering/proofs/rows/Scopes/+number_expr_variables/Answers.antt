@@ -1,14 +1,20 @@
-use Rattle.std.proofs.Common.{◌≡◌, arith, sym, ap, ◌∙◌}
+use Rattle.std.proofs.Common.{◌≡◌, ℕ, arith, sym, ap, ◌∙◌}
 use Rattle.numbering.proofs.Laws.{at-node, in-scope}
 use Rattle.std.specs.Prelude.{Option, Some}
 use Rattle.source.specs.declared.Node.{Node}
 use Rattle.source.specs.declared.Form.{Form}
+use Rattle.numbering.specs.Walks.{unwound_to}
+use Rattle.numbering.specs.declared.rows.Scopes.{Scopes}
 use Rattle.numbering.proofs.Children.{link-read, link-alone, expression-read, expression-alone}
 use Rattle.numbering.proofs.Ways.{scope-way, body-way, item-first, item-rest, item-last-way, item-more-way, arm-first, arm-rest, arm-last-way, arm-more-way}
 use Rattle.numbering.proofs.Ways.{operands, two-first, two-second, operands-way, negate-ready, negate-way, variable-ready, variable-way}
 use Rattle.numbering.proofs.Ways.{function-ready, function-way, let-first, let-second, let-way, match-first, match-second, match-way}
 use Rattle.numbering.proofs.Ways.{sequence-ready, sequence-way, leaf-way}
 use Rattle.numbering.proofs.rows.Scopes.+number_expr_variables.Goals as goal
+
+-- the undo list's length where a scope begins
+from : (s : Scopes) {s' : Scopes} {n m : ℕ} → n ≡ m → s' ≡ unwound_to n s → s' ≡ unwound_to m s
+from s e u = u ∙ ap (λ (k : ℕ). unwound_to k s) e
 
 -- the node that was read
 here : {e : Option Node} {f g : Form} → Some (Node.Expression f) ≡ e → f ≡ g → e ≡ Some (Node.Expression g)
@@ -107,7 +113,8 @@ number_expr_variables-returns-in-Product t c =
     c.number_expr_variables-in-Product.ensures c.number_expr_variables-in-Product-2.ensures
 
 pub number_function-returns : goal.number_function-returns
-number_function-returns t c = body-way c.requires c.number_parameters.ensures c.number_expr_variables.ensures c.unwind.ensures
+number_function-returns t c =
+    body-way c.requires c.number_parameters.ensures c.number_expr_variables.ensures (from _ c.len-base.ensures.value c.unwind.ensures)
 
 pub number_items-returns-in_default : goal.number_items-returns-in_default
 number_items-returns-in_default t c = absurd (link-alone c.requires c.node.ensures c.in_default.not-Link)
@@ -128,7 +135,8 @@ number_items-returns-else-rest-ne-NO_LINK t c =
     item-last-way c.requires (sym c.in-Link.ensures) c.if-rest-ne-NO_LINK.false c.number_expr_variables.ensures
 
 pub number_scope-returns : goal.number_scope-returns
-number_scope-returns t c = scope-way c.requires c.number_pattern_variables.ensures c.number_expr_variables.ensures c.unwind.ensures
+number_scope-returns t c =
+    scope-way c.requires c.number_pattern_variables.ensures c.number_expr_variables.ensures (from _ c.len-base.ensures.value c.unwind.ensures)
 
 pub number_arms-node-requires-clause-read : goal.number_arms-node-requires-clause-read
 number_arms-node-requires-clause-read t c = link-read c.requires

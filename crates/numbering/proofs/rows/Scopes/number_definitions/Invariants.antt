@@ -1,5 +1,5 @@
 use Rattle.std.proofs.Common.{◌-◌}
-use Rattle.numbering.specs.Walks.{ReadyDefinitions, DefinitionsWalk}
+use Rattle.numbering.specs.Walks.{depth, ReadyDefinitions, DefinitionsWalk}
 use Rattle.numbering.specs.declared.rows.Scopes.{Scopes}
 use Rattle.numbering.proofs.rows.Scopes.number_definitions.Given as goal
 
@@ -7,7 +7,7 @@ abbrev pub invariant-loop-i : goal.invariant-loop-i
 invariant-loop-i l =
     let n = l.nodes in
     let b = n.bytes.now in record {
-      ready : ReadyDefinitions b n.at n.count l.list (l.count - l.i) l.i l.self.next l.self.top;
+      ready : ReadyDefinitions b n.at n.count l.list (l.count - l.i) l.i l.self.next (depth l.self);
       left : (s : Scopes) → DefinitionsWalk b n.at n.count l.list (l.count - l.i) l.i l.self s
           → DefinitionsWalk b n.at n.count l.list l.count 0 l.initial.self s;
     }

@@ -1,23 +1,33 @@
-use Rattle.std.proofs.Common.{◌≡◌, ◌-◌, List, ℕ, Option, arith, ap, sym, ◌∙◌, slice_set}
-use Rattle.numbering.specs.Walks.{undone}
-use Rattle.numbering.specs.declared.rows.Scopes.{Scopes}
-use Rattle.numbering.proofs.Held.{unwound-none, unwound-last}
+use Rattle.std.proofs.Common.{List, Option, ℕ, arith, ap, ap₂, sym, ◌∙◌, length}
+use Rattle.arrayvec.specs.Iter.{drain_kept}
+use Rattle.numbering.specs.declared.rows.Undo.{Undo}
+use Rattle.numbering.proofs.Held.{last-names, rest-left, unwound-last, unwound-none}
 use Rattle.numbering.proofs.rows.Scopes.unwind.Goals as goal
 
-pub loop-i-preserved : goal.loop-i-preserved
-loop-i-preserved c =
-    let turn = c.loop-i in
-    let entry = undone turn.self.undo (turn.i - 1) in
-    let e : turn.self.undo ≡ c.args.self.now.undo = ap (λ (s : Scopes). s.undo) turn.invariant.rest in
+pub next_back-requires : goal.next_back-requires
+next_back-requires c = (omega arith, (c.loop-entry.invariant.placed.0, c.loop-entry.invariant.placed.1, omega arith))
+
+pub bounds-self-entry : goal.bounds-self-entry
+bounds-self-entry c = last-names _ _ _ _ _ c.in-Some.ensures.steps.0 c.loop-entry.invariant.items c.requires.names
+
+pub loop-entry-preserved : goal.loop-entry-preserved
+loop-entry-preserved c =
+    let turn = c.loop-entry.invariant in
+    let steps = c.in-Some.ensures.steps in
+    let next = c.in-Some.ensures.goes.keeps in
     record {
-      rows = rw e (unwound-last _ _ _ _ c.loop-i-test.true ∙ turn.invariant.rows);
-      rest = ap (λ (s : Scopes). record s { locals = slice_set turn.self.locals entry.name entry.before }) turn.invariant.rest;
+      rows = unwound-last _ _ _ _ _ steps.0 turn.items _ ∙ turn.rows;
+      items = rest-left c.args.self.now.undo.items c.args.base _ _ _ steps.0 turn.items;
+      lender = steps.1.0 ∙ turn.lender;
+      kept = steps.1.1 ∙ turn.kept;
+      placed = (next.0, next.1);
     }
 
 pub returns : goal.returns
 returns c =
     let first = c.args.self.now in
-    let turn = c.loop-i in
-    let back = sym (unwound-none first.undo c.args.base turn.self.locals (omega arith)) ∙ turn.invariant.rows in
-    ap (λ (s : Scopes). record s { top = c.args.base }) turn.invariant.rest
-    ∙ ap (λ (r : List (Option ℕ)). record first { locals = r; top = c.args.base }) back
+    let turn = c.loop-entry.invariant in
+    let steps = c.in_default.ensures.steps in
+    let rows = sym (unwound-none first.undo.items c.args.base c.loop-entry.self.1.0 (ap length steps.0)) ∙ turn.rows in
+    let kept = c.drop-entries.ensures (omega arith) ∙ ap drain_kept steps.1 ∙ turn.kept in
+    ap₂ (λ (r : List (Option ℕ)) (u : List Undo). record first { locals = r; undo = record { items = u } }) rows kept
