@@ -8,20 +8,16 @@ use eval_write::FLAT_BYTES;
 use source::BYTES;
 use std::rt::Env;
 use streams::{Failed, open_standard};
-use test_report::{CASES_TEXT, Counts, Groups, RUNS, Runs, replay_all};
-use words::count;
+use test_report::{CASES_TEXT, Counts, Groups, RUNS, Runs, Seen, replay_all};
 
-// Bytes of a run.
-const RUN: usize = 8;
+// Words of a run.
+const RUN: usize = 2;
 
 // Room for a store that is longer than can matter.
 const STORE: usize = MOST_UNITS as usize * UNIT_BYTES + 32;
 
 // What stands in the store before a run.
 const UNCLEARED: u8 = 90;
-
-// The answer of a run whose store does not fit here.
-const NONE: u32 = 4294967295;
 
 // What is lent to a run.
 #[derive(Drop)]
@@ -31,18 +27,20 @@ struct Lent {
 
 impl Runs<RUN> for Lent {
     // A run with the front of the store. An accepted one gives the expected record.
-    fn replay_run(&mut self, record: &[u8], expected: &[u8], run: &[u8; RUN]) -> (u32, bool) {
-        let Some(store) = self.store.get_mut(..count(run, 0)) else {
-            return (NONE, false);
-        };
+    fn replay_run(&mut self, record: &[u8], expected: &[u8], run: [u32; RUN]) -> Option<Seen> {
+        let [length, _wanted] = run;
+        let store = self.store.get_mut(..length as usize)?;
         store.fill(UNCLEARED);
         let r = eval_entry::evaluate_source(record, store);
-        let (answered, same) = match r.answer {
-            Ok(n) => (0, n == expected.len() && r.bytes.starts_with(expected)),
-            Err(refusal) => (refusal.number(), true),
+        let same = match r.answer {
+            Ok(n) => n == expected.len() && r.bytes.starts_with(expected),
+            Err(_) => true,
         };
         let cleared = store.iter().all(|b| *b == 0);
-        (answered, same && cleared)
+        Some(Seen {
+            answer: r.answer.map(|_| ()).map_err(|refusal| refusal.number()),
+            right: same && cleared,
+        })
     }
 }
 
@@ -51,7 +49,7 @@ fn run(rt: &(impl Env + Input + Print + Eprint)) -> Result<u64, Failed> {
     let mut groups = Groups {
         record: [0; BYTES],
         expected: [0; FLAT_BYTES],
-        runs: [[0; RUN]; RUNS],
+        runs: [[[0; 4]; RUN]; RUNS],
         lent: Lent { store: [0; STORE] },
     };
     replay_all(rt, &mut groups, &mut Counts::of_verdicts(), CASES_TEXT)

@@ -6,14 +6,11 @@
 use std::rt::Env;
 use streams::{Failed, open_standard};
 use test_report::{
-    CASES_TEXT, Cases, Counts, KINDS_OF_CASES, Stop, Verdict, read_part, read_rest, replay_all,
+    CASES_TEXT, Cases, Counts, KINDS_OF_CASES, Stop, Verdict, read_rest, read_words, replay_all,
     said,
 };
-use words::word_at;
 
-// Bytes of a case's head, and room for the record, the store and the output of each.
-const HEAD: usize = 16;
-
+// Room for the record, the store and the output of each case.
 const RECORD: usize = 345000;
 
 const STORE: usize = 1024;
@@ -72,27 +69,18 @@ impl Cases<KINDS_OF_CASES> for Lent {
         part: u64,
         counts: &mut Counts<KINDS_OF_CASES>,
     ) -> Result<(), Stop> {
-        let flat = &mut self.flat[..];
-        let store = &mut self.store[..];
-        let out = &mut self.out[..];
-        let mut head = [0u8; HEAD];
-        read_part(rt, &mut head)?;
-        let length = word_at(&head, 0) as usize;
-        let room = word_at(&head, 1) as usize;
-        let held = word_at(&head, 2) as usize;
-        let expected = said(word_at(&head, 3));
-        if RECORD < length || STORE < held || OUTPUT < room {
-            return Err(Stop::Broken);
-        }
-        let flat = &mut flat[..length];
+        let [length, room, held, answer] = read_words::<4>(rt)?;
+        let expected = said(answer);
+        let flat = self.flat.get_mut(..length as usize).ok_or(Stop::Broken)?;
+        let store = self.store.get_mut(..held as usize).ok_or(Stop::Broken)?;
+        let out = self.out.get_mut(..room as usize).ok_or(Stop::Broken)?;
         read_rest(rt, flat)?;
         // How many bytes the expected answer writes.
         let n = expected.unwrap_or(0) as usize;
-        if room < n {
+        if out.len() < n {
             return Err(Stop::Broken);
         }
-        let out = &mut out[..room];
-        let right = answers(flat, &mut store[..held], out, n, expected);
+        let right = answers(flat, store, out, n, expected);
         let same = is_next(rt, &out[..n])?;
         let verdict = Verdict::of(right && same, expected.is_ok());
         counts.count_case(rt, verdict as usize, part)?;

@@ -8,11 +8,10 @@ use eval_memory::{MOST_UNITS, UNIT_BYTES};
 use source::BYTES;
 use std::rt::Env;
 use streams::{Failed, open_standard};
-use test_report::{CASES_TEXT, Counts, Groups, RUNS, Runs, replay_all};
-use words::count;
+use test_report::{CASES_TEXT, Counts, Groups, RUNS, Runs, Seen, replay_all};
 
-// Bytes of a run.
-const RUN: usize = 12;
+// Words of a run.
+const RUN: usize = 3;
 
 // Room for a store that is longer than can matter, and for every output.
 const STORE: usize = MOST_UNITS as usize * UNIT_BYTES + 32;
@@ -24,9 +23,6 @@ const UNCLEARED: u8 = 90;
 
 const UNWRITTEN: u8 = 165;
 
-// The answer of a run whose store or output does not fit here.
-const NONE: u32 = 4294967295;
-
 // What is lent to a run.
 #[derive(Drop)]
 struct Lent {
@@ -37,22 +33,24 @@ struct Lent {
 impl Runs<RUN> for Lent {
     // A run with the fronts of the store and of the output. An accepted one gives the expected record; what stands behind it, and all of
     // the output of a refused one, is left.
-    fn replay_run(&mut self, record: &[u8], expected: &[u8], run: &[u8; RUN]) -> (u32, bool) {
-        let Some(store) = self.store.get_mut(..count(run, 0)) else {
-            return (NONE, false);
-        };
-        let Some(out) = self.out.get_mut(..count(run, 1)) else {
-            return (NONE, false);
-        };
+    fn replay_run(&mut self, record: &[u8], expected: &[u8], run: [u32; RUN]) -> Option<Seen> {
+        let [length, room, _wanted] = run;
+        let store = self.store.get_mut(..length as usize)?;
+        let out = self.out.get_mut(..room as usize)?;
         store.fill(UNCLEARED);
         out.fill(UNWRITTEN);
-        let (answered, same, written) = match flatten_entry::flatten(record, store, out) {
-            Ok(n) => (0, n == expected.len() && out.starts_with(expected), n),
-            Err(refusal) => (refusal.number(), true, 0),
+        let answer = flatten_entry::flatten(record, store, out);
+        let same = match answer {
+            Ok(n) => n == expected.len() && out.starts_with(expected),
+            Err(_) => true,
         };
+        let written = answer.unwrap_or(0);
         let untouched = out.iter().skip(written).all(|b| *b == UNWRITTEN);
         let cleared = store.iter().all(|b| *b == 0);
-        (answered, same && untouched && cleared)
+        Some(Seen {
+            answer: answer.map(|_| ()).map_err(|refusal| refusal.number()),
+            right: same && untouched && cleared,
+        })
     }
 }
 
@@ -61,7 +59,7 @@ fn run(rt: &(impl Env + Input + Print + Eprint)) -> Result<u64, Failed> {
     let mut groups = Groups {
         record: [0; BYTES],
         expected: [0; OUTPUT],
-        runs: [[0; RUN]; RUNS],
+        runs: [[[0; 4]; RUN]; RUNS],
         lent: Lent {
             store: [0; STORE],
             out: [0; OUTPUT],

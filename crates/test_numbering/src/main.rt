@@ -6,14 +6,12 @@
 use std::rt::Env;
 use streams::{Failed, open_standard};
 use test_report::{
-    CASES_TEXT, Cases, Counts, KINDS_OF_CASES, Stop, Verdict, read_part, read_rest, replay_all,
+    CASES_TEXT, Cases, Counts, KINDS_OF_CASES, Stop, Verdict, read_rest, read_words, replay_all,
     said,
 };
-use words::{count, word_at};
+use words::word_at;
 
-// Bytes of a case's words, and room for every record and its entries.
-const HEAD: usize = 16;
-
+// Room for every record and its entries.
 const RECORD: usize = 80000;
 
 const ENTRIES: usize = 8448;
@@ -53,24 +51,15 @@ impl Cases<KINDS_OF_CASES> for Room {
         part: u64,
         counts: &mut Counts<KINDS_OF_CASES>,
     ) -> Result<(), Stop> {
-        let mut head = [0u8; HEAD];
-        read_part(rt, &mut head)?;
-        let length = count(&head, 0);
-        let answer = word_at(&head, 1);
-        let ids = 4 * count(&head, 2);
-        let size = ids + 4 * count(&head, 3);
-        if RECORD < length || ENTRIES < size {
-            return Err(Stop::Broken);
-        }
-        read_rest(rt, &mut self.image[..length])?;
-        read_rest(rt, &mut self.entries[..size])?;
-        let entries = &self.entries;
-        let verdict = judge(
-            &self.image[..length],
-            answer,
-            &entries[..ids],
-            &entries[ids..size],
-        );
+        let [length, answer, ids, publics] = read_words::<4>(rt)?;
+        // Bytes of the ids, and of both arrays.
+        let middle = 4 * ids as usize;
+        let size = middle + 4 * publics as usize;
+        let image = self.image.get_mut(..length as usize).ok_or(Stop::Broken)?;
+        let entries = self.entries.get_mut(..size).ok_or(Stop::Broken)?;
+        read_rest(rt, image)?;
+        read_rest(rt, entries)?;
+        let verdict = judge(image, answer, &entries[..middle], &entries[middle..]);
         counts.count_case(rt, verdict as usize, part)?;
         Ok(())
     }

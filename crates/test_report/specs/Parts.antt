@@ -5,7 +5,7 @@ use Rattle.test_report.specs.declared.Stop.{Stop}
 use Rattle.test_report.specs.declared.Verdict.{Verdict}
 
 -- no bytes are always there, and of one byte none can be missing behind the first
-abbrev pub Asked : Result (Unit {0}) Stop → ℕ → Type 0
+abbrev pub Asked : {T : Type 0} → Result T Stop → ℕ → Type 0
 Asked (Ok _) size = Unit {0}
 Asked (Err Stop.End) size = 0 < size
 Asked (Err Stop.Broken) size = 1 < size

@@ -5,14 +5,14 @@
 mod groups;
 mod line;
 
-ghost use Rattle.std.specs.Prelude.{◌≡◌, ◌≤◌, length, take, replicate, IfOk};
+ghost use Rattle.std.specs.Prelude.{◌≡◌, ◌*◌, ◌≤◌, length, take, replicate, IfOk};
 ghost use Rattle.streams.specs.Streams.{Whole};
 ghost use Rattle.test_report.specs.Parts.{Asked, Rest, Finish, counted, finished, verdict_of, run_kind, said_of, PARTS};
 ghost use Rattle.test_report.specs.Lines.{filled, LINE};
 
-pub use groups::{Groups, RUNS, Runs};
+pub use groups::{Groups, RUNS, Runs, Seen};
 use line::fill_line;
-use std::io;
+use std::{array, io};
 use streams::{Failed, close_output, read_standard, write_output};
 
 // Why no further part of the input is read. A part is a case, or some bytes of it.
@@ -88,6 +88,20 @@ pub fn read_part(rt: &(impl Input + Eprint), s: &mut [u8]) -> Result<(), Stop>
         return Err(Stop::End);
     }
     Err(Stop::Broken)
+}
+
+// The words of bytes.
+fn words_of<const N: usize>(bytes: &[[u8; 4]; N]) -> [u32; N] {
+    array::from_fn(|k| u32::from_le_bytes(bytes[k]))
+}
+
+// The next words of standard input.
+pub fn read_words<const N: usize>(rt: &(impl Input + Eprint)) -> Result<[u32; N], Stop>
+    ensures { Asked result (4 * N) }
+{
+    let mut bytes = [[0u8; 4]; N];
+    read_part(rt, bytes.as_flattened_mut())?;
+    Ok(words_of(&bytes))
 }
 
 // The same of bytes that belong to what was read before: the input must not end in front of them.

@@ -9,8 +9,8 @@ ghost use Rattle.std.specs.Prelude.{◌≤◌};
 
 use std::rt::Env;
 use streams::{Failed, open_standard};
-use test_report::{Cases, Counts, Stop, read_part, read_rest, replay_all, said};
-use words::{count, put_word, word_at};
+use test_report::{Cases, Counts, Stop, read_rest, read_words, replay_all, said};
+use words::put_word;
 
 const BASE: u32 = 4294967295;
 
@@ -24,9 +24,7 @@ const KINDS_OF_CASES: usize = 8;
 const TEXT: &[u8] =
     b"# accepted; refused: # by 1, # by 2, # by 3, # by 4, # by 5, # by 6; # differ\n";
 
-// Bytes of a case's words, and room for every record.
-const HEAD: usize = 24;
-
+// Room for every record.
 const RECORD: usize = 80000;
 
 // The place in the counts of a case: a refused one has no id in either array.
@@ -42,10 +40,17 @@ fn judge(image: &[u8], answer: u32) -> usize {
     }
 }
 
-// A word of the image becomes another; an index beyond the image says that none does.
-fn damage(image: &mut [u8], i: usize, w: u32) {
+// A word of a record becomes another; an index beyond the record says that none does.
+#[derive(Clone, Copy)]
+struct Damage {
+    index: u32,
+    word: u32,
+}
+
+fn write_anew(image: &mut [u8], damage: Damage) {
+    let i = damage.index as usize;
     if i < image.len() / 4 {
-        put_word(image, i, w);
+        put_word(image, i, damage.word);
     }
 }
 
@@ -57,16 +62,16 @@ struct Records {
 }
 
 impl Records {
-    // A case, by its six words: the first n bytes of the base, with two words of it written anew.
-    fn judge_damaged(&mut self, head: &[u8; HEAD], n: usize) -> usize
+    // A case: the first n bytes of the base, with two words of it written anew.
+    fn judge_damaged(&mut self, n: usize, first: Damage, second: Damage, answer: u32) -> usize
         requires { n ≤ RECORD }
     {
         let base = &self.base[..n];
-        let image = &mut self.image[..];
-        image[..n].copy_from_slice(base);
-        damage(image, count(head, 2), word_at(head, 3));
-        damage(image, count(head, 4), word_at(head, 5));
-        judge(&image[..n], word_at(head, 1))
+        let image = &mut self.image[..n];
+        image.copy_from_slice(base);
+        write_anew(image, first);
+        write_anew(image, second);
+        judge(image, answer)
     }
 }
 
@@ -78,22 +83,22 @@ impl Cases<KINDS_OF_CASES> for Records {
         part: u64,
         counts: &mut Counts<KINDS_OF_CASES>,
     ) -> Result<(), Stop> {
-        let mut head = [0u8; HEAD];
-        read_part(rt, &mut head)?;
+        let [length, answer, index, word, other_index, other_word] = read_words::<6>(rt)?;
         // Kept as it is: a word of the input says which of the two follows, and both need the same room; an enum would be made to be taken apart.
-        let is_base = word_at(&head, 0) == BASE;
-        let n = if is_base {
-            count(&head, 1)
-        } else {
-            count(&head, 0)
-        };
+        let is_base = length == BASE;
+        let n = if is_base { answer } else { length } as usize;
         if RECORD < n {
             return Err(Stop::Broken);
         }
         if is_base {
             return read_rest(rt, &mut self.base[..n]);
         }
-        let kind = self.judge_damaged(&head, n);
+        let first = Damage { index, word };
+        let second = Damage {
+            index: other_index,
+            word: other_word,
+        };
+        let kind = self.judge_damaged(n, first, second, answer);
         counts.count_case(rt, kind, part)?;
         Ok(())
     }
