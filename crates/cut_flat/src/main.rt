@@ -33,12 +33,14 @@ fn cut_input(rt: &(impl Input + Print + Eprint), out: &mut [u8]) -> Result<usize
     print_answer(rt, &mut io::writer(rt), answer, out)
 }
 
+// Kept as it is: `flatten` lends a store too, and each program has buffers of its own sizes: one function would be passed all that its body says.
 fn run(rt: &(impl Input + Print + Eprint), room: usize) -> Result<usize, Failed> {
     let mut out = output_buffer();
     let most = room.min(OUTPUT_BYTES);
     cut_input(rt, &mut out[..most])
 }
 
+// Kept as it is: `flatten` has one for two numbers; what both do alike is `has_argument` and `lent_bytes`, and any number of them would be a loop for a line.
 // How many bytes of output the argument says to lend; none, where it is no number or there are more.
 fn lent(rt: &impl Env) -> Option<usize> {
     if has_argument(rt, MOST_ARGUMENTS) {

@@ -23,6 +23,7 @@ fn refuse_longer(rt: &(impl Print + Eprint)) -> Result<usize, Failed> {
     print_answer(rt, &mut io::writer(rt), Err(Refusal::FlatLength), &[])
 }
 
+// Kept as it is: `flatten_equalities` refuses no length itself; reading and printing are one function for both already.
 fn run<R: Env + Files + Input + Print + Eprint>(rt: &R) -> Result<usize, Failed> {
     let opened = open_input(rt, "usage: equalities [FILE]\n")?;
     // One byte more than is lent tells a longer record.

@@ -26,6 +26,7 @@ fn flatten_input(
     print_answer(rt, &mut io::writer(rt), answer, out)
 }
 
+// Kept as it is: `cut_flat` lends an output alone, and each program has buffers of its own sizes: one function would be passed all that its body says.
 fn run(rt: &(impl Input + Print + Eprint), held: usize, room: usize) -> Result<usize, Failed> {
     let mut store = store_buffer();
     let mut out = output_buffer();
@@ -34,6 +35,7 @@ fn run(rt: &(impl Input + Print + Eprint), held: usize, room: usize) -> Result<u
     flatten_input(rt, &mut store[..bytes], &mut out[..most])
 }
 
+// Kept as it is: `cut_flat` has one for one number; what both do alike is `has_argument` and `lent_bytes`, and any number of them would be a loop for a line.
 // How many bytes of store and output the arguments say to lend; none, where one is no number or there are too many.
 fn lent(rt: &impl Env) -> Option<(usize, usize)> {
     if has_argument(rt, MOST_ARGUMENTS) {

@@ -49,7 +49,7 @@ fn run(rt: &(impl Env + Input + Print + Eprint)) -> Result<u64, Failed> {
     let mut groups = Groups {
         record: [0; BYTES],
         expected: [0; FLAT_BYTES],
-        runs: [[[0; 4]; RUN]; RUNS],
+        runs: [[0; RUN]; RUNS],
         lent: Lent { store: [0; STORE] },
     };
     replay_all(rt, &mut groups, &mut Counts::of_verdicts(), CASES_TEXT)

@@ -59,7 +59,7 @@ fn run(rt: &(impl Env + Input + Print + Eprint)) -> Result<u64, Failed> {
     let mut groups = Groups {
         record: [0; BYTES],
         expected: [0; OUTPUT],
-        runs: [[[0; 4]; RUN]; RUNS],
+        runs: [[0; RUN]; RUNS],
         lent: Lent {
             store: [0; STORE],
             out: [0; OUTPUT],

@@ -59,6 +59,7 @@ impl Cases<KINDS_OF_CASES> for Room {
         let entries = self.entries.get_mut(..size).ok_or(Stop::Broken)?;
         read_rest(rt, image)?;
         read_rest(rt, entries)?;
+        let entries = &entries[..];
         let verdict = judge(image, answer, &entries[..middle], &entries[middle..]);
         counts.count_case(rt, verdict as usize, part)?;
         Ok(())

@@ -1,6 +1,6 @@
 // Groups of runs on standard input. A group: the words record length, number of runs and length of the expected record; the words of each
 // run, the last of which is the answer that is wanted, 0 for accepted, else the number of the refusal; the record; the expected record.
-use crate::{Cases, Counts, KINDS_OF_CASES, Stop, read_rest, read_words, words_of};
+use crate::{Cases, Counts, KINDS_OF_CASES, Stop, read_rest, read_words};
 
 // How many runs a group has at most.
 pub const RUNS: usize = 8;
@@ -28,8 +28,22 @@ pub trait Runs<const WORDS: usize> {
 pub struct Groups<L, const WORDS: usize, const RECORD: usize, const EXPECTED: usize> {
     pub record: [u8; RECORD],
     pub expected: [u8; EXPECTED],
-    pub runs: [[[u8; 4]; WORDS]; RUNS],
+    pub runs: [[u32; WORDS]; RUNS],
     pub lent: L,
+}
+
+// The words of each run: the input must not end in front of them.
+fn read_runs<const WORDS: usize>(
+    rt: &(impl Input + Eprint),
+    runs: &mut [[u32; WORDS]],
+) -> Result<(), Stop> {
+    for run in runs {
+        *run = match read_words(rt) {
+            Err(Stop::End) => return Err(Stop::Broken),
+            other => other?,
+        };
+    }
+    Ok(())
 }
 
 // The answer that is wanted of a run: accepted, or the number of a refusal.
@@ -63,13 +77,12 @@ impl<L: Runs<WORDS>, const WORDS: usize, const RECORD: usize, const EXPECTED: us
         let runs = self.runs.get_mut(..number as usize).ok_or(Stop::Broken)?;
         let record = self.record.get_mut(..length as usize).ok_or(Stop::Broken)?;
         let expected = self.expected.get_mut(..room as usize).ok_or(Stop::Broken)?;
-        read_rest(rt, runs.as_flattened_mut().as_flattened_mut())?;
+        read_runs(rt, runs)?;
         read_rest(rt, record)?;
         read_rest(rt, expected)?;
-        for (run, bytes) in runs.iter().enumerate() {
-            let words = words_of(bytes);
-            let wanted = wanted_of(&words);
-            let seen = self.lent.replay_run(record, expected, words);
+        for (run, words) in runs.iter().enumerate() {
+            let wanted = wanted_of(words);
+            let seen = self.lent.replay_run(record, expected, *words);
             counts.count_run(rt, judged(seen, wanted), wanted.is_ok(), part, run as u64)?;
         }
         Ok(())

@@ -255,6 +255,7 @@ pub trait Cases<const KINDS: usize> {
     ) -> Result<(), Stop>;
 }
 
+// Kept as it is: the `run` of each program, which says its usage and the room for its cases, and then calls this.
 // Every part of the input, and then the text with the counts; the answer is how many parts were replayed.
 pub fn replay_all<const KINDS: usize, C: Cases<KINDS>, R: Input + Print + Eprint>(
     rt: &R,

@@ -67,7 +67,8 @@ impl Records {
         requires { n ≤ RECORD }
     {
         let base = &self.base[..n];
-        let image = &mut self.image[..n];
+        let image = &mut self.image[..];
+        let image = &mut image[..n];
         image.copy_from_slice(base);
         write_anew(image, first);
         write_anew(image, second);
