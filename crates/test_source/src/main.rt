@@ -68,11 +68,11 @@ impl Records {
     {
         let base = &self.base[..n];
         let image = &mut self.image[..];
-        let image = &mut image[..n];
-        image.copy_from_slice(base);
+        image[..n].copy_from_slice(base);
+        // A word that the case has a part of is written whole.
         write_anew(image, first);
         write_anew(image, second);
-        judge(image, answer)
+        judge(&image[..n], answer)
     }
 }
 
