@@ -1,11 +1,10 @@
 -- The evaluator's answer in each of its cases: the flat record can be passed on, and what the passes or the refusal then give is `flattened`.
 -- Assumes nothing.
 use Prim.Native.Nat.{ℕ, ◌≤◌}
-use mathlib.Core.Path.{◌≡◌, refl, sym, ap, ◌∙◌}
+use mathlib.Core.Path.{◌≡◌, refl, sym, ap, subst, ◌∙◌}
 use mathlib.Core.List.{List}
 use native.Mathlib.Omega.{arith}
 use lib.ListN.{length, take}
-use Rattle.flat.specs.Layout.{BYTES}
 use Rattle.source.specs.Trees.{Module}
 use Rattle.source.specs.Record.{Read, source_of}
 use Rattle.flat.specs.Trees.{FlatModule, module_nodes}
@@ -22,18 +21,12 @@ use Rattle.records.specs.Refusals.{refusal_number}
 use Rattle.records.specs.declared.refusals.Refusal.{Refusal}
 use Rattle.eval_entry.specs.declared.FlatRecord.{FlatRecord}
 use Rattle.eval_entry.specs.Source.{capacity_of, evaluated_read, evaluated_source, answered, array_for, answer_of}
-use Rattle.eval_entry.proofs.Recorded.{next_fits, source-recorded, front-is}
+use Rattle.eval_entry.proofs.Recorded.{next_fits, source-recorded, front-is, ok-refused, ok-answers}
 use Rattle.agreement.specs.Flattened.{passed, flattened_of}
 use Rattle.flatten_entry.specs.Flatten.{flattened_read, flattened}
 
 flat-refusal : (f : FlatModule) (n : ℕ) → flat f ≡ refusal n → ⊥
 flat-refusal f n e = let z : ◌≡◌ {A = ℕ} 0 1 = cc in omega arith
-
-ok-refused : (n k : ℕ) → ◌≡◌ {A = Result ℕ ℕ} (Ok n) (Err k) → ⊥
-ok-refused n k e = let z : ◌≡◌ {A = ℕ} 0 1 = cc in omega arith
-
-ok-answers : (n k : ℕ) → ◌≡◌ {A = Result ℕ ℕ} (Ok n) (Ok k) → n ≡ k
-ok-answers n k e = cc
 
 refused-answers : (n k : ℕ) → ◌≡◌ {A = Result ℕ ℕ} (Err n) (Err k) → n ≡ k
 refused-answers n k e = cc
@@ -72,18 +65,17 @@ Evaluates b len r = (answer_of r.answer ≡ answered (evaluated_source b len)) �
 
 module _ (b : List ℕ) (len : ℕ) (r : FlatRecord) (is : Evaluates b len r) where
   -- a flat record: it is the front of the array, and says what was evaluated
-  answered-flat : (n : ℕ) → r.answer ≡ Ok n
-      → (n ≤ BYTES) × (Readable (take n r.bytes) × (evaluated_source b len ≡ flat (module_of (take n r.bytes))))
+  answered-flat : (n : ℕ) → r.answer ≡ Ok n → Readable (take n r.bytes) × (evaluated_source b len ≡ flat (module_of (take n r.bytes)))
   unfolding answered array_for
   answered-flat n a = go (evaluated_source b len) refl is.0 is.1
     where
       go : (x : Evaluated) → evaluated_source b len ≡ x → answer_of r.answer ≡ answered x → r.bytes ≡ array_for x
-          → (n ≤ BYTES) × (Readable (take n r.bytes) × (evaluated_source b len ≡ flat (module_of (take n r.bytes))))
+          → Readable (take n r.bytes) × (evaluated_source b len ≡ flat (module_of (take n r.bytes)))
       go (flat m) e q h =
           let recorded = source-recorded b len m e in
           let long = ok-answers n (length (flat_bytes m)) (sym (ap answer_of a) ∙ q) in
           let front = front-is m n r.bytes long h in
-          (rw long recorded.within, (rw front recorded.readable, e ∙ ap flat (sym (rw front recorded.says))))
+          (rw front recorded.readable, e ∙ ap flat (sym (rw front recorded.says)))
       go (refusal k) e q h = absurd (ok-refused n k (sym (ap answer_of a) ∙ q))
 
   answered-refused : (x : Refusal) → r.answer ≡ Err x → evaluated_source b len ≡ refusal (refusal_number x)
@@ -94,23 +86,25 @@ module _ (b : List ℕ) (len : ℕ) (r : FlatRecord) (is : Evaluates b len r) wh
       go (flat m) e q = absurd (ok-refused _ (refusal_number x) (sym q ∙ ap answer_of a))
       go (refusal k) e q = e ∙ ap refusal (refused-answers k (refusal_number x) (sym q ∙ ap answer_of a))
 
--- a record: its bytes are within the array, the passes can read it, and what they give is meant
-pub record Passable (b : List ℕ) (len n : ℕ) (bytes : List ℕ) : Type 0 where
-  pub within : n ≤ BYTES
-  pub readable : Readable (take n bytes)
-  pub small : module_nodes (module_of (take n bytes)) ≤ 16384
-  pub gives : flattened b len ≡ cut_of (module_of (take n bytes))
+-- a record: the passes can read it, and what they give is meant
+pub record Passable (b : List ℕ) (len : ℕ) (l : List ℕ) : Type 0 where
+  pub readable : Readable l
+  pub small : module_nodes (module_of l) ≤ 16384
+  pub gives : flattened b len ≡ cut_of (module_of l)
 
-pub passable : (b : List ℕ) (len n : ℕ) (r : FlatRecord) → Evaluates b len r → r.answer ≡ Ok n → Passable b len n r.bytes
+front-passable : (b : List ℕ) (len n : ℕ) (r : FlatRecord) → Evaluates b len r → r.answer ≡ Ok n → Passable b len (take n r.bytes)
 unfolding passed
-passable b len n r is a =
+front-passable b len n r is a =
     let w = answered-flat b len r is n a in
     record {
-      within = w.0;
-      readable = w.1.0;
-      small = evaluated-small b len (module_of (take n r.bytes)) w.1.1;
-      gives = flattened-passed b len ∙ ap passed w.1.1;
+      readable = w.0;
+      small = evaluated-small b len (module_of (take n r.bytes)) w.1;
+      gives = flattened-passed b len ∙ ap passed w.1;
     }
+
+pub passable : (b : List ℕ) (len : ℕ) (r : FlatRecord) (l : List ℕ) → Evaluates b len r → (r.answer ≡ Ok (length l)) × (l ≡ take (length l) r.bytes)
+    → Passable b len l
+passable b len r l is a = subst (Passable b len) (sym a.1) (front-passable b len (length l) r is a.0)
 
 -- a refusal
 pub refused-gives : (b : List ℕ) (len : ℕ) (x : Refusal) (r : FlatRecord) → Evaluates b len r → r.answer ≡ Err x
