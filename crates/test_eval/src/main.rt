@@ -17,6 +17,7 @@ const RUN: usize = 2;
 const STORE: usize = MOST_UNITS as usize * UNIT_BYTES + 32;
 
 // What stands in the store before a run.
+// Kept as it is: each program fills what it lends with a byte of its own choice, and no test needs them to be alike.
 const UNCLEARED: u8 = 90;
 
 // What is lent to a run.

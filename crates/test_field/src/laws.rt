@@ -227,7 +227,7 @@ fn sides_of(law: Law, a: i64, b: i64, c: i64) -> Sides {
 // 1 where two answers are one, else 0.
 // Kept as it is: a truth is an answer here, since the sides of every other law are answers.
 fn alike(x: Option<i64>, y: Option<i64>) -> Option<i64> {
-    Some(if x == y { 1 } else { 0 })
+    Some(i64::from(x == y))
 }
 
 // Whether the sides of a law differ.

@@ -21,6 +21,7 @@ const OUTPUT: usize = 480000;
 const BLOCK: usize = 4096;
 
 // What stands in the output and in the store before a case.
+// Kept as it is: each program fills what it lends with a byte of its own choice, and no test needs them to be alike.
 const UNWRITTEN: u8 = 165;
 
 const UNCLEARED: u8 = 90;

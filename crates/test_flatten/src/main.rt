@@ -19,6 +19,7 @@ const STORE: usize = MOST_UNITS as usize * UNIT_BYTES + 32;
 const OUTPUT: usize = 480000;
 
 // What stands in the store and in the output before a run.
+// Kept as it is: each program fills what it lends with a byte of its own choice, and no test needs them to be alike.
 const UNCLEARED: u8 = 90;
 
 const UNWRITTEN: u8 = 165;
