@@ -65,8 +65,8 @@ fn print_refused(rt: &impl Eprint, refusal: Refusal) -> Result<usize, Failed>
     Ok(0)
 }
 
-// Kept as it is: answer_text has a function of this name and shape, which prints lines, not bytes, and a refusal to the same stream.
 // The record at the front of the output, or "refused" with the number: how many bytes went to standard output, or that a write failed.
+// Kept as it is: answer_text's function of this name prints lines, and a refusal on standard output; one for both would take what prints as closures.
 pub fn print_answer<W: Write>(
     rt: &impl Eprint,
     to: &mut W,

@@ -13,7 +13,7 @@ use records::refusals::Refusal;
 use std::io::Write;
 use streams::{Failed, close_output};
 
-// Kept as it is: answer_record has functions of these names, which print bytes, not lines, and a refusal to another stream.
+// Kept as it is: answer_record's print_record and print_answer print bytes, and a refusal on standard error; one for both would take what prints as closures.
 fn print_record<W: Write>(rt: &impl Eprint, to: &mut W, s: &[u8]) -> Result<usize, Failed>
     ensures all { Whole result (lines s.now) }
     ensures bytes { Added result (W.contents to.old) (W.contents to.new) (lines_text s.now 0 (lines s.now)) }

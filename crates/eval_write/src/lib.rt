@@ -47,7 +47,7 @@ fn write_prover(out: &mut FlatBytes, memory: &Memory, to: usize, i: u32) -> usiz
 }
 
 // The ids with a mark, from word `at` on.
-// Kept as it is: put_provers of pass_entry has such a loop of its own; the reason stands there.
+// Kept as it is: one function of a test, for this and put_provers of pass_entry, asks a law of the test and a third definition beside `marked`, `ids_from`.
 fn write_provers(out: &mut FlatBytes, memory: &Memory, at: usize)
     requires { at ≤ LAST-PROVERS-AT }
     ensures { out.new ≡ set_words out.old at (marked memory.now.marks IDS) }

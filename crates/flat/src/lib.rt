@@ -112,7 +112,7 @@ pub fn layout_of(s: &[u8]) -> Layout
 }
 
 // A lent flat record: accepted, or refused by its length or by its rules.
-// Kept as it is: `then_some(()).ok_or(..)` says the same as this `if`, no plainer.
+// Kept as it is: `then_some(()).ok_or(..)` is no plainer than this `if`, since its Option is made only to become the Result.
 #[tactic(auto, unfolding(crate::specs::Record::flat_of, crate::specs::Record::checked, crate::specs::Record::pick))]
 pub fn check_flat(s: &[u8]) -> Result<(), Refusal>
     ensures { result ≡ checked (flat_of s.now) }

@@ -10,7 +10,7 @@ use marks::Marks;
 use records::flat_record::NODES;
 use records::nodes::NodeEntry;
 
-// Kept as it is: the contracts hand on places and counts one by one, since the definitions take these with the bytes, and no struct.
+// Kept as it is: the contracts, here and in ordering.rt, hand on places and counts one by one, since the definitions take these with the bytes, and no struct.
 // Kept as it is: loops that return false: the marks change on the way, and `all` would take a closure that changes them.
 impl Measured<'_> {
     // Whether the nodes fit; then their children are marked.

@@ -12,8 +12,8 @@ pub const RECORD_BYTES: usize = BYTES + 1;
 
 pub const STORE_BYTES: usize = MOST_UNITS as usize * UNIT_BYTES;
 
-// Kept as they are, a function for each: `words::filled` was tried, and a caller's proof computed its many places one by one, until the stack ended.
 // A longer input has the answer of its first bytes, so many.
+// Kept as it is: a function for each: `words::filled` was tried, and a caller's proof computed its many places one by one, until the stack ended.
 #[tactic(auto, unfolding(crate::specs::Buffers::record_buffer))]
 pub fn record_buffer() -> [u8; RECORD_BYTES]
     ensures { result ≡ record_buffer }

@@ -1,5 +1,5 @@
 // Expressions: each variable is looked up, and patterns bind in their scopes. The node index falls at each call.
-// Kept as it is: the contracts hand on bytes, place and count one by one, since the definitions take these, and no struct.
+// Kept as it is: the contracts here, in listing.rt and patterns.rt hand on bytes, place and count one by one, since the definitions take these, no struct.
 ghost use Rattle.std.specs.Prelude.{◌≡◌, ◌+◌, ◌-◌, ◌≤◌, ◌<◌};
 ghost use Rattle.source.specs.declared.Chain.TheVariants.{Arms, Items};
 ghost use Rattle.source.specs.Nodes.{is_expression, is_pattern};

@@ -19,7 +19,7 @@ pub struct NameEntry {
 }
 
 // A definition: the nodes of its pattern and of its value.
-// Kept as it is: nodes as u32, here and in expression_at: evaluation takes the words as they are, and a usize would be narrowed there.
+// Kept as it is: nodes as u32, here and in expression_at: evaluation takes words, and to narrow a usize there asks for its bound; to widen asks nothing.
 #[derive(Clone, Copy)]
 pub struct DefinitionEntry {
     pub pattern: u32,

@@ -61,7 +61,8 @@ pub fn names_fit(s: &[u8], text: usize, n: usize) -> bool
 
 impl Names<'_> {
     // The fingerprint of each name at its index.
-    // Kept as it is: of an array's values after `iter_mut().enumerate().take(n)` the kit says nothing, and no proof follows.
+    // Kept as it is: with `array::from_fn`, which was tried, the search ran out of memory: its promise says of each element that some closure was
+    // called for it; that this closure borrows these names takes an induction over the calls, which the loop does without.
     fn fingerprints(&self) -> [u32; NAMES]
         ensures { Fingerprinted self.now.bytes.now self.now.text self.now.count result }
     {

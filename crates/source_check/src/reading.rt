@@ -64,7 +64,7 @@ impl Nodes<'_> {
     }
 
     // The next node uses a name.
-    // Kept as it is: an `if` of Ok and Err, here and below; `then_some(()).ok_or(..)` says the same, no plainer.
+    // Kept as it is: an `if` of Ok and Err, here and below; `then_some(()).ok_or(..)` is no plainer, since its Option is made only to become the Result.
     fn use_name(&self, v: usize) -> Result<(), Refusal>
         ensures { result ≡ verdict Refusal.Entry (ltb v self.now.names) }
     {

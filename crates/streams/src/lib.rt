@@ -106,8 +106,8 @@ fn write_more<W: Write>(rt: &impl Eprint, out: &mut W, bytes: &[u8]) -> Result<u
     Err(say_failed(rt, "standard output", error))
 }
 
-// Kept as it is: the runtime and the writer are two parameters, here and where text is printed: a struct of both has two types in each signature.
 // Writes all of the bytes to standard output. Nothing is written behind a write that failed, and of that one a front may be.
+// Kept as it is: the runtime and the writer are two parameters, here and where text is printed: a struct of both has two types in each signature.
 pub fn write_output<W: Write>(rt: &impl Eprint, out: &mut W, bytes: &[u8]) -> Result<usize, Failed>
     ensures whole { Whole result (length bytes.now) }
     ensures bytes { Added result (W.contents out.old) (W.contents out.new) bytes.now }
