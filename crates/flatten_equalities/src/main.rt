@@ -15,7 +15,7 @@ fn flatten_record(rt: &(impl Print + Eprint), record: &[u8]) -> Result<usize, Fa
     print_answer(rt, &mut io::writer(rt), answer, &out)
 }
 
-// Kept as it is: `equalities` has room for a byte more and refuses it; reading and printing are one function for both already.
+// Kept as it is: `equalities` refuses a longer record itself; reading and printing are one function for both already.
 fn run<R: Env + Files + Input + Print + Eprint>(rt: &R) -> Result<usize, Failed> {
     let opened = open_input(rt, "usage: flatten_equalities [FILE]\n")?;
     let mut record = record_buffer();
