@@ -28,7 +28,7 @@ fn line_count(s: &[u8]) -> usize
 }
 
 // Line k of the text of a record, at the front of the bytes; of no bytes behind the last line.
-// Kept as it is: the promise is one equation for every k, which an Option would cut in two.
+// Kept as it is: the promise is one equation for every line number, which an Option would cut in two.
 pub fn line_at(s: &[u8], k: usize, out: &mut [u8; LINE]) -> usize
     ensures value { (result ≡ length (line_at s.now k)) × (out.new ≡ set_bytes out.old 0 (line_at s.now k)) }
     ensures prefix_len { IsPrefixLen result out.new }

@@ -19,7 +19,7 @@ pub struct Names<'a> {
 
 impl Names<'_> {
     // The bytes of name k.
-    // Kept as it is: that k is below the count is asked of an index, here and where nodes are read; a type for it would be made at each call.
+    // Kept as it is: that it is below the count is asked of an index, here and where nodes are read; a type for it would be made at each call.
     pub fn name(&self, k: usize) -> &[u8]
         requires { k < self.now.count }
         ensures { result.now ≡ name_of self.now.bytes.now self.now.text k }

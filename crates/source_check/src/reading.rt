@@ -39,7 +39,7 @@ impl Sort {
 
 // The next node is the one with the index `count`: what it uses stands before it.
 // Kept as it is: the contracts hand on bytes, place and count one by one, since the definitions take these, and no struct.
-// Kept as it is: the marks are lent beside the nodes, since `first` copies these cut to the first k, which a struct with the marks in it could not be.
+// Kept as it is: the marks are lent beside the nodes, since `first` copies these cut to the first ones, which a struct with the marks in it could not be.
 impl Nodes<'_> {
     // Node k, which must be one.
     fn read(&self, k: usize) -> Result<Node, Refusal>
