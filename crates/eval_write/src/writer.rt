@@ -8,14 +8,12 @@ use crate::FlatBytes;
 use eval_memory::Memory;
 use eval_memory::columns::Row;
 use eval_memory::nodes::part;
+use eval_memory::numbers::FLAT_NODES;
 use flat::entries::{DEFINITION_WORDS, EQUATION_WORDS, put_definition, put_equation, put_node};
 use records::NODE_WORDS;
 use records::flat_record::NODES;
 use records::kinds::{INFIX, Kind, NEGATE};
 use records::nodes::NodeEntry;
-
-// Kept as it is: NODES once more, as u32, since Rust has no constant of two types.
-const MOST_NODES: u32 = NODES as u32;
 
 // The nodes of a flat record as they are written: from word `at` on, so many of them.
 #[derive(Drop)]
@@ -38,7 +36,7 @@ impl Writer<'_, '_> {
     fn add(&mut self, kind: u32, a: u32, b: u32, c: u32)
         ensures { Wrote (add_node self.old.at kind a b c) self.old self.new }
     {
-        if MOST_NODES <= self.nodes {
+        if FLAT_NODES <= self.nodes {
             return;
         }
         let at = self.at + NODE_WORDS * (self.nodes as usize);

@@ -18,7 +18,7 @@ fn magnitude(x: i64) -> u64
 }
 
 // The residue of x: the number from 0 to P - 1 that x is congruent to.
-// Kept as it is: `x.rem_euclid(P)` branches on the sign, and with it a sum or a product takes half as long again.
+// Kept as it is: with `x.rem_euclid(P)` a sum or a product takes half as long again; the bar is the Rust's time, over which small records are as it is.
 pub fn residue(x: i64) -> u64
     ensures value { result ≡ res P x }
     ensures upper_bound { result < P }

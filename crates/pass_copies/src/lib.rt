@@ -19,7 +19,7 @@ use pass_classify::record::Record;
 use records::flat_record::ID_COUNT;
 
 // What stands for an id.
-// Kept as it is: an Option of a Term takes 12 bytes in place of 8, and the pages more took an eighth of the time of a small record.
+// Kept as it is: an Option of a Term takes 12 bytes, not 8, and an eighth of a small record's time; the bar is the Rust's, over which these are as it is.
 #[derive(Clone, Copy)]
 pub enum Substitute {
     Itself,

@@ -32,15 +32,12 @@ fn blank(unused: &[u32], node: Node) -> Option<Node>
 }
 
 // An operation on two expressions, where its operator is one.
-// Kept as it is: by `.ok()?` the proof would first turn the conversion's Result into an Option, which the match takes as it is.
 #[tactic(auto, unfolding(crate::specs::Nodes::infix_for, marks::specs::Indices::pick))]
 fn operation(c: u32, x: usize, y: usize) -> Option<Node>
     ensures { result ≡ infix_for c x y }
 {
-    match InfixOp::try_from(c) {
-        Ok(op) => Some(Node::Expression(Form::Infix(op, x, y))),
-        Err(_) => None,
-    }
+    let op = InfixOp::try_from(c).ok()?;
+    Some(Node::Expression(Form::Infix(op, x, y)))
 }
 
 // What a node's words say.

@@ -258,6 +258,7 @@ fn operands(law: Law) -> u8 {
 }
 
 // How many of the edges a test finds.
+// Kept as it is: a function that takes a closure asks that it can be called, here and twice below; no type says so.
 fn edges_with<F: Fn(i64) -> bool>(test: F) -> usize
     requires { F.IsAlwaysCallable test }
     ensures { result ≤ 9 }
