@@ -118,6 +118,9 @@ def no_fit():
 
 def no_value():
     """17."""
+    yield from (define(I(DIVZ, C(a), C(b))) for a in (1, 5, -1, 1073741823) for b in (0, 2147483647, -2147483647))
+    yield define(I(MUL, C(0), I(DIVZ, C(5), C(0))))
+    yield define(I(DIVZ, C(0), I(DIVZ, C(5), C(0))))
     for op in (DIV, IDIV, MOD):
         yield from (define(I(op, C(n), C(z))) for n in (1, 0, -7) for z in (0, 2147483647, -2147483647))
     yield from (define(I(EXP, C(z), C(n))) for z in (0, 2147483647) for n in (-1, -2, 2147483646))
@@ -153,7 +156,8 @@ def accepted():
     yield [], [], []
     yield from (define(I(op, X, C(n))) for op in (DIV, DIVZ, MUL, ADD, SUB, IDIV, MOD) for n in (0, 1, 2, 2147483647, -2147483646))
     yield from (define(I(op, C(n), X)) for op in (DIV, DIVZ, MUL, ADD, SUB, IDIV, MOD) for n in (0, 1))
-    yield define(I(DIVZ, C(5), C(0)), I(EXP, C(0), C(0)), I(IDIV, C(-7), C(2)), I(MOD, C(-7), C(2)), I(DIV, C(1), C(2)))
+    zeros = (I(DIVZ, C(0), C(0)), I(DIVZ, C(2147483647), C(-2147483647)))
+    yield define(*zeros, I(EXP, C(0), C(0)), I(IDIV, C(-7), C(2)), I(MOD, C(-7), C(2)), I(DIV, C(1), C(2)))
     yield define(*(I(op, C(s * a), C(t * b)) for op in (IDIV, MOD) for a, b in ((7, 2), (5, 3), (4, 3), (6, 4)) for s in (1, -1) for t in (1, -1)))
     yield define(L(const(5), X, X), L(const(5), C(3), X), L(const(1 << 30), C(1 << 30), X))
     yield define(match(C(1 << 30), (const(-1073741823), C(1))), match(X, (PAIR, V("p"))), match(Y, (LIST, V("p"))))

@@ -36,7 +36,7 @@ def infix(op, a, b):
     if op == 0:
         return None if b == 0 else element(a * inverse(b))
     if op == 1:
-        return 0 if b == 0 else element(a * inverse(b))
+        return (0 if a == 0 else None) if b == 0 else element(a * inverse(b))
     if op == 2:
         return element(a * b)
     if op == 3:

@@ -47,12 +47,14 @@ LAWS = [
     ("a * b / b of an element a", 2, lambda a, b, c: None if zero(b) else element(a)),
     ("a * b | b of an element a", 2, lambda a, b, c: 0 if zero(b) else element(a)),
     ("a / 0", 2, lambda a, b, c: None),
-    ("a | 0", 2, lambda a, b, c: 0),
+    ("a | 0", 2, lambda a, b, c: 0 if zero(a) else None),
+    ("0 | 0", 2, lambda a, b, c: 0),
 ]
-NO_OTHER_IS, CANONICAL_SUM, CANONICAL_PRODUCT = 8, 18, 19
+NO_OTHER_IS, CANONICAL_SUM, CANONICAL_PRODUCT = 8, 19, 20
 NAMES = ["SumsCommute", "ProductsCommute", "SumsRegroup", "ProductsRegroup", "ProductsDistribute", "ProductsDistributeRight",
          "OppositeElement", "OppositeSum", "OppositeOnly", "DifferenceSum", "DivideBySecond", "DivideByFirst", "DivideZBySecond",
-         "DivideZByFirst", "DivideElement", "DivideZElement", "DivideByZero", "DivideZByZero", "CanonicalSum", "CanonicalProduct"]
+         "DivideZByFirst", "DivideElement", "DivideZElement", "DivideByZero", "DivideZByZero", "DivideZZeros", "CanonicalSum",
+         "CanonicalProduct"]
 
 
 def some(rng):

@@ -8,7 +8,8 @@ inputs under which no divisor is zero; half of the equations are made to hold. T
 constraint record is the Rust's, and test_flatten shows that the port's is the same, byte by byte; its equalities are solved from the inputs upward. They have
 to determine every variable in them, and to hold exactly when the equations do. Printed are the counts of modules whose equations
 hold, of those whose do not, and of refused ones (an exponent that is no constant); and what fails. The exit status says whether any does. With --ops, as
-7,8, the modules are rich in these operators.
+7,8, the modules are rich in these operators. With `|` among them each has one equation more, x | 0 = 0 with a divisor that is 0 under the inputs: where x is
+0 it holds, and where not the inputs are left aside, its equality has no value, and no solution may be found. These are counted apart.
 """
 import argparse
 import collections
@@ -57,7 +58,7 @@ def divided(a, b):
 
 
 OPERATIONS = {
-    DIV: quotient, DIVZ: lambda a, b: quotient(a, b) if b else 0, MUL: lambda a, b: element(a * b), ADD: lambda a, b: element(a + b),
+    DIV: quotient, DIVZ: lambda a, b: quotient(a, b) if a or b else 0, MUL: lambda a, b: element(a * b), ADD: lambda a, b: element(a + b),
     SUB: lambda a, b: element(a - b), EXP: power, IDIV: divided, MOD: lambda a, b: a - b * divided(a, b),
 }
 
@@ -89,6 +90,18 @@ class Module:
             self.definitions.append(D(name, e))
             self.table[name] = value(e, self.table)
         self.equations = [self.equation(rng.random() < 0.75) for _ in range(rng.choice((0, 1, 1, 2, 3)))]
+        self.aside = DIVZ in ops and self.over_zero()
+
+    def over_zero(self):
+        """One equation more, a name | 0 = 0; whether it has no value."""
+        name = self.rng.choice(list(self.table))
+        self.equations.append(I(EQ, I(DIVZ, V(name), self.zero()), C(0)))
+        return self.table[name] != 0
+
+    def zero(self):
+        """An expression that is 0 whatever the inputs are, and a constant only now and then."""
+        e = V(self.rng.choice(list(self.table)))
+        return self.rng.choice((C(0), I(SUB, e, e), I(ADD, e, ("neg", e)), I(MUL, I(SUB, e, e), e)))
 
     def expression(self, depth):
         """An expression that has a value by the table."""
@@ -131,7 +144,7 @@ class Module:
         return I(EQ, left, right) if self.rng.random() < 0.5 else I(EQ, right, left)
 
     def holds(self):
-        return all(value(e[2], self.table) == value(e[3], self.table) for e in self.equations)
+        return not self.aside and all(value(e[2], self.table) == value(e[3], self.table) for e in self.equations)
 
     def input_ids(self):
         """The inputs' ids: publics, definitions and equations draw them in turn, and so do definitions and lets for what they bind."""
@@ -205,14 +218,15 @@ def solved(equalities, known):
 def judged(module, answer):
     """What a module came to, and whether that is a failure."""
     if answer.number:
-        return "refused %d" % answer.number, answer.number != 11
+        return "refused %d" % answer.number, answer.number not in ((11, 17) if module.aside else (11,))
     ids, holds = module.input_ids(), module.holds()
     _, _, provers, _, kept = struct.unpack_from("<5I", answer.record)
     try:
         found = solved(equalities_of(answer.record), {ids[n]: module.inputs[n] for n in ids})
     except NoValue:
-        found = None
-    return "hold" if holds else "do not hold", found is not holds or provers + kept > 0
+        found = False if module.aside else None
+    what = "left aside" if module.aside else "hold" if holds else "do not hold"
+    return what, found is not holds or provers + kept > 0
 
 
 def lengths(answer):

@@ -563,7 +563,7 @@ equality-of-shapes = cut (record {
 })
 
 -- (= (/ 1 2) a)
--- (= (| 5 0) a)
+-- (= (| 0 0) a)
 -- (= (* 65536 65536) a)
 -- (= (+ 1073741823 1) a)
 -- (= (- -1073741823 1) a)
@@ -790,8 +790,8 @@ answers =
     ∷ parameter-pair ∷ parameter-expanded ∷ constant-parameter ∷ split-list-input ∷ refused 16 ∷ public-twice ∷ negative_power ∷ iter-as-value
     ∷ let-value-doubled ∷ nested-match ∷ unit-argument ∷ refused 10 ∷ refused 10 ∷ refused 10 ∷ refused 11 ∷ refused 11 ∷ refused 12 ∷ refused 12 ∷ refused 12
     ∷ refused 12 ∷ refused 13 ∷ refused 13 ∷ refused 14 ∷ refused 14 ∷ refused 14 ∷ refused 15 ∷ refused 15 ∷ refused 16 ∷ refused 16 ∷ refused 16 ∷ refused 16
-    ∷ refused 16 ∷ refused 16 ∷ refused 16 ∷ refused 17 ∷ refused 17 ∷ refused 17 ∷ refused 17 ∷ refused 17 ∷ refused 18 ∷ refused 18 ∷ refused 18 ∷ refused 18
-    ∷ refused 18 ∷ refused 18 ∷ refused 18 ∷ refused 18 ∷ refused 19 ∷ []
+    ∷ refused 16 ∷ refused 16 ∷ refused 16 ∷ refused 17 ∷ refused 17 ∷ refused 17 ∷ refused 17 ∷ refused 17 ∷ refused 17 ∷ refused 17 ∷ refused 18 ∷ refused 18
+    ∷ refused 18 ∷ refused 18 ∷ refused 18 ∷ refused 18 ∷ refused 18 ∷ refused 18 ∷ refused 19 ∷ []
 
 abbrev flattened : List Case → List Outcome
 flattened [] = []

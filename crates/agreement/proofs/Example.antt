@@ -5,16 +5,19 @@ use mathlib.Core.List.{[], ◌∷◌}
 use Prim.Native.Nat.{ℕ}
 use lib.IntN.{ℤ, pos}
 use Rattle.std.specs.Prelude.{Some}
-use Rattle.field.specs.declared.InfixOp.TheVariants.{Multiply, Add}
+use Rattle.field.specs.declared.InfixOp.TheVariants.{Divide, Multiply, Add}
 use Rattle.field.specs.Prime.{P}
 use Rattle.field.specs.Element.{elem}
-use Rattle.flat.specs.Meaning.{update}
+use Rattle.field.specs.Operations.{sum, product}
+use Rattle.field.proofs.Primality.{P-prime}
+use Rattle.field.proofs.Values.{not-zero-value, add-answer, multiply-answer, has-value-where}
+use Rattle.flat.specs.Meaning.{update, on_values}
 use Rattle.constraint.specs.declared.Term.{Term}
 use Rattle.constraint.specs.Trees.{Side, ConstraintModule}
 use Rattle.pass_trees.specs.Passes
 use Rattle.pass_trees.specs.Passes.{cut}
 use Rattle.eval_trees.proofs.Compute.{answer_of}
-use Rattle.plain.specs.Meaning.{value_of, NoDivisorZero}
+use Rattle.plain.specs.Meaning.{write, through, value_of, NotZeroInEquation, NoDivisorZero}
 use Rattle.plain.proofs.Condition.{plain-has-plain-body}
 use Rattle.plain.proofs.Example.{source, is-plain}
 use Rattle.agreement.specs.Flattened.{passed, flattened_of}
@@ -48,9 +51,15 @@ unfolding answer_of flattened_of passed update Passes.member Passes.keep_if Pass
 is_cut = refl
 
 -- the one divisor is x
-not-zero : (ρ : ℕ → ℤ) → (Some (ρ 0) ≡ Some (pos 0) → ⊥) → NoDivisorZero source ρ
-unfolding value_of
-not-zero ρ h = (((tt, tt, h), ((tt, ((tt, tt, tt), (tt, tt, tt)), tt), tt)), ((tt, tt, tt), tt))
+not-zero : (ρ : ℕ → ℤ) → elem P (ρ 0) ≡ ρ 0 → (Some (ρ 0) ≡ Some (pos 0) → ⊥) → NoDivisorZero source ρ
+unfolding value_of on_values write update through NotZeroInEquation
+not-zero ρ c h =
+    let quotient = (has-value-where P P-prime (elem P (pos 1)) (ρ 0) Divide).1 (not-zero-value P P-prime (ρ 0) c h) in
+    let up = add-answer P (ρ 0) (elem P (pos 1)) in
+    let next = sum P (ρ 0) (elem P (pos 1)) in
+    let square = multiply-answer P next next in
+    let cube = multiply-answer P (ρ 0) (product P next next) in
+    (((tt, tt, quotient), ((tt, ((tt, tt, (_, up)), (tt, tt, rw up (_, square))), rw (up, square) (_, cube)), tt)), ((tt, tt), tt))
 
 pub example : (ρ : ℕ → ℤ) → ((x : ℕ) → elem P (ρ x) ≡ ρ x) → (Some (ρ 0) ≡ Some (pos 0) → ⊥) → Agrees source equalities ρ
-example ρ elements h = agreement source (plain-has-plain-body source is-plain) 65535 equalities is_cut ρ elements (not-zero ρ h)
+example ρ elements h = agreement source (plain-has-plain-body source is-plain) 65535 equalities is_cut ρ elements (not-zero ρ (elements 0) h)

@@ -1,10 +1,10 @@
--- The theorem is not empty: a plain module with each operator, a negative power, `|` by 0, a name used before its definition, a let that hides a name, a
+-- The theorem is not empty: a plain module with each operator, a negative power, 0 `|` 0, a name used before its definition, a let that hides a name, a
 -- public name that is defined, and an unused definition. It is accepted; some inputs fulfil it, and some do not.
 -- pub c; def u = z; def z = a + b; def c = (let a = a - b; a * a); def w = 1 / a; and the equations below
 use mathlib.Core.Path.{◌≡◌, refl}
 use mathlib.Core.Bool.{Bool, true, false, cond}
 use mathlib.Core.List.{List, [], ◌∷◌}
-use Prim.Native.Nat.{ℕ, suc}
+use Prim.Native.Nat.{ℕ}
 use native.Mathlib.Omega.{arith}
 use lib.IntN.{ℤ, pos, negsuc}
 use lib.Dec.{eqb}
@@ -19,7 +19,7 @@ use Rattle.pass_trees.specs.Passes.{Outcome, cut, refused}
 use Rattle.eval_trees.proofs.Compute.{answer_of}
 use Rattle.plain.specs.Plain.{is_arithmetic, is_free, is_plain_name, is_plain_pattern, is_plain_expr, is_equal, is_plain_equation}
 use Rattle.plain.specs.Plain.{are_plain_publics, are_plain_definitions, are_plain_equations, is_plain_body, is_plain}
-use Rattle.plain.specs.Meaning.{write, through, value_of, sides_of, sides, start, Holds, NoDivisorZero}
+use Rattle.plain.specs.Meaning.{write, through, value_of, sides_of, sides, start, Holds, NotZeroInEquation, NoDivisorZero}
 use Rattle.plain.specs.Meaning
 use Rattle.agreement.specs.Flattened.{passed, flattened_of}
 
@@ -45,7 +45,7 @@ operators = record {
       ∷ [];
   expressions =
       binary Equal (binary Multiply (binary Divide a b) b) a
-      ∷ binary Equal (binary DivideZ a (binary Subtract b b)) (number 0)
+      ∷ binary Equal (binary DivideZ (binary Subtract b b) (binary Subtract b b)) (number 0)
       ∷ binary Equal (binary Multiply a b) (number 14)
       ∷ binary Equal (binary Add a b) (variable 3)
       ∷ binary Equal (binary Subtract a b) (number 5)
@@ -131,31 +131,27 @@ not-fulfilled h =
     let k : ◌≡◌ {A = ℕ} 16 14 = cc in
     omega arith
 
--- and where a is 7 no divisor is zero: `|` by 0 is none
-not-0 : (x : ℕ) → Some (pos (suc x)) ≡ Some (pos 0) → ⊥
-not-0 x e = let k : ◌≡◌ {A = ℕ} (suc x) 0 = cc in omega arith
-
 -- the parts of a list's fact, one after the other
 abbrev ◌also◌ : {A B : Type 0} → A → B → A × B
 x also y = (x, y)
 
 infixr 60 ◌also◌
+-- and where a is 7 every operation has a value, 0 | 0 among them
 pub not-zero : NoDivisorZero operators (inputs (pos 7))
-unfolding answer_of inputs update on_values negated write through value_of Meaning.defined
-not-zero =
-    let none : Unit {0} × Unit {0} × Unit {0} = (tt, tt, tt) in (
-      tt also none also (none, none) also (tt, tt, not-0 6) also tt,
-      (((tt, tt, not-0 1), tt, tt), tt, tt)
-          also ((tt, none, tt), tt, tt)
-          also (none, tt, tt)
-          also (none, tt, tt)
-          also (none, tt, tt)
-          also ((tt, tt, λ n e. not-0 6), tt, tt)
-          also (((tt, tt, λ n e. not-0 6), tt, tt), tt, tt)
-          also ((tt, tt, not-0 1), tt, tt)
-          also ((tt, tt, not-0 1), tt, tt)
-          also none
-          also none
-          also none
-          also tt,
-    )
+unfolding answer_of inputs update on_values negated write through value_of Meaning.defined NotZeroInEquation
+not-zero = (
+  tt also (tt, tt, (_, refl)) also ((tt, tt, (_, refl)), (tt, tt, (_, refl))) also (tt, tt, (_, refl)) also tt,
+  (((tt, tt, (_, refl)), tt, (_, refl)), tt)
+      also (((tt, tt, (_, refl)), (tt, tt, (_, refl)), (_, refl)), tt)
+      also ((tt, tt, (_, refl)), tt)
+      also ((tt, tt, (_, refl)), tt)
+      also ((tt, tt, (_, refl)), tt)
+      also ((tt, tt, (_, refl)), tt)
+      also (((tt, tt, (_, refl)), tt, (_, refl)), tt)
+      also ((tt, tt, (_, refl)), tt)
+      also ((tt, tt, (_, refl)), tt)
+      also (tt, tt)
+      also (tt, tt)
+      also (tt, tt)
+      also tt,
+)

@@ -74,7 +74,9 @@ module _ (p : ℕ) (prime : Prime p) where
   pub infix-element : (op : InfixOp) (a b z : ℤ) → infix_of p op a b ≡ Some z → elem p z ≡ z
   unfolding infix_of divide_of divide_z_of int_divide_of modulo_of exponentiate_of product sum difference
   infix-element Divide a b z e = picked (eqb (res p b) 0) None _ z none-given (λ w. given _ w (quotient-element a b)) e
-  infix-element DivideZ a b z e = picked (eqb (res p b) 0) (Some (pos 0)) _ z (λ w. given (pos 0) w zero-element) (λ w. given _ w (quotient-element a b)) e
+  infix-element DivideZ a b z e =
+      picked (eqb (res p b) 0) (pick (eqb (res p a) 0) (Some (pos 0)) None) _ z
+      (λ w. picked (eqb (res p a) 0) (Some (pos 0)) None w (λ v. given (pos 0) v zero-element) none-given) (λ w. given _ w (quotient-element a b)) e
   infix-element Multiply a b z e = given _ z (elem-elem p above _) e
   infix-element Add a b z e = given _ z (elem-elem p above _) e
   infix-element Subtract a b z e = given _ z (elem-elem p above _) e
@@ -107,7 +109,9 @@ module _ (p : ℕ) (prime : Prime p) where
   pub infix-elements : (op : InfixOp) (a b : ℤ) → infix_of p op (elem p a) (elem p b) ≡ infix_of p op a b
   unfolding infix_of divide_of divide_z_of int_divide_of modulo_of exponentiate_of
   infix-elements Divide a b = ap₂ (λ (x : ℕ) (y : ℤ). pick (eqb x 0) None (Some y)) (res-elem p above b) (quotient-of a b)
-  infix-elements DivideZ a b = ap₂ (λ (x : ℕ) (y : ℤ). pick (eqb x 0) (Some (pos 0)) (Some y)) (res-elem p above b) (quotient-of a b)
+  infix-elements DivideZ a b =
+      ap (λ (w : ℕ). pick (eqb (res p (elem p b)) 0) (pick (eqb w 0) (Some (pos 0)) None) (Some (quotient p (elem p a) (elem p b)))) (res-elem p above a)
+      ∙ ap₂ (λ (x : ℕ) (y : ℤ). pick (eqb x 0) (pick (eqb (res p a) 0) (Some (pos 0)) None) (Some y)) (res-elem p above b) (quotient-of a b)
   infix-elements Multiply a b =
       ap Some
       (product-res p above (elem p a) (elem p b)

@@ -98,9 +98,13 @@ module _ (p : ℕ) (prime : Prime p) where
   unfolding infix_of divide_of
   divide-zero a b e = pick-zero (res p b) _ _ (zero-elem p above b e)
 
-  divide-z-zero : (a b : ℤ) → elem p b ≡ pos 0 → infix_of p DivideZ a b ≡ Some (pos 0)
+  divide-z-zero : (a b : ℤ) → elem p b ≡ pos 0 → NonZero p a → infix_of p DivideZ a b ≡ None
   unfolding infix_of divide_z_of
-  divide-z-zero a b e = pick-zero (res p b) _ _ (zero-elem p above b e)
+  divide-z-zero a b e h = pick-zero (res p b) _ _ (zero-elem p above b e) ∙ pick-else (res p a) _ _ (counts a h)
+
+  divide-z-zeros : (a b : ℤ) → elem p b ≡ pos 0 → elem p a ≡ pos 0 → infix_of p DivideZ a b ≡ Some (pos 0)
+  unfolding infix_of divide_z_of
+  divide-z-zeros a b e z = pick-zero (res p b) _ _ (zero-elem p above b e) ∙ pick-zero (res p a) _ _ (zero-elem p above a z)
 
   -- the element of a sum or a product
   of-sum : (x y : ℤ) → Some (elem p (x +ℤ y)) ≡ infix_of p Add (elem p x) (elem p y)
@@ -132,6 +136,7 @@ module _ (p : ℕ) (prime : Prime p) where
         divide-z-element = λ a b e h. divide-z-second a b h ∙ ap Some e;
         divide-by-zero = divide-zero;
         divide-z-by-zero = divide-z-zero;
+        divide-z-zeros = divide-z-zeros;
         canonical-sum = λ x y fx fy fits. of-sum x y;
         canonical-product = λ x y fx fy fits. of-product x y;
       }

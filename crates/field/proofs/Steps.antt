@@ -4,7 +4,7 @@ use Prim.Native.Nat.{ℕ, ◌+◌, ◌*◌, ◌-◌, ◌%◌}
 use native.Mathlib.Omega.{arith}
 use Prim.Native.Nat.{suc, ◌^◌, ◌≤◌, ◌<◌}
 use lib.IntN.{nat_abs, negsuc}
-use Rattle.std.specs.Prelude.{Some, None, option_map, unwrap_or}
+use Rattle.std.specs.Prelude.{Some, None, option_map}
 use mathlib.Core.Bool.{Bool, true, false}
 use lib.Dec.{T, eqb}
 use lib.Signed.{lt_z}
@@ -13,9 +13,9 @@ pub use mir.Facts.{to_z-of_z}
 use Rattle.field.specs.Prime.{P}
 use Rattle.field.specs.Element.{res, centre, elem, inv}
 use Rattle.field.specs.Operations.{pick, sum, difference, product, opposite, inverse, quotient, raised, power, whole_quotient}
-use Rattle.field.specs.Operations.{checked_inverse, checked_quotient, inverse_of, divide_of, divide_z_of, int_divide_of, modulo_of, exponentiate_of}
+use Rattle.field.specs.Operations.{checked_inverse, checked_quotient, inverse_of, divide_of, divide_z_of, int_divide_of, modulo_of, exponentiate_of, Answer}
 use native.Mathlib.Decide.{ℕ_discrete}
-use native.Mathlib.Nat.{pow-suc, mul-zero, pos_of_ne-zero}
+use native.Mathlib.Nat.{pow-suc, mul-zero, zero-mul, pos_of_ne-zero}
 use borrow.Author.Tests.{eq-eqb, ne_eqb, ltb-true}
 use Rattle.field.proofs.Modular.{power_pos}
 use Rattle.field.proofs.Elements.{abs-zero, res-lt, elem-range, elem-zero, zero-elem}
@@ -53,13 +53,27 @@ divide-is a b =
     ap (λ (z : ℤ). pick (eqb (res P b) 0) None (Some z)) (quotient-res P P-prime a b)
     ∙ chosen (eqb (res P b) 0) (inv P (res P b)) (λ y. centre P ((res P a * y) % P))
 
-pub divide_z-is : (a b : ℤ) → divide_z_of P a b ≡ Some (unwrap_or (divide_of P a b) (pos 0))
-unfolding divide_z_of divide_of
-divide_z-is a b = go (eqb (res P b) 0)
+-- `|` of a dividend that stands for 0, and of another
+zero-quotient : (a b : ℤ) → res P a ≡ 0 → quotient P a b ≡ pos 0
+unfolding centre
+zero-quotient a b e =
+    quotient-res P P-prime a b
+    ∙ ap (λ (k : ℕ). centre P ((k * inv P (res P b)) % P)) e
+    ∙ ap (λ (k : ℕ). centre P (k % P)) (zero-mul (inv P (res P b)))
+
+pub divide_z-zero : (a b : ℤ) → res P a ≡ 0 → divide_z_of P a b ≡ Some (pos 0)
+unfolding divide_z_of
+divide_z-zero a b e =
+    ap₂ (λ (x : Answer) (z : ℤ). pick (eqb (res P b) 0) x (Some z)) (pick-zero (res P a) _ _ e) (zero-quotient a b e)
+    ∙ go (eqb (res P b) 0)
   where
-    go : (t : Bool) → pick t (Some (pos 0)) (Some (quotient P a b)) ≡ Some (unwrap_or (pick t None (Some (quotient P a b))) (pos 0))
+    go : (t : Bool) → pick t (Some (pos 0)) (Some (pos 0)) ≡ Some (pos 0)
     go true = refl
     go false = refl
+
+pub divide_z-else : (a b : ℤ) → (res P a ≡ 0 → ⊥) → divide_z_of P a b ≡ divide_of P a b
+unfolding divide_z_of divide_of
+divide_z-else a b h = ap (λ (x : Answer). pick (eqb (res P b) 0) x (Some (quotient P a b))) (pick-else (res P a) _ _ h)
 
 -- of the elements' quotient, where it has one
 quotient-chosen : (b : ℤ) (z : ℤ) (f : ℤ → ℤ) → pick (eqb (res P b) 0) None (Some (f z)) ≡ option_map f (pick (eqb (nat_abs (elem P b)) 0) None (Some z))
@@ -120,7 +134,6 @@ pub ruleset steps = (
   elem-is,
   inverse-is,
   divide-is,
-  divide_z-is,
   int_divide-is,
   modulo-is,
   element-small,

@@ -96,7 +96,7 @@ module _ (p : ℕ) (prime : Prime p) where
   zero-divide-z y = go (ℕ_discrete (res p y) 0)
     where
       go : Dec (res p y ≡ 0) → divide_z_of p (pos 0) y ≡ Some (pos 0)
-      go (yes k) = pick-zero (res p y) _ _ k
+      go (yes k) = pick-zero (res p y) _ _ k ∙ pick-zero (res p (pos 0)) _ _ (res-zero p above)
       go (no k) = pick-else (res p y) _ _ k ∙ ap Some (zero-over y k)
 
   pub int-divide-one : (x : ℤ) → infix_of p IntDivide x (pos 1) ≡ Some (elem p x)

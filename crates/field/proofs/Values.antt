@@ -1,5 +1,4 @@
 -- Where an operation has a value, for any prime p: the parts above cite these laws and open no definition of an operation.
--- `|` has a value everywhere: what rests on that cites `divide-z-total`.
 -- Assumes nothing.
 use mathlib.Core.Path.{◌≡◌, refl, sym, ap, ◌∙◌}
 use mathlib.Core.Logic.{◌↔◌}
@@ -9,17 +8,15 @@ use native.Mathlib.Decide.{ℕ_discrete}
 use lib.Dec.{eqb}
 use lib.IntN.{ℤ, pos, negsuc}
 use Rattle.std.specs.Prelude.{Some, None}
+use Rattle.field.specs.declared.InfixOp.{InfixOp}
 use Rattle.field.specs.declared.InfixOp.TheVariants.{Divide, DivideZ, Multiply, Add, Subtract, Equal, Exponentiate, IntDivide, Modulo}
 use Rattle.field.specs.Prime.{Prime}
 use Rattle.field.specs.Element.{res, elem}
-use Rattle.field.specs.Operations.{pick, sum, difference, product, raised, divide_of, divide_z_of, int_divide_of, modulo_of, exponentiate_of, infix_of, Answer}
-use Rattle.field.proofs.Elements.{elem-zero, zero-elem, res-zero}
+use Rattle.field.specs.Operations.{pick, sum, difference, product, raised, divide_of, divide_z_of, int_divide_of, modulo_of, exponentiate_of, infix_of}
+use Rattle.field.specs.Operations.{HasValue, DivisorNotZero}
+use Rattle.field.proofs.Elements.{elem-zero, zero-elem}
 use Rattle.field.proofs.ByResidues.{pick-zero, pick-else}
-use Rattle.field.proofs.Answers.{value-path, nothing-value}
-
--- an answer that is a value
-abbrev pub HasValue : Answer → Type 0
-HasValue r = (z : ℤ) × (r ≡ Some z)
+use Rattle.field.proofs.Answers.{nothing-value}
 
 -- products, sums and differences have one always, `=` never
 module _ (p : ℕ) (a b : ℤ) where
@@ -43,10 +40,7 @@ module _ (p : ℕ) (prime : Prime p) where
   above : 0 < p
   above = omega (arith, prime.above)
 
-  -- a value that is 0, and one that is not
-  pub zero-value : (b : ℤ) → Some b ≡ Some (pos 0) → elem p b ≡ pos 0
-  zero-value b e = ap (elem p) (value-path b (pos 0) e) ∙ elem-zero p above (pos 0) (res-zero p above)
-
+  -- an element that is not 0 by its value
   pub not-zero-value : (b : ℤ) → elem p b ≡ b → (Some b ≡ Some (pos 0) → ⊥) → elem p b ≡ pos 0 → ⊥
   not-zero-value b c h e = h (ap Some (sym c ∙ e))
 
@@ -81,11 +75,36 @@ module _ (p : ℕ) (prime : Prime p) where
     unfolding infix_of exponentiate_of
     power-valued = raised-valued a (elem p b)
 
-    -- `|` has one, also at divisor 0
-    pub divide-z-total : HasValue (infix_of p DivideZ a b)
+    -- `|` has one just if the divisor is not 0 or the dividend is
+    pub divide-z-valued : HasValue (infix_of p DivideZ a b) ↔ (elem p b ≡ pos 0 → elem p a ≡ pos 0)
     unfolding infix_of divide_z_of
-    divide-z-total = go (ℕ_discrete (res p b) 0)
+    divide-z-valued = (
+      (λ v e. zero-there v (zero-elem p above b e)),
+      (λ h. go h (ℕ_discrete (res p b) 0)),
+    )
       where
-        go : Dec (res p b ≡ 0) → HasValue (divide_z_of p a b)
-        go (yes e) = (_, pick-zero (res p b) _ _ e)
-        go (no e) = (_, pick-else (res p b) _ _ e)
+        at-zero : res p b ≡ 0 → divide_z_of p a b ≡ pick (eqb (res p a) 0) (Some (pos 0)) None
+        at-zero e = pick-zero (res p b) _ _ e
+
+        zero-there : HasValue (divide_z_of p a b) → res p b ≡ 0 → elem p a ≡ pos 0
+        zero-there v e = decided (ℕ_discrete (res p a) 0)
+          where
+            decided : Dec (res p a ≡ 0) → elem p a ≡ pos 0
+            decided (yes k) = elem-zero p above a k
+            decided (no k) = absurd (nothing-value (v.0) (sym (at-zero e ∙ pick-else (res p a) _ _ k) ∙ v.1))
+
+        go : (elem p b ≡ pos 0 → elem p a ≡ pos 0) → Dec (res p b ≡ 0) → HasValue (divide_z_of p a b)
+        go h (yes e) = (pos 0, at-zero e ∙ pick-zero (res p a) _ _ (zero-elem p above a (h (elem-zero p above b e))))
+        go h (no e) = (_, pick-else (res p b) _ _ e)
+
+    -- of every operation: it has a value just where the rules say so
+    pub has-value-where : (o : InfixOp) → HasValue (infix_of p o a b) ↔ DivisorNotZero p o a b
+    has-value-where Divide = divide-valued
+    has-value-where DivideZ = divide-z-valued
+    has-value-where Multiply = ((λ v. tt), (λ h. (_, multiply-answer p a b)))
+    has-value-where Add = ((λ v. tt), (λ h. (_, add-answer p a b)))
+    has-value-where Subtract = ((λ v. tt), (λ h. (_, subtract-answer p a b)))
+    has-value-where Equal = ((λ v. nothing-value (v.0) (sym (equal-answer p a b) ∙ v.1)), (λ h. absurd h))
+    has-value-where Exponentiate = power-valued
+    has-value-where IntDivide = int-divide-valued
+    has-value-where Modulo = modulo-valued

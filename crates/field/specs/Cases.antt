@@ -15,7 +15,7 @@ abbrev pub ◌gives◌ : Answer → Answer → Case
 a gives b = record { worked = a; answer = b }
 
 infix 70 ◌gives◌
--- `negsuc n` is -(n + 1). The nine cases that the rules name; more of \ and %, rounded to the nearest whole number;
+-- `negsuc n` is -(n + 1). The nine cases that the rules name, 0 | 0 beside 5 | 0; more of \ and %, rounded to the nearest whole number;
 -- then the operations without value beside them
 abbrev pub cases : List Case
 cases =
@@ -26,7 +26,8 @@ cases =
     ∷ infix_of P IntDivide (negsuc 6) (pos 2) gives Some (negsuc 3)
     ∷ infix_of P Modulo (negsuc 6) (pos 2) gives Some (pos 1)
     ∷ infix_of P IntDivide (pos 7) (negsuc 1) gives Some (negsuc 3)
-    ∷ infix_of P DivideZ (pos 5) (pos 0) gives Some (pos 0)
+    ∷ infix_of P DivideZ (pos 5) (pos 0) gives None
+    ∷ infix_of P DivideZ (pos 0) (pos 0) gives Some (pos 0)
     ∷ infix_of P Exponentiate (pos 0) (pos 0) gives Some (pos 1)
     ∷ infix_of P IntDivide (pos 5) (pos 3) gives Some (pos 2)
     ∷ infix_of P IntDivide (pos 4) (pos 3) gives Some (pos 1)

@@ -73,9 +73,10 @@ module _ (p : ℕ) where
     -- the other is given back as it is where it is an element
     pub divide-element : (a b : ℤ) → Element a → NonZero b → (Some a ⊗ Some b) ⊘ Some b ≡ Some a
     pub divide-z-element : (a b : ℤ) → Element a → NonZero b → (Some a ⊗ Some b) ⦸ Some b ≡ Some a
-    -- "non-zero" cannot be left out: divided by 0, a number gives no value by `/`, and 0 by `|`
+    -- "non-zero" cannot be left out: divided by 0, no number gives a value by `/`, and by `|` only 0 does, 0
     pub divide-by-zero : (a b : ℤ) → elem p b ≡ pos 0 → Some a ⊘ Some b ≡ None
-    pub divide-z-by-zero : (a b : ℤ) → elem p b ≡ pos 0 → Some a ⦸ Some b ≡ Some (pos 0)
+    pub divide-z-by-zero : (a b : ℤ) → elem p b ≡ pos 0 → NonZero a → Some a ⦸ Some b ≡ None
+    pub divide-z-zeros : (a b : ℤ) → elem p b ≡ pos 0 → elem p a ≡ pos 0 → Some a ⦸ Some b ≡ Some (pos 0)
     -- "`canonical` of a sum or product that is itself a signed 64-bit number is the operation on the two `canonical` values".
     -- It is so of all integers; `canonical` takes signed 64-bit numbers, hence the conditions
     pub canonical-sum : (x y : ℤ) → I64 x → I64 y → I64 (x +ℤ y) → Some (elem p (x +ℤ y)) ≡ Some (elem p x) ⊕ Some (elem p y)

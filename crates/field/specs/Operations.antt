@@ -1,6 +1,7 @@
 -- The operations, for any p: what the contracts cite. An operand is any integer and stands for its element.
 -- The laws are in proofs/Laws.antt (for any prime). What pins the rounded quotient is stated in specs/Rounded.antt and proved in proofs/Rounding.antt.
-use Rattle.std.specs.Prelude.{Option, Bool, true, false, ℕ, suc, ◌+◌, ◌*◌, ◌^◌, ◌/◌, ◌%◌, eqb, ℤ, pos, negsuc, neg_ℤ, nat_abs, ◌+ℤ◌, ◌-ℤ◌, ◌*ℤ◌, Some, None}
+use Rattle.std.specs.Prelude.{◌≡◌, Option, Some, None, Bool, true, false, ℕ, suc, ◌+◌, ◌*◌, ◌^◌, ◌/◌, ◌%◌, eqb}
+use Rattle.std.specs.Prelude.{ℤ, pos, negsuc, neg_ℤ, nat_abs, ◌+ℤ◌, ◌-ℤ◌, ◌*ℤ◌}
 use Rattle.field.specs.declared.InfixOp.{InfixOp}
 use Rattle.field.specs.declared.InfixOp.TheVariants.{Divide, DivideZ, Multiply, Add, Subtract, Equal, Exponentiate, IntDivide, Modulo}
 use Rattle.field.specs.Element.{res, centre, elem, inv}
@@ -65,9 +66,9 @@ inverse_of p b = pick (eqb (res p b) 0) None (Some (inverse p b))
 unfoldable pub divide_of : ℕ → ℤ → ℤ → Answer
 divide_of p a b = pick (eqb (res p b) 0) None (Some (quotient p a b))
 
--- "DivideZ: the same, but 0 at divisor 0"
+-- DivideZ: the same, but "0 | 0 is 0"
 unfoldable pub divide_z_of : ℕ → ℤ → ℤ → Answer
-divide_z_of p a b = pick (eqb (res p b) 0) (Some (pos 0)) (Some (quotient p a b))
+divide_z_of p a b = pick (eqb (res p b) 0) (pick (eqb (res p a) 0) (Some (pos 0)) None) (Some (quotient p a b))
 
 -- IntDivide: of the elements. "No value at divisor 0"
 unfoldable pub int_divide_of : ℕ → ℤ → ℤ → Answer
@@ -97,3 +98,20 @@ infix_of p Equal a b = None
 infix_of p Exponentiate a b = exponentiate_of p a b
 infix_of p IntDivide a b = int_divide_of p a b
 infix_of p Modulo a b = modulo_of p a b
+
+-- an answer that is a value
+abbrev pub HasValue : Answer → Type 0
+HasValue r = (z : ℤ) × (r ≡ Some z)
+
+-- when an operation has one, in the rules' words. "Divisors are the right sides of `/`, `\`, `%`"; `|` asks that only of a dividend other than 0;
+-- "a negative power of 0 counts as a zero divisor". That it is so of every operation: `has-value-where`, proofs/Values.antt
+abbrev pub DivisorNotZero : ℕ → InfixOp → ℤ → ℤ → Type 0
+DivisorNotZero p Divide a b = elem p b ≡ pos 0 → ⊥
+DivisorNotZero p DivideZ a b = elem p b ≡ pos 0 → elem p a ≡ pos 0
+DivisorNotZero p Multiply a b = Unit {0}
+DivisorNotZero p Add a b = Unit {0}
+DivisorNotZero p Subtract a b = Unit {0}
+DivisorNotZero p Equal a b = ⊥
+DivisorNotZero p Exponentiate a b = (n : ℕ) → elem p b ≡ negsuc n → elem p a ≡ pos 0 → ⊥
+DivisorNotZero p IntDivide a b = elem p b ≡ pos 0 → ⊥
+DivisorNotZero p Modulo a b = elem p b ≡ pos 0 → ⊥

@@ -78,11 +78,14 @@ fn divide(a: i64, b: i64) -> Option<i64>
     Some(centred(residue(a) * y % P))
 }
 
-// Kept as it is: it always has a value, but answers an Option as its definition and the other operations with a divisor do.
+// 0 over 0 is 0, as 0 over any other element is.
 fn divide_z(a: i64, b: i64) -> Option<i64>
     ensures { result ≡ divide_z_of P a b }
 {
-    Some(divide(a, b).unwrap_or(0))
+    if residue(a) == 0 {
+        return Some(0);
+    }
+    divide(a, b)
 }
 
 fn int_divide(a: i64, b: i64) -> Option<i64>

@@ -3,7 +3,7 @@ use Rattle.std.specs.Prelude.{◌≡◌, List, [], ◌∷◌, cond, ℕ, eqb, �
 use Rattle.field.specs.declared.InfixOp.{InfixOp}
 use Rattle.field.specs.Prime.{P}
 use Rattle.field.specs.Element.{elem}
-use Rattle.field.specs.Operations.{opposite, infix_of, Answer}
+use Rattle.field.specs.Operations.{opposite, infix_of, Answer, HasValue}
 use Rattle.flat.specs.Trees.{Flat, Definition, Equation}
 
 -- a map from ids, changed at one of them
@@ -42,21 +42,10 @@ DefinitionHolds σ d = value σ d.right ≡ Some (σ d.id)
 abbrev pub EquationHolds : Assignment → Equation → Type 0
 EquationHolds σ e = (z : ℤ) × (value σ e.left ≡ Some z) × (value σ e.right ≡ Some z)
 
--- "divisors are the right sides of `/`, `\`, `%`"; "`|` at 0 does not" count as a zero divisor
-abbrev pub DivisorNotZero : InfixOp → Answer → Type 0
-DivisorNotZero InfixOp.Divide y = y ≡ Some (pos 0) → ⊥
-DivisorNotZero InfixOp.DivideZ y = Unit {0}
-DivisorNotZero InfixOp.Multiply y = Unit {0}
-DivisorNotZero InfixOp.Add y = Unit {0}
-DivisorNotZero InfixOp.Subtract y = Unit {0}
-DivisorNotZero InfixOp.Equal y = Unit {0}
-DivisorNotZero InfixOp.Exponentiate y = Unit {0}
-DivisorNotZero InfixOp.IntDivide y = y ≡ Some (pos 0) → ⊥
-DivisorNotZero InfixOp.Modulo y = y ≡ Some (pos 0) → ⊥
-
--- no division of an expression has a zero divisor
+-- inputs "that make no divisor zero": every operation of an expression has a value on its sides' values. Which these are, in the rules' words:
+-- `DivisorNotZero` of crate field, by `has-value-where`
 abbrev pub NoZeroDivisor : Assignment → Flat → Type 0
-NoZeroDivisor σ (Flat.infixed o a b) = NoZeroDivisor σ a × NoZeroDivisor σ b × DivisorNotZero o (value σ b)
+NoZeroDivisor σ (Flat.infixed o a b) = NoZeroDivisor σ a × NoZeroDivisor σ b × HasValue (on_values o (value σ a) (value σ b))
 NoZeroDivisor σ (Flat.negate a) = NoZeroDivisor σ a
 NoZeroDivisor σ (Flat.constant c) = Unit {0}
 NoZeroDivisor σ (Flat.variable v) = Unit {0}
@@ -71,7 +60,7 @@ unfoldable pub worked_out : List Definition → Assignment → Assignment
 worked_out [] ρ = ρ
 worked_out (d ∷ ds) ρ = worked_out ds (update ρ d.id (or_zero (value ρ d.right)))
 
--- each division's divisor, when its turn comes, is not zero
+-- the same of each definition when its turn comes
 abbrev pub NoZeroInTurn : List Definition → Assignment → Type 0
 NoZeroInTurn [] ρ = Unit {0}
 NoZeroInTurn (d ∷ ds) ρ = NoZeroDivisor ρ d.right × NoZeroInTurn ds (update ρ d.id (or_zero (value ρ d.right)))

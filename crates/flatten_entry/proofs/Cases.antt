@@ -4,7 +4,7 @@ use mathlib.Core.List.{List, [], ◌∷◌, ◌++◌}
 use Prim.Native.Nat.{ℕ}
 use lib.IntN.{pos, negsuc}
 use Rattle.words.specs.Words.{word_at, bytes_of}
-use Rattle.std.specs.Prelude.{Some}
+use Rattle.std.specs.Prelude.{Some, None}
 use Rattle.field.specs.declared.InfixOp.TheVariants.{Divide, DivideZ, Multiply, Add, Exponentiate, IntDivide, Modulo}
 use Rattle.field.specs.Prime.{P}
 use Rattle.field.specs.Element.{elem}
@@ -109,7 +109,8 @@ cases =
     ∷ element (infix_of P IntDivide (negsuc 6) (pos 2)) gives element (Some (negsuc 3))
     ∷ element (infix_of P Modulo (negsuc 6) (pos 2)) gives element (Some (pos 1))
     ∷ element (infix_of P IntDivide (pos 7) (negsuc 1)) gives element (Some (negsuc 3))
-    ∷ element (infix_of P DivideZ (pos 5) (pos 0)) gives element (Some (pos 0))
+    ∷ element (infix_of P DivideZ (pos 5) (pos 0)) gives element None
+    ∷ element (infix_of P DivideZ (pos 0) (pos 0)) gives element (Some (pos 0))
     ∷ element (infix_of P Exponentiate (pos 0) (pos 0)) gives element (Some (pos 1))
     ∷ list (flattened_of 65535 unused) gives list (cut (record { next = 12; publics = []; provers = []; equalities = []; kept = [] }))
     ∷ list (flattened product 1048560) gives list product-cut

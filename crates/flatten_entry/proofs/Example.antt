@@ -12,6 +12,8 @@ use Rattle.std.specs.Prelude.{Some}
 use Rattle.field.specs.declared.InfixOp.TheVariants.{Divide, Multiply, Add, Equal}
 use Rattle.field.specs.Prime.{P}
 use Rattle.field.specs.Element.{elem}
+use Rattle.field.proofs.Primality.{P-prime}
+use Rattle.field.proofs.Values.{not-zero-value, add-answer, multiply-answer, has-value-where}
 use Rattle.source.specs.Trees.{variable_p, binary, constant, variable, Module}
 use Rattle.words.specs.Words.{word_at, bytes_of}
 use Rattle.marks.specs.Indices.{every, total, rows, pick, same}
@@ -26,7 +28,7 @@ use Rattle.source.specs.Record
 use Rattle.source.specs.Record.{Read}
 use Rattle.flat.specs.Record as Flat
 use Rattle.flat.specs.Trees.{definitions_nodes}
-use Rattle.flat.specs.Meaning.{update}
+use Rattle.flat.specs.Meaning.{update, on_values}
 use Rattle.constraint.specs.Record.{constraint_bytes}
 use Rattle.constraint.specs.Reading.{constraint_of}
 use Rattle.constraint.proofs.Lengths.{length-bytes}
@@ -36,7 +38,7 @@ use Rattle.pass_entry.specs.Cut.{answer_for, output_for}
 use Rattle.numbering.specs.Numbering.{found, same_text, named, registered}
 use Rattle.plain.specs.Plain.{is_plain, is_plain_body, is_arithmetic, is_free, is_plain_name, is_plain_pattern, is_plain_expr}
 use Rattle.plain.specs.Plain.{is_equal, is_plain_equation, are_plain_publics, are_plain_definitions, are_plain_equations}
-use Rattle.plain.specs.Meaning.{write, value_of, NoDivisorZero}
+use Rattle.plain.specs.Meaning.{write, value_of, NotZeroInEquation, NoDivisorZero}
 use Rattle.plain.proofs.Condition.{plain-has-plain-body}
 use Rattle.agreement.specs.Statement.{Agrees}
 use Rattle.flatten_entry.specs.Flatten.{flattened}
@@ -68,7 +70,7 @@ unfolding is_plain is_plain_body is_arithmetic is_free is_plain_name is_plain_pa
 is-plain = refl
 
 is_cut : flattened product 1048560 ≡ product-cut
-is_cut = ap (λ (ws : List Worked). outcome_of (get_or ws 11 (list (refused 0)))) cases-hold
+is_cut = ap (λ (ws : List Worked). outcome_of (get_or ws 12 (list (refused 0)))) cases-hold
   where
     outcome_of : Worked → Outcome
     outcome_of (element a) = refused 0
@@ -85,11 +87,15 @@ is-written out l =
     ap (answer_for (length out)) is_cut ∙ rw (le-leb (length (constraint_bytes product-list)) (length out) (omega (arith, is-long))) (ap Ok is-long)
 
 -- the divisors: x
-not-zero : (ρ : ℕ → ℤ) → (Some (ρ 2) ≡ Some (pos 0) → ⊥) → NoDivisorZero module-text ρ
-unfolding value_of write update
-not-zero ρ h = ((((tt, tt, tt), tt, tt), ((tt, tt, h), tt)), ((tt, tt, tt), tt))
+not-zero : (ρ : ℕ → ℤ) → elem P (ρ 2) ≡ ρ 2 → (Some (ρ 2) ≡ Some (pos 0) → ⊥) → NoDivisorZero module-text ρ
+unfolding value_of on_values write update NotZeroInEquation
+not-zero ρ c h =
+    let quotient = (has-value-where P P-prime (elem P (pos 1)) (ρ 2) Divide).1 (not-zero-value P P-prime (ρ 2) c h) in
+    let up = add-answer P (ρ 2) (elem P (pos 1)) in
+    ((((tt, tt, (_, up)), tt, rw up (_, multiply-answer P _ (ρ 2))), ((tt, tt, quotient), tt)), ((tt, tt), tt))
 
 pub example : (out : List ℕ) → 112 ≤ length out → (ρ : ℕ → ℤ) → ((x : ℕ) → elem P (ρ x) ≡ ρ x) → (Some (ρ 2) ≡ Some (pos 0) → ⊥)
     → Agrees module-text (constraint_of (take 112 (output_for out (flattened product 1048560)))) ρ
 example out l ρ elements h =
-    (flatten-agrees product out 1048560 112 module-text (is-written out l) is_read (plain-has-plain-body module-text is-plain)).1 ρ elements (not-zero ρ h)
+    let agrees = flatten-agrees product out 1048560 112 module-text (is-written out l) is_read (plain-has-plain-body module-text is-plain) in
+    agrees.1 ρ elements (not-zero ρ (elements 2) h)

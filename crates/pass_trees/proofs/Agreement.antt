@@ -186,7 +186,7 @@ cut-keeps-meaning-at f c w e I is ρ τ el given holds =
 pub cut-keeps-meaning : CutKeepsMeaning
 cut-keeps-meaning f c w e I is ρ el dv =
     cut-keeps-meaning-at f c w e I is ρ (worked f ρ) (worked-elements (counted f) ρ el) (λ v i. worked-other (counted f) ρ v (is.only v i).1)
-    (worked-hold (counted f) (counted-ordered f w) ρ el (accepted f c e).0 ((in-turn-is-at-end (counted f) (counted-ordered f w) ρ).0 dv))
+    (worked-hold (counted f) (counted-ordered f w) ρ ((in-turn-is-at-end (counted f) (counted-ordered f w) ρ).0 dv))
 
 pub inputs-uncounted : InputsUncounted
 unfolding counted classify_defs

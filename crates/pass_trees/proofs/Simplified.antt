@@ -1,4 +1,4 @@
--- infix_op's simplifications keep the value, and an operation of the passes has one unless its divisor is 0. Cites the field's laws and answers.
+-- infix_op's simplifications keep the value. Cites the field's laws and answers.
 use Rattle.std.proofs.Common.{◌≡◌, Bool, true, false, ℤ, pos, sym, refl, ap, ◌∙◌}
 use Rattle.std.specs.Prelude.{Some}
 use Rattle.field.specs.declared.InfixOp.{InfixOp}
@@ -7,14 +7,13 @@ use Rattle.field.specs.Element.{elem}
 use Rattle.field.specs.Operations.{infix_of, Answer}
 use Rattle.field.proofs.Primality.{P-prime, P-above}
 use Rattle.field.proofs.Elements.{elem-elem}
-use Rattle.field.proofs.Values.{not-zero-value, multiply-answer, add-answer, subtract-answer, divide-valued, int-divide-valued, modulo-valued, divide-z-total}
 use Rattle.field.proofs.Units.{one-element, zero-element, one-multiply, multiply-one, zero-multiply, multiply-zero, divide-one}
 use Rattle.field.proofs.Units.{divide-z-one, zero-divide-z, int-divide-one, modulo-one, zero-add, add-zero, subtract-zero}
-use Rattle.flat.specs.Meaning.{Assignment, Elements, DivisorNotZero}
+use Rattle.flat.specs.Meaning.{Assignment, Elements}
 use Rattle.constraint.specs.declared.Term.{Term}
 use Rattle.constraint.specs.Trees.{Side}
 use Rattle.constraint.specs.Meaning.{term_value, side_value}
-use Rattle.pass_trees.specs.Passes.{is_one, is_zero, when, infix_op, cuttable}
+use Rattle.pass_trees.specs.Passes.{is_one, is_zero, when, infix_op}
 use Rattle.pass_trees.proofs.Lists.{bool-not, same_number_lem}
 
 -- the terms that infix_op looks for
@@ -89,16 +88,3 @@ module _ (σ : Assignment) (h : Elements σ) (a b : Term) where
   infix-value InfixOp.Modulo =
       when-value (is_one b) (Side.copy (Term.Constant (pos 0))) _
       (λ e. ap Some zero-element ∙ at_right InfixOp.Modulo (pos 1) _ (one-is σ b e) (modulo-one P P-prime x)) refl
-
--- an operation of the passes has a value unless its divisor is 0
-pub has_value : (o : InfixOp) (x y : ℤ) → cuttable o ≡ true → elem P y ≡ y → DivisorNotZero o (Some y) → (z : ℤ) × (infix_of P o x y ≡ Some z)
-unfolding cuttable
-has_value InfixOp.Divide x y c h k = (divide-valued P P-prime x y).1 (not-zero-value P P-prime y h k)
-has_value InfixOp.DivideZ x y c h k = divide-z-total P P-prime x y
-has_value InfixOp.Multiply x y c h k = (_, multiply-answer P x y)
-has_value InfixOp.Add x y c h k = (_, add-answer P x y)
-has_value InfixOp.Subtract x y c h k = (_, subtract-answer P x y)
-has_value InfixOp.Equal x y c h k = bool-not (sym c)
-has_value InfixOp.Exponentiate x y c h k = bool-not (sym c)
-has_value InfixOp.IntDivide x y c h k = (int-divide-valued P P-prime x y).1 (not-zero-value P P-prime y h k)
-has_value InfixOp.Modulo x y c h k = (modulo-valued P P-prime x y).1 (not-zero-value P P-prime y h k)

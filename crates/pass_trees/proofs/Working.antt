@@ -1,5 +1,5 @@
 -- Definitions worked out in order: their values hold, and no others do.
-use Rattle.std.proofs.Common.{◌≡◌, ℕ, Bool, true, false, ◌||◌, eqb, List, [], ◌∷◌, ℤ, sym, refl, ap, ◌∙◌, subst, ap₂, eqb-true}
+use Rattle.std.proofs.Common.{◌≡◌, ℕ, Bool, true, false, ◌||◌, eqb, List, [], ◌∷◌, ℤ, sym, refl, ap, ◌∙◌, subst, subst₂, eqb-true}
 use Rattle.std.specs.Prelude.{Some, None}
 use Rattle.field.specs.Prime.{P}
 use Rattle.field.proofs.Primality.{P-prime, P-above}
@@ -7,15 +7,14 @@ use Rattle.field.proofs.Answers.{value-path, opposite-element, infix-element}
 use Rattle.field.proofs.Units.{zero-element}
 use Rattle.field.specs.Element.{elem}
 use Rattle.field.proofs.Elements.{elem-elem}
-use Rattle.field.specs.Operations.{opposite, Answer}
+use Rattle.field.specs.Operations.{opposite, Answer, HasValue}
 use Rattle.flat.specs.Trees.{Flat, Definition, defines}
-use Rattle.flat.specs.Meaning.{update, Assignment, Elements, on_values, negated, value, DivisorNotZero, NoZeroDivisor, DefinitionHolds, or_zero, worked_out}
+use Rattle.flat.specs.Meaning.{update, Assignment, Elements, on_values, negated, value, NoZeroDivisor, DefinitionHolds, or_zero, worked_out}
 use Rattle.flat.specs.Rules.{All, Every, Ordered}
-use Rattle.pass_trees.specs.Passes.{keep_if, those, cuttable, cuttable_expr, cuttable_defs}
+use Rattle.pass_trees.specs.Passes.{keep_if, those}
 use Rattle.pass_trees.specs.Statements.{InTurnIsAtEnd}
-use Rattle.pass_trees.proofs.Lists.{update_all, update_same, update_other, both_true, both_false, defines-cons}
+use Rattle.pass_trees.proofs.Lists.{update_all, update_same, update_other, both_false, defines-cons}
 use Rattle.pass_trees.proofs.Lists.{every_map, every-both, or-false, defines-those, value-agrees}
-use Rattle.pass_trees.proofs.Simplified.{has_value}
 use Rattle.pass_trees.proofs.Cutting.{both_values, negated-value}
 
 -- a value is an element
@@ -28,19 +27,13 @@ value-element σ el (Flat.negate a) z h =
 value-element σ el (Flat.constant c) z h = subst (λ (w : ℤ). elem P w ≡ w) (value-path _ _ h) (elem-elem P P-above c)
 value-element σ el (Flat.variable v) z h = subst (λ (w : ℤ). elem P w ≡ w) (value-path _ _ h) (el v)
 
--- an expression with no `^`, no `=` and no zero divisor has a value
-pub expression-value : (σ : Assignment) → Elements σ → (e : Flat) → cuttable_expr e ≡ true → NoZeroDivisor σ e → (z : ℤ) × (value σ e ≡ Some z)
-unfolding value cuttable_expr on_values negated
-expression-value σ el (Flat.infixed o a b) c h =
-    let t = both_true (cuttable o) _ c in
-    let u = both_true (cuttable_expr a) (cuttable_expr b) t.1 in
-    let x = expression-value σ el a u.0 h.0 in
-    let y = expression-value σ el b u.1 h.1 in
-    let r = has_value o x.0 y.0 t.0 (value-element σ el b y.0 y.1) (subst (DivisorNotZero o) y.1 h.2) in
-    (r.0, ap₂ (on_values o) x.1 y.1 ∙ r.1)
-expression-value σ el (Flat.negate a) c h = let x = expression-value σ el a c h in (opposite P x.0, ap negated x.1)
-expression-value σ el (Flat.constant c) k h = (elem P c, refl)
-expression-value σ el (Flat.variable v) c h = (σ v, refl)
+-- an expression whose operations have a value has one
+pub expression-value : (σ : Assignment) (e : Flat) → NoZeroDivisor σ e → HasValue (value σ e)
+unfolding value negated
+expression-value σ (Flat.infixed o a b) h = h.2
+expression-value σ (Flat.negate a) h = let x = expression-value σ a h in (opposite P x.0, ap negated x.1)
+expression-value σ (Flat.constant c) h = (elem P c, refl)
+expression-value σ (Flat.variable v) h = (σ v, refl)
 
 or-zero-element : (a : Answer) → ((z : ℤ) → a ≡ Some z → elem P z ≡ z) → elem P (or_zero a) ≡ or_zero a
 unfolding or_zero
@@ -63,28 +56,25 @@ worked-other (d ∷ ds) ρ v h =
     let r = defines-cons d ds v h in
     worked-other ds _ v r.1 ∙ update_other ρ d.id _ v r.0
 
-pub worked-hold : (ds : List Definition) → Ordered ds → (ρ : Assignment) → Elements ρ → cuttable_defs ds ≡ true
+pub worked-hold : (ds : List Definition) → Ordered ds → (ρ : Assignment)
     → All (λ d. NoZeroDivisor (worked_out ds ρ) d.right) ds → All (DefinitionHolds (worked_out ds ρ)) ds
-unfolding worked_out cuttable_defs or_zero
-worked-hold [] o ρ el c h = tt
-worked-hold (d ∷ ds) o ρ el c h =
-    let ρ' : Assignment = update ρ d.id (or_zero (value ρ d.right)) in
-    let el' : Elements ρ' = next-elements d ρ el in
-    let t = both_true (cuttable_expr d.right) (cuttable_defs ds) c in
-    (here (expression-value (worked_out ds ρ') (worked-elements ds ρ' el') d.right t.0 h.0), worked-hold ds o.2 ρ' el' t.1 h.1)
+unfolding worked_out or_zero
+worked-hold [] o ρ h = tt
+worked-hold (d ∷ ds) o ρ h = (here (expression-value τ d.right h.0), worked-hold ds o.2 _ h.1)
   where
     τ : Assignment
     τ = worked_out ds (update ρ d.id (or_zero (value ρ d.right)))
 
-    here : ((z : ℤ) × (value τ d.right ≡ Some z)) → value τ d.right ≡ Some (τ d.id)
+    here : HasValue (value τ d.right) → value τ d.right ≡ Some (τ d.id)
     here r =
         let same : value τ d.right ≡ value ρ d.right = value-agrees τ ρ d.right (every_map (worked-other (d ∷ ds) ρ) d.right o.1) in
         r.1 ∙ ap Some (ap or_zero (sym r.1 ∙ same) ∙ sym (worked-other ds _ d.id o.0 ∙ update_same ρ d.id _))
 
--- a divisor has the same value when its turn comes and at the end
+-- operations have the same values when their turn comes and at the end
 no-zero-agrees : (σ τ : Assignment) (e : Flat) → Every (λ v. σ v ≡ τ v) e → NoZeroDivisor σ e → NoZeroDivisor τ e
 no-zero-agrees σ τ (Flat.infixed o a b) s h =
-    (no-zero-agrees σ τ a s.0 h.0, no-zero-agrees σ τ b s.1 h.1, subst (DivisorNotZero o) (value-agrees σ τ b s.1) h.2)
+    let here = subst₂ (λ (x y : Answer). HasValue (on_values o x y)) (value-agrees σ τ a s.0) (value-agrees σ τ b s.1) h.2 in
+    (no-zero-agrees σ τ a s.0 h.0, no-zero-agrees σ τ b s.1 h.1, here)
 no-zero-agrees σ τ (Flat.negate a) s h = no-zero-agrees σ τ a s h
 no-zero-agrees σ τ (Flat.constant c) s h = tt
 no-zero-agrees σ τ (Flat.variable v) s h = tt

@@ -51,6 +51,13 @@ case_f-cut =
     ∷ [])
     []
 
+-- a | 0 = b: of x | 0 = 0 what evaluation leaves; 5 | 0 = x it refuses, but a record can say it
+abbrev pub over-zero : Flat → Flat → FlatModule
+over-zero a b = flat 11 [] (10 is Flat.infixed InfixOp.DivideZ a (number 0) ∷ []) (v 10 equals b ∷ [])
+
+abbrev pub over-zero-equalities : Term → Term → List Equality
+over-zero-equalities a b = Term.Variable 10 becomes Side.infixed InfixOp.DivideZ a (Term.Constant (pos 0)) ∷ Term.Variable 10 becomes Side.copy b ∷ []
+
 -- a case: a flat list, and what it is cut into
 pub record Case : Type 0 where
   pub given : FlatModule
@@ -63,6 +70,9 @@ infix 70 ◌gives◌
 abbrev pub cases : List Case
 cases =
     case_f gives cut case_f-cut
+    -- x | 0 = 0, and 5 | 0 = x
+    ∷ over-zero (v 9) (number 0) gives cut (list 12 [] (over-zero-equalities (Term.Variable 9) (Term.Constant (pos 0))) [])
+    ∷ over-zero (number 5) (v 9) gives cut (list 12 [] (over-zero-equalities (Term.Constant (pos 5)) (Term.Variable 9)) [])
     -- "y = 1 / x unused leaves no equality"
     ∷ flat 11 [] (10 is Flat.infixed InfixOp.Divide (number 1) (v 9) ∷ []) [] gives cut (list 11 [] [] [])
     -- 3 + 4 is not folded

@@ -20,8 +20,8 @@ pub record KeepsMeaning (f : FlatModule) (c : ConstraintModule) (I : ℕ → Typ
   pub agrees : All (EquationHolds τ) f.equations ↔ ((σ : Assignment) × Solution I c ρ σ)
   pub unique : (σ υ : Assignment) → Solution I c ρ σ → Solution I c ρ υ → All (InEquality (λ v. σ v ≡ υ v)) c.equalities
 
--- for the values worked out in order from ρ, where no division of a counted definition has a zero divisor when its turn comes.
--- (A zero divisor in an equation takes away its value, and the equalities' solution: nothing need be asked of it.)
+-- for the values worked out in order from ρ, where every operation of a counted definition has a value when its turn comes.
+-- (One without a value in an equation takes away the equation's, and the equalities' solution: nothing need be asked of it.)
 abbrev pub CutKeepsMeaning : Type 1
 CutKeepsMeaning =
     (f : FlatModule) (c : ConstraintModule) →

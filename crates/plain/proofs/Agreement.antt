@@ -38,7 +38,7 @@ use Rattle.plain.proofs.Numbered.{both_true, Named, plain-definitions, plain-equ
 use Rattle.plain.proofs.Numbered.{pointwise-split, free-definitions, free-equations, numbered-definitions, numbered-equations, definitions-scoped}
 use Rattle.plain.proofs.Numbered.{equations-scoped, definitions-spans, equations-spans, Means, Agreed, definitions-mean, equations-mean}
 use Rattle.plain.proofs.Working.{worked-elements, worked-keeps, definitions-hold, no-zero-in-turn, sides-hold}
-use Rattle.plain.proofs.Divisors.{definitions-valued, equations-valued, start-canonical}
+use Rattle.plain.proofs.Divisors.{definitions-valued, equations-valued}
 
 all_any : (xs : List ℕ) → All Any xs
 all_any [] = tt
@@ -243,8 +243,8 @@ module _ (m : Module) (plain : is_plain_body m ≡ true) where
           definitions-mean definitions-plain [] [] [] g (start ρ) (table υ) (start ρ) (table υ) p.grown.well (empty-scope g) nothing_bound k.0 in
           let em = equations-mean equations-plain (defining m.definitions []) _ _ _ (Meaning.defined (start ρ) m.definitions)
           (Meaning.defined (table υ) (numbered m).definitions) (start ρ) (table υ) ds.step.grown.well ds.scope dm.means k.1 in
-          let dv = definitions-valued definitions-plain (start ρ) (start-canonical ρ elements) (λ x. (ρ x, refl)) no_zero.0 in
-          let ev = equations-valued equations-plain (Meaning.defined (start ρ) m.definitions) dv.canonical dv.total no_zero.1 in
+          let dv = definitions-valued definitions-plain (start ρ) (λ x. (ρ x, refl)) no_zero.0 in
+          let ev = equations-valued equations-plain (Meaning.defined (start ρ) m.definitions) dv.total no_zero.1 in
           let kp = evaluated-kept bound N beyond υ υ-elements 256 capacity (numbered m) Δ f refl (intrinsic 0 (omega arith)) (intrinsic 2 (omega arith))
           (intrinsic 5 (omega arith)) scoped-definitions scoped-equations (dm.valued dv.valued) (em.valued ev) e in
           record { in-turn = kp.in-turn; same-sides = kp.same-sides ∙ em.means }

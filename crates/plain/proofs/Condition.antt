@@ -16,7 +16,7 @@ use Rattle.plain.specs.Meaning.{Equal-sides, start, Holds, NoDivisorZero}
 use Rattle.plain.specs.Meaning
 use Rattle.plain.specs.Statements.{PlainHasPlainBody, DivisorsPinned, InputsAlone}
 use Rattle.plain.proofs.Numbered.{both_true}
-use Rattle.plain.proofs.Divisors.{definitions-valued, equations-valued, start-canonical, definitions-not-zero, equations-not-zero}
+use Rattle.plain.proofs.Divisors.{definitions-valued, equations-valued, definitions-not-zero, equations-not-zero}
 use Rattle.plain.proofs.OnInputs.{definitions-alike, equations-alike}
 use Rattle.plain.proofs.Agreement.{definitions-plain, equations-plain}
 
@@ -25,13 +25,12 @@ unfolding is_plain
 plain-has-plain-body m h = (both_true (are_plain_publics (registered m.names).globals m.publics) (is_plain_body m) h).1
 
 pub divisors-pinned : DivisorsPinned
-divisors-pinned m plain ρ elements =
+divisors-pinned m plain ρ =
     let ds = definitions-plain m plain in
     let es = equations-plain m plain in
-    let t = Meaning.defined (start ρ) m.definitions in
-    let c = start-canonical ρ elements in (
-      (λ n. let d = definitions-valued ds (start ρ) c (λ x. (ρ x, refl)) n.0 in (d.valued, equations-valued es t d.canonical d.total n.1)),
-      (λ v. let d = definitions-not-zero ds (start ρ) c v.0 in (d.not-zero, equations-not-zero es t d.canonical v.1)),
+    let t = Meaning.defined (start ρ) m.definitions in (
+      (λ n. let d = definitions-valued ds (start ρ) (λ x. (ρ x, refl)) n.0 in (d.valued, equations-valued es t d.total n.1)),
+      (λ v. (definitions-not-zero ds (start ρ) v.0, equations-not-zero es t v.1)),
     )
 
 -- lists of names, in the words of numbering

@@ -9,7 +9,7 @@ use native.Mathlib.Omega.{arith}
 use lib.IntN.{ℤ}
 use lib.Dec.{eqb}
 use borrow.Author.Tests.{ne_eqb}
-use Rattle.field.specs.Operations.{Answer}
+use Rattle.field.specs.Operations.{Answer, HasValue}
 use Rattle.std.specs.Prelude.{Some}
 use Rattle.field.specs.declared.InfixOp.TheVariants.{Equal}
 use Rattle.source.specs.Trees.{Pat, variable_p, Expr, unit, binary, Env, empty}
@@ -26,7 +26,7 @@ use Rattle.eval_trees.specs.Evaluation.{evaluate, step, evaluate_infix, evaluate
 use Rattle.eval_trees.specs.Evaluation.{evaluate_exprs, evaluate_module, begin, flat, refusal, finished, evaluated_by}
 use Rattle.eval_trees.proofs.Runs.{refused-gives, bind-case, then-case, bind-known, return_back, past, got, make_same, Equated, equation-back, set_back}
 use Rattle.eval_trees.proofs.Environments.{insert-same, insert-other}
-use Rattle.plain.specs.Meaning.{Table, write, value_of, sides_of, sides, Valued, DefinitionsValued, EquationsValued}
+use Rattle.plain.specs.Meaning.{Table, write, value_of, sides_of, sides, DefinitionsValued, EquationsValued}
 use Rattle.plain.specs.Meaning
 use Rattle.plain.proofs.Values.{false-true, writing, table, some-path, none-some, flat-value}
 use Rattle.plain.proofs.Terms.{run, RunValued, now, Term, of_constant, of_variable, of_negate, Scoped, term_up, Core, Grew, Unbound}
@@ -254,7 +254,7 @@ module _ (B : ℕ → Bool) (N : ℕ) (beyond : (x : ℕ) → N ≤ x → B x �
 
   equation-result : {k : ℕ} {Γ : List ℕ} (l : ℕ) (τ : Table) (a b : Expr) (s u : State) (v : Expr) (ps : List (Answer × Answer)) → Scoped B k Γ a
       → Scoped B k Γ b → evaluate l (binary Equal a b) s ≡ gives v u → k ≤ s.next → Core B N t s → Unbound B N t s → Agree B N t k Γ τ s
-      → Valued (value_of τ a) → Valued (value_of τ b) → Matched s s.equations ps → Evaluated k Γ τ ((value_of τ a, value_of τ b) ∷ ps) s u
+      → HasValue (value_of τ a) → HasValue (value_of τ b) → Matched s s.equations ps → Evaluated k Γ τ ((value_of τ a, value_of τ b) ∷ ps) s u
   unfolding evaluate step refuse
   equation-result zero τ a b s u v ps p q e h c f ag va vb m = absurd (refused-gives 19 v u e)
   equation-result {k} {Γ} (suc l) τ a b s u v ps p q e h c f ag va vb m =
@@ -285,7 +285,7 @@ module _ (B : ℕ → Bool) (N : ℕ) (beyond : (x : ℕ) → N ≤ x → B x �
 -- the definitions in their order
 abbrev pub InTurnValued : Assignment → List Definition → Type 0
 InTurnValued ρ [] = Unit {0}
-InTurnValued ρ (d ∷ ds) = Valued (value ρ d.right) × InTurnValued (update ρ d.id (or_zero (value ρ d.right))) ds
+InTurnValued ρ (d ∷ ds) = HasValue (value ρ d.right) × InTurnValued (update ρ d.id (or_zero (value ρ d.right))) ds
 
 worked-aux : (t : Assignment) (ds es : List Definition) → worked_out (reverse_aux ds es) t ≡ worked_out es (run t ds)
 unfolding worked_out run

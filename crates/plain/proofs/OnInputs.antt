@@ -5,7 +5,7 @@ use mathlib.Core.List.{List, [], ◌∷◌, ◌++◌}
 use Prim.Native.Nat.{ℕ}
 use native.Mathlib.Omega.{arith}
 use lib.Dec.{eqb}
-use Rattle.field.specs.Operations.{Answer}
+use Rattle.field.specs.Operations.{Answer, HasValue}
 use Rattle.std.specs.Prelude.{Some}
 use Rattle.source.specs.Trees.{Pat, Expr}
 use Rattle.flat.specs.Rules
@@ -13,7 +13,7 @@ use Rattle.flat.specs.Meaning.{update, on_values, negated}
 use Rattle.numbering.specs.Inputs.{member, binding, free_variables, free_in_definitions, defining, free_in_expressions}
 use Rattle.numbering.specs.Statements.{All}
 use Rattle.numbering.proofs.Lists.{all_split}
-use Rattle.plain.specs.Meaning.{Table, write, through, value_of, sides_of, sides, NotZeroAt, NotZeroIn, NotZeroInDefinitions}
+use Rattle.plain.specs.Meaning.{Table, write, through, value_of, sides_of, sides, NotZeroIn, NotZeroInDefinitions, NotZeroInEquation}
 use Rattle.plain.specs.Meaning
 use Rattle.plain.proofs.Values.{writing}
 use Rattle.plain.proofs.Numbered.{Plainly, p_constant, p_variable, p_negate, p_binary, p_let}
@@ -62,7 +62,7 @@ module _ (Q : ℕ → Type 0) where
   not-zero-alike (p_negate p) Γ t u h a n = not-zero-alike p Γ t u h a n
   not-zero-alike (p_binary {o = o} {a = b} {b = d} ar p q) Γ t u h a n =
       let k = all_split Q (free_variables Γ b) (free_variables Γ d) a in
-      let at = subst₂ (NotZeroAt o) (value-alike p Γ t u h k.0) (value-alike q Γ t u h k.1) n.2 in
+      let at = subst₂ (λ (x y : Answer). HasValue (on_values o x y)) (value-alike p Γ t u h k.0) (value-alike q Γ t u h k.1) n.2 in
       (not-zero-alike p Γ t u h k.0 n.0, not-zero-alike q Γ t u h k.1 n.1, at)
   not-zero-alike (p_let {x = x} {v = b} {b = d} p q) Γ t u h a n =
       let k = all_split Q (free_variables Γ b) (free_variables (x ∷ Γ) d) a in
@@ -87,12 +87,12 @@ module _ (Q : ℕ → Type 0) where
 
   pub record EquationsAlike (es : List Expr) (t u : Table) : Type 0 where
     pub same-sides : sides t es ≡ sides u es
-    pub not-zero : Rules.All (NotZeroIn t) es → Rules.All (NotZeroIn u) es
+    pub not-zero : Rules.All (NotZeroInEquation t) es → Rules.All (NotZeroInEquation u) es
 
   pub equations-alike :
       {W : ℕ → Type 0} {es : List Expr} → PlainEquations W es → (Γ : List ℕ) (t u : Table) → Alike Γ t u →
       All Q (free_in_expressions Γ es) → EquationsAlike es t u
-  unfolding sides sides_of free_in_expressions free_variables
+  unfolding sides sides_of NotZeroInEquation free_in_expressions free_variables
   equations-alike p_end Γ t u h a = record { same-sides = refl; not-zero = λ n. n }
   equations-alike (p_equation {a = b} {b = d} {es = es} p q more) Γ t u h a =
       let k = all_split Q (free_variables Γ b ++ free_variables Γ d) (free_in_expressions Γ es) a in
@@ -102,5 +102,5 @@ module _ (Q : ℕ → Type 0) where
       let rest = equations-alike more Γ t u h k.1 in
       record {
         same-sides = ap₂ (λ (s : Answer × Answer) (ss : List (Answer × Answer)). s ∷ ss) (λ i. (left i, right i)) rest.same-sides;
-        not-zero = λ n. ((not-zero-alike p Γ t u h l.0 n.0.0, not-zero-alike q Γ t u h l.1 n.0.1, tt), rest.not-zero n.1);
+        not-zero = λ n. ((not-zero-alike p Γ t u h l.0 n.0.0, not-zero-alike q Γ t u h l.1 n.0.1), rest.not-zero n.1);
       }

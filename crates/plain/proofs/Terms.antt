@@ -8,7 +8,7 @@ use native.Mathlib.Nat.{le_trans}
 use native.Mathlib.Omega.{arith}
 use lib.IntN.{ℤ}
 use lib.Dec.{eqb}
-use Rattle.field.specs.Operations.{Answer}
+use Rattle.field.specs.Operations.{Answer, HasValue}
 use Rattle.std.specs.Prelude.{Some, None}
 use Rattle.field.specs.declared.InfixOp.{InfixOp}
 use Rattle.field.specs.Prime.{P}
@@ -27,7 +27,7 @@ use Rattle.eval_trees.specs.Simplify.{infix_op}
 use Rattle.eval_trees.proofs.Runs.{Same}
 use Rattle.eval_trees.proofs.Helpers.{infix-case}
 use Rattle.plain.specs.Plain.{is_arithmetic}
-use Rattle.plain.specs.Meaning.{Table, value_of, Valued}
+use Rattle.plain.specs.Meaning.{Table, value_of}
 use Rattle.plain.proofs.Values.{false-true, negated_back, values-back, Canonical, element-path, table}
 
 -- the definitions, the newest first, worked out from the oldest on; each has a value
@@ -37,7 +37,7 @@ run t (d ∷ ds) = update (run t ds) d.id (or_zero (value (run t ds) d.right))
 
 abbrev pub RunValued : Assignment → List Definition → Type 0
 RunValued t [] = Unit {0}
-RunValued t (d ∷ ds) = Valued (value (run t ds) d.right) × RunValued t ds
+RunValued t (d ∷ ds) = HasValue (value (run t ds) d.right) × RunValued t ds
 
 -- what the ids mean, by the definitions pushed so far
 abbrev pub now : Assignment → State → Table

@@ -1,5 +1,5 @@
--- A flat list worked out in order, where every right side has a value: its definitions hold, no divisor is zero, all values are elements.
-use mathlib.Core.Path.{◌≡◌, refl, sym, ap, ap₂, subst, ◌∙◌}
+-- A flat list worked out in order, where every right side has a value: its definitions hold, every operation has a value, all values are elements.
+use mathlib.Core.Path.{◌≡◌, refl, sym, ap, ap₂, ◌∙◌}
 use mathlib.Core.Bool.{Bool, true, false, ◌||◌}
 use mathlib.Core.List.{List, [], ◌∷◌}
 use mathlib.Core.Logic.{◌↔◌}
@@ -8,16 +8,10 @@ use lib.IntN.{ℤ}
 use lib.Dec.{eqb}
 use borrow.Author.Tests.{eqb-false}
 use Rattle.std.specs.Prelude.{Some}
-use Rattle.field.specs.declared.InfixOp.{InfixOp}
-use Rattle.field.specs.declared.InfixOp.TheVariants.{Divide, DivideZ, Multiply, Add, Subtract, Equal, Exponentiate, IntDivide, Modulo}
-use Rattle.field.specs.Prime.{P}
-use Rattle.field.specs.Operations.{infix_of, Answer}
-use Rattle.field.proofs.Primality.{P-prime}
-use Rattle.field.proofs.Values.{zero-value, divide-valued, int-divide-valued, modulo-valued}
 use Rattle.flat.specs.Trees.{Flat, Definition, Equation, defines}
 use Rattle.flat.specs.Rules.{All, Every, Ordered}
 use Rattle.flat.specs.Meaning.{Assignment, Elements, on_values, negated, value, DefinitionHolds}
-use Rattle.flat.specs.Meaning.{EquationHolds, DivisorNotZero, NoZeroDivisor, or_zero, worked_out, NoZeroInTurn}
+use Rattle.flat.specs.Meaning.{EquationHolds, NoZeroDivisor, or_zero, worked_out, NoZeroInTurn}
 use Rattle.plain.specs.Meaning.{Equal-sides}
 use Rattle.plain.proofs.Values.{false-true, negated_back, values-back, update_same, update_other}
 use Rattle.plain.proofs.Terms.{update-elements}
@@ -65,28 +59,14 @@ definitions-hold (d ∷ ds) ρ o w = (
   definitions-hold ds _ o.2 w.1,
 )
 
--- a division with a value has a divisor that is not zero
-pub divisor-not-zero : (o : InfixOp) (x y z : ℤ) → infix_of P o x y ≡ Some z → DivisorNotZero o (Some y)
-divisor-not-zero Divide x y z h = λ e. (divide-valued P P-prime x y).0 (z, h) (zero-value P P-prime y e)
-divisor-not-zero DivideZ x y z h = tt
-divisor-not-zero Multiply x y z h = tt
-divisor-not-zero Add x y z h = tt
-divisor-not-zero Subtract x y z h = tt
-divisor-not-zero Equal x y z h = tt
-divisor-not-zero Exponentiate x y z h = tt
-divisor-not-zero IntDivide x y z h = λ e. (int-divide-valued P P-prime x y).0 (z, h) (zero-value P P-prime y e)
-divisor-not-zero Modulo x y z h = λ e. (modulo-valued P P-prime x y).0 (z, h) (zero-value P P-prime y e)
-
-divisor-of : (o : InfixOp) (v : Answer) (y : ℤ) → v ≡ Some y → DivisorNotZero o (Some y) → DivisorNotZero o v
-divisor-of o v y e h = subst (DivisorNotZero o) (sym e) h
-
+-- in an expression with a value every operation has one
 no_zero : (σ : Assignment) (f : Flat) (z : ℤ) → value σ f ≡ Some z → NoZeroDivisor σ f
 unfolding value
 no_zero σ (Flat.infixed o a b) z h =
     let w = values-back o (value σ a) (value σ b) z h in (
       no_zero σ a w.x w.first,
       no_zero σ b w.y w.second,
-      divisor-of o (value σ b) w.y w.second (divisor-not-zero o w.x w.y z w.result),
+      (z, h),
     )
 no_zero σ (Flat.negate a) z h = let w = negated_back (value σ a) z h in no_zero σ a w.at w.arg
 no_zero σ (Flat.constant c) z h = tt

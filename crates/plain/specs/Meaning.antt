@@ -1,15 +1,13 @@
 -- What a plain module says, "worked out from the top": a table of names, the values of expressions, when no divisor is zero, when the equations hold.
-use Rattle.std.specs.Prelude.{◌≡◌, List, [], ◌∷◌, ℕ, ℤ, pos, negsuc, Some, None}
-use Rattle.field.specs.Operations.{Answer}
-use Rattle.field.specs.declared.InfixOp.{InfixOp}
-use Rattle.field.specs.declared.InfixOp.TheVariants.{Divide, DivideZ, Multiply, Add, Subtract, Equal, Exponentiate, IntDivide, Modulo}
+use Rattle.std.specs.Prelude.{◌≡◌, List, [], ◌∷◌, ℕ, ℤ, Some, None}
+use Rattle.field.specs.Operations.{Answer, HasValue}
 use Rattle.field.specs.Prime.{P}
 use Rattle.field.specs.Element.{elem}
 use Rattle.source.specs.Trees.{Pat, Expr, unit, nil, sequence, product, cons, binary, negate, application}
 use Rattle.source.specs.Trees.{constant, variable, function, intrinsic, letting, matching, Module}
 use Rattle.source.specs.Forms.{on_infix, on_variable_p}
 use Rattle.flat.specs.Rules.{All}
-use Rattle.flat.specs.Meaning.{update, on_values, negated, DivisorNotZero}
+use Rattle.flat.specs.Meaning.{update, on_values, negated}
 
 -- an entry, as a value, is None where an operation had no value
 abbrev pub Table : Type 0
@@ -69,21 +67,10 @@ start ρ = λ x. Some (ρ x)
 abbrev pub Holds : Module → (ℕ → ℤ) → Type 0
 Holds m ρ = All Equal-sides (sides (defined (start ρ) m.definitions) m.expressions)
 
--- "Divisors are the right sides of `/`, `\`, `%` anywhere in the module, used or not"; "A negative power of 0 counts as a zero divisor,
--- `|` at 0 does not"
-abbrev pub NotZeroAt : InfixOp → Answer → Answer → Type 0
-NotZeroAt Divide x y = DivisorNotZero Divide y
-NotZeroAt DivideZ x y = DivisorNotZero DivideZ y
-NotZeroAt Multiply x y = DivisorNotZero Multiply y
-NotZeroAt Add x y = DivisorNotZero Add y
-NotZeroAt Subtract x y = DivisorNotZero Subtract y
-NotZeroAt Equal x y = DivisorNotZero Equal y
-NotZeroAt Exponentiate x y = (n : ℕ) → y ≡ Some (negsuc n) → x ≡ Some (pos 0) → ⊥
-NotZeroAt IntDivide x y = DivisorNotZero IntDivide y
-NotZeroAt Modulo x y = DivisorNotZero Modulo y
-
+-- "Divisors .. anywhere in the module, used or not": every operation has a value on its sides' values. Which these are, in the rules' words:
+-- `DivisorNotZero` of crate field, by `has-value-where`
 abbrev pub NotZeroIn : Table → Expr → Type 0
-NotZeroIn t (binary o a b) = NotZeroIn t a × NotZeroIn t b × NotZeroAt o (value_of t a) (value_of t b)
+NotZeroIn t (binary o a b) = NotZeroIn t a × NotZeroIn t b × HasValue (on_values o (value_of t a) (value_of t b))
 NotZeroIn t (negate a) = NotZeroIn t a
 NotZeroIn t (letting p v b) = NotZeroIn t v × NotZeroIn (write p (value_of t v) t) b
 NotZeroIn t (constant n) = Unit {0}
@@ -102,20 +89,22 @@ abbrev pub NotZeroInDefinitions : Table → List (Pat × Expr) → Type 0
 NotZeroInDefinitions t [] = Unit {0}
 NotZeroInDefinitions t (d ∷ ds) = NotZeroIn t d.1 × NotZeroInDefinitions (write d.0 (value_of t d.1) t) ds
 
+-- both sides of an equation
+unfoldable pub NotZeroInEquation : Table → Expr → Type 0
+unfolding on_infix
+NotZeroInEquation t e = on_infix e (λ o a b. NotZeroIn t a × NotZeroIn t b) (Unit {0})
+
 abbrev pub NoDivisorZero : Module → (ℕ → ℤ) → Type 0
-NoDivisorZero m ρ = NotZeroInDefinitions (start ρ) m.definitions × All (NotZeroIn (defined (start ρ) m.definitions)) m.expressions
+NoDivisorZero m ρ = NotZeroInDefinitions (start ρ) m.definitions × All (NotZeroInEquation (defined (start ρ) m.definitions)) m.expressions
 
 -- what this condition is for: every definition in its turn, and both sides of every equation, have a value, so that no operation in them has none
-abbrev pub Valued : Answer → Type 0
-Valued v = (z : ℤ) × (v ≡ Some z)
-
 abbrev pub DefinitionsValued : Table → List (Pat × Expr) → Type 0
 DefinitionsValued t [] = Unit {0}
-DefinitionsValued t (d ∷ ds) = Valued (value_of t d.1) × DefinitionsValued (write d.0 (value_of t d.1) t) ds
+DefinitionsValued t (d ∷ ds) = HasValue (value_of t d.1) × DefinitionsValued (write d.0 (value_of t d.1) t) ds
 
 abbrev pub EquationsValued : Table → List Expr → Type 0
 EquationsValued t [] = Unit {0}
-EquationsValued t (e ∷ es) = Valued (sides_of t e).0 × Valued (sides_of t e).1 × EquationsValued t es
+EquationsValued t (e ∷ es) = HasValue (sides_of t e).0 × HasValue (sides_of t e).1 × EquationsValued t es
 
 abbrev pub AllValued : Module → (ℕ → ℤ) → Type 0
 AllValued m ρ = DefinitionsValued (start ρ) m.definitions × EquationsValued (defined (start ρ) m.definitions) m.expressions

@@ -56,14 +56,10 @@ PlainModulesAgree =
 abbrev pub PlainHasPlainBody : Type 0
 PlainHasPlainBody = (m : Module) → is_plain m ≡ true → is_plain_body m ≡ true
 
--- NO DIVISOR IS ZERO JUST WHERE EVERY OPERATION HAS A VALUE: the condition leaves no module out that has its values, and lets none in that has not
+-- NO DIVISOR IS ZERO JUST WHERE EVERY DEFINITION AND EVERY SIDE HAS A VALUE: the condition leaves no module out that has its values,
+-- and lets none in that has not
 abbrev pub DivisorsPinned : Type 0
-DivisorsPinned =
-    (m : Module) →
-    is_plain_body m ≡ true →
-    (ρ : ℕ → ℤ) →
-    ((x : ℕ) → elem P (ρ x) ≡ ρ x) →
-    NoDivisorZero m ρ ↔ AllValued m ρ
+DivisorsPinned = (m : Module) → is_plain_body m ≡ true → (ρ : ℕ → ℤ) → NoDivisorZero m ρ ↔ AllValued m ρ
 
 -- ONLY THE INPUTS COUNT: where ρ and τ give them the same elements, the module says the same
 abbrev pub InputsAlone : Type 0

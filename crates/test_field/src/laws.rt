@@ -27,12 +27,13 @@ pub enum Law {
     DivideZElement,
     DivideByZero,
     DivideZByZero,
+    DivideZZeros,
     CanonicalSum,
     CanonicalProduct,
 }
 
 // All of them.
-const LAWS: [Law; 20] = [
+const LAWS: [Law; 21] = [
     Law::SumsCommute,
     Law::ProductsCommute,
     Law::SumsRegroup,
@@ -51,6 +52,7 @@ const LAWS: [Law; 20] = [
     Law::DivideZElement,
     Law::DivideByZero,
     Law::DivideZByZero,
+    Law::DivideZZeros,
     Law::CanonicalSum,
     Law::CanonicalProduct,
 ];
@@ -187,6 +189,14 @@ fn over_first(op: InfixOp, a: i64, b: i64, at_zero: Option<i64>) -> Sides {
     )
 }
 
+// What `|` by 0 gives: 0 of 0, and nothing of another number.
+fn given_at_zero(a: i64) -> Option<i64> {
+    if field::canonical(a) == 0 {
+        return Some(0);
+    }
+    None
+}
+
 // By b - b.
 fn over_zero(op: InfixOp, x: Option<i64>, y: Option<i64>, at_zero: Option<i64>) -> Sides {
     both(chained(op, x, chained(InfixOp::Subtract, y, y)), at_zero)
@@ -218,7 +228,8 @@ fn sides_of(law: Law, a: i64, b: i64, c: i64) -> Sides {
         Law::DivideElement => over_second(InfixOp::Divide, field::canonical(a), b, none),
         Law::DivideZElement => over_second(InfixOp::DivideZ, field::canonical(a), b, zero),
         Law::DivideByZero => over_zero(InfixOp::Divide, x, y, none),
-        Law::DivideZByZero => over_zero(InfixOp::DivideZ, x, y, zero),
+        Law::DivideZByZero => over_zero(InfixOp::DivideZ, x, y, given_at_zero(a)),
+        Law::DivideZZeros => over_zero(InfixOp::DivideZ, chained(InfixOp::Subtract, x, x), y, zero),
         Law::CanonicalSum => both(canonical(c), add(canonical(a), canonical(b))),
         Law::CanonicalProduct => both(canonical(c), multiply(canonical(a), canonical(b))),
     }
