@@ -168,7 +168,9 @@ unused = record {
 
 pub left-aside : NoDivisorZero unused (λ n. pos 5) → ⊥
 unfolding answer_of update on_values write value_of Meaning.defined NotZeroInEquation
-left-aside h = nothing-value h.0.0.1.1.0 h.0.0.1.1.1
+left-aside h =
+    let valued = h.0.0.2 in
+    nothing-value valued.0 valued.1
 
 pub not-left-aside : NoDivisorZero unused (λ n. pos 0)
 unfolding answer_of update on_values write value_of Meaning.defined NotZeroInEquation
