@@ -24,7 +24,7 @@ from trees import ADD, C, D, DIV, DIVZ, EQ, EXP, I, IDIV, L, MOD, MUL, SUB, V
 P = 2147483647
 NEGATE, COPY = 9, 10
 INPUTS, NAMES = ("x", "y", "z", "w"), ("a", "b", "c", "d", "x", "y")
-CONSTANTS = (0, 1, -1, 2, 3, -2, 7, 512, 513, 1073741823, -1073741824, 2147483647, -2147483648)
+CONSTANTS = (0, 1, -1, 2, 3, -2, 7, 512, 513, 1073741823, -1073741824, 2147483647, -2147483648, 2147483648, -6442450941, 2**63 - 1, -(2**63))
 EXPONENTS = (0, 1, 2, 3, 4, 5, 7, 8, 16, 64, 65, 1000, -1, -2, -3, -7, -64, -65)
 INTRINSICS = 9  # ids that numbering draws for fresh, iter and fold
 

@@ -5,14 +5,12 @@ use mathlib.Core.List.{List, [], ◌∷◌}
 use Prim.Native.Nat.{ℕ}
 use Rattle.field.specs.declared.InfixOp.{InfixOp}
 use Rattle.field.specs.declared.InfixOp.TheVariants.{Divide, DivideZ, Multiply, Add, Subtract, Equal, Exponentiate, IntDivide, Modulo}
-use Rattle.source.specs.Trees.{Pat, unit_p, nil_p, as_p, product_p, cons_p, variable_p, constant_p, Expr, unit, nil, sequence, product}
-use Rattle.source.specs.Trees.{cons, binary, negate, application, constant, variable, function, intrinsic, letting, matching, Module}
-use Rattle.source.specs.Record.{module_of}
+use Rattle.source.specs.Trees.{Module}
 use Rattle.flat.specs.Trees.{Flat, Definition, Equation, FlatModule}
 use Rattle.flat.specs.Rules.{All}
 use Rattle.pass_trees.specs.Passes.{classify_defs, cuttable, cuttable_expr, cuttable_defs, cuttable_equations, counted, unless, fitting, cut_of, passes}
 use Rattle.pass_trees.proofs.Lists.{all_map, all-those}
-use Rattle.numbering.specs.Numbering.{Ids, registered, numbered}
+use Rattle.numbering.specs.Numbering.{numbered}
 use Rattle.eval_trees.specs.Evaluation.{flat, evaluated}
 use Rattle.eval_trees.proofs.Good.{false-true, both_true}
 use Rattle.eval_trees.proofs.Helpers.{and-true}
@@ -34,7 +32,7 @@ cuttable-operation Exponentiate h = absurd h
 cuttable-operation IntDivide h = refl
 cuttable-operation Modulo h = refl
 
-cuttable-expr : (e : Flat) → NarrowTree e → cuttable_expr e ≡ true
+cuttable-expr : (e : Flat) → CutTree e → cuttable_expr e ≡ true
 unfolding cuttable_expr
 cuttable-expr (Flat.infixed o a b) h = and-true _ _ (cuttable-operation o h.0) (and-true _ _ (cuttable-expr a h.1) (cuttable-expr b h.2))
 cuttable-expr (Flat.negate a) h = cuttable-expr a h
@@ -45,9 +43,9 @@ pub record CuttableModule (f : FlatModule) : Type 0 where
   pub definitions : All (λ d. cuttable_expr d.right ≡ true) f.definitions
   pub equations : All (λ e. (cuttable_expr e.left ≡ true) × (cuttable_expr e.right ≡ true)) f.equations
 
-pub evaluated-cuttable : (m : Module) → NarrowModule m → (capacity : ℕ) (f : FlatModule) → evaluated capacity (numbered m) ≡ flat f → CuttableModule f
-evaluated-cuttable m h capacity f e =
-    let w = made-narrow m h capacity f e in
+pub evaluated-cuttable : (m : Module) (capacity : ℕ) (f : FlatModule) → evaluated capacity (numbered m) ≡ flat f → CuttableModule f
+evaluated-cuttable m capacity f e =
+    let w = made-listed m capacity f e in
     record {
       definitions = all_map (λ d n. cuttable-expr d.right n) f.definitions w.definitions;
       equations = all_map (λ q n. (cuttable-expr q.left n.0, cuttable-expr q.right n.1)) f.equations w.equations;
@@ -63,11 +61,12 @@ unfolding cuttable_equations
 cuttable-equations [] h = refl
 cuttable-equations (e ∷ es) h = and-true _ _ h.0.0 (and-true _ _ h.0.1 (cuttable-equations es h.1))
 
-pub not-22 : (m : Module) → NarrowModule m → (capacity : ℕ) (f : FlatModule) → evaluated capacity (numbered m) ≡ flat f
+-- of whatever module
+pub not-22 : (m : Module) (capacity : ℕ) (f : FlatModule) → evaluated capacity (numbered m) ≡ flat f
     → flattened_of capacity m ≡ fitting (passes f)
 unfolding flattened_of passed cut_of unless counted classify_defs
-not-22 m h capacity f e =
-    let w = evaluated-cuttable m h capacity f e in
+not-22 m capacity f e =
+    let w = evaluated-cuttable m capacity f e in
     ap passed e
     ∙ ap (λ (b : Bool). unless b 22 (fitting (passes f)))
     (and-true _ _ (cuttable-definitions (counted f) (all-those _ _ _ (all-those _ _ f.definitions w.definitions)))

@@ -9,12 +9,10 @@ use lib.Seq.{take_at}
 use lib.Dec.{leb}
 use Rattle.source.specs.Trees.{Module}
 use Rattle.source.specs.Record.{Read, source_of}
-use Rattle.source.proofs.Accepted.{accepted-module}
-use Rattle.flat.specs.Trees.{Flat, FlatModule}
 use Rattle.flat.specs.Record.{pick}
 use Rattle.constraint.specs.Trees.{ConstraintModule}
 use Rattle.constraint.specs.Record.{constraint_bytes}
-use Rattle.constraint.specs.Reading.{constraint_of, SignedTree, Signed}
+use Rattle.constraint.specs.Reading.{constraint_of, Signed}
 use Rattle.constraint.proofs.ReadBack.{read_back}
 use Rattle.pass_trees.specs.Passes.{Outcome, cut, refused}
 use Rattle.pass_trees.specs.Statements.{SignedModule}
@@ -25,8 +23,7 @@ use Rattle.std.specs.Prelude.{Result, Ok, Err}
 use Rattle.pass_entry.specs.Cut.{answer_for, output_for}
 use Rattle.numbering.specs.Numbering.{numbered}
 use Rattle.eval_trees.specs.Evaluation.{Evaluated, flat, refusal, evaluated}
-use Rattle.eval_trees.proofs.Narrow.{NarrowTree}
-use Rattle.eval_trees.proofs.NarrowModule.{NarrowModule, made-narrow, read-narrow}
+use Rattle.eval_trees.proofs.ShownModule.{made-signed}
 use Rattle.eval_entry.specs.Source.{capacity_of}
 use Rattle.agreement.specs.Flattened.{passed, flattened_of}
 use Rattle.agreement.proofs.Agreement.{agreement}
@@ -58,7 +55,7 @@ evaluated-signed m narrow capacity f e =
 
 pub flattened-signed : (b : List ℕ) (len : ℕ) (c : ConstraintModule) → flattened b len ≡ cut c → Signed c
 unfolding flattened flattened_read flattened_of passed
-flattened-signed b len c e = go (source_of b) refl e
+flattened-signed b len c e = go (source_of b) e
   where
     at : (m : Module) (v : Evaluated) → source_of b ≡ Read.module-of m → evaluated (capacity_of len) (numbered m) ≡ v → passed v ≡ cut c → Signed c
     at m (flat f) r q k =

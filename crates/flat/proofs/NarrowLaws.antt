@@ -1,0 +1,61 @@
+-- What a flat list has for a constant: a signed 32-bit number with the same element, and the constant itself where that is one.
+use mathlib.Core.Path.{◌≡◌, refl}
+use mathlib.Core.Bool.{Bool, true, false, cond}
+use Prim.Native.Nat.{ℕ, ◌<◌, ◌≤◌}
+use native.Mathlib.Omega.{arith}
+use lib.Dec.{ltb}
+use lib.IntN.{ℤ, pos, negsuc, nat_abs}
+use lib.Signed.{mag, lt_z}
+use borrow.Author.Tests.{ltb-true, ltb-false, lt-ltb, le-ltb}
+use mir.Syntax.{w32}
+use mir.Val.{SFits}
+use Rattle.field.specs.Prime.{P}
+use Rattle.field.specs.Element.{elem}
+use Rattle.field.proofs.Primality.{P-above}
+use Rattle.field.proofs.Elements.{elem-elem, elem-range}
+use Rattle.flat.specs.Narrow.{narrow}
+
+-- elements fit
+small-fits : (z : ℤ) → nat_abs z < 1073741824 → SFits w32 z
+small-fits (pos n) l = record { sfits = omega arith }
+small-fits (negsuc n) l = record { sfits = omega arith }
+
+pub elem-fits : (z : ℤ) → SFits w32 (elem P z)
+elem-fits z = small-fits (elem P z) (omega (arith, elem-range P (omega arith) z))
+
+pub narrow-same : (z : ℤ) → SFits w32 z → narrow z ≡ z
+unfolding narrow
+narrow-same z f = rw (lt-ltb (mag z) 2147483648 f.sfits) refl
+
+pub narrow-wide : (z : ℤ) → 2147483648 ≤ mag z → narrow z ≡ elem P z
+unfolding narrow
+narrow-wide z l = rw (le-ltb (mag z) 2147483648 l) refl
+
+pub narrow-fits : (z : ℤ) → SFits w32 (narrow z)
+unfolding narrow
+narrow-fits z = go (ltb (mag z) 2147483648) refl
+  where
+    go : (c : Bool) → ltb (mag z) 2147483648 ≡ c → SFits w32 (cond c z (elem P z))
+    go true e = record { sfits = ltb-true (mag z) 2147483648 e }
+    go false e = elem-fits z
+
+pub narrow-element : (z : ℤ) → elem P (narrow z) ≡ elem P z
+unfolding narrow
+narrow-element z = go (ltb (mag z) 2147483648)
+  where
+    go : (c : Bool) → elem P (cond c z (elem P z)) ≡ elem P z
+    go true = refl
+    go false = elem-elem P P-above z
+
+-- what the code tests
+pub below-least : (z : ℤ) → lt_z z (negsuc 2147483647) ≡ true → 2147483648 ≤ mag z
+below-least (pos n) e = let o : ◌≡◌ {A = ℕ} 0 1 = cc in absurd (omega arith)
+below-least (negsuc n) e = omega (arith, ltb-true 2147483647 n e)
+
+pub above-greatest : (z : ℤ) → lt_z (pos 2147483647) z ≡ true → 2147483648 ≤ mag z
+above-greatest (pos n) e = omega (arith, ltb-true 2147483647 n e)
+above-greatest (negsuc n) e = let o : ◌≡◌ {A = ℕ} 0 1 = cc in absurd (omega arith)
+
+pub between : (z : ℤ) → lt_z z (negsuc 2147483647) ≡ false → lt_z (pos 2147483647) z ≡ false → SFits w32 z
+between (pos n) e f = record { sfits = omega (arith, ltb-false 2147483647 n f) }
+between (negsuc n) e f = record { sfits = omega (arith, ltb-false 2147483647 n e) }
