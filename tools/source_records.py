@@ -94,14 +94,15 @@ def nodes_of(record):
     return at, [struct.unpack_from("<4I", record, at + 16 * k) for k in range(nodes)]
 
 
-def widened(record, rng):
-    """The record with other numbers for half of its constants. Those of expressions have mostly the same element, so that a module stays accepted."""
+def widened(record, rng, kept=False):
+    """The record with other numbers for half of its constants. Those of expressions have mostly the same element, so that a module stays accepted;
+    where elements are to be kept, all have."""
     at, nodes = nodes_of(record)
     out = bytearray(record)
     for k, (kind, low, high, _) in enumerate(nodes):
         if kind not in (7, 22) or rng.random() < 0.5:
             continue
-        edge = rng.random() < (0.1 if kind == 7 else 0.4)
+        edge = not kept and rng.random() < (0.1 if kind == 7 else 0.4)
         n = rng.choice(EDGES) if edge else unreduced(model.s64(low, high), rng)
         struct.pack_into("<q", out, at + 16 * k + 4, n)
     return bytes(out)
