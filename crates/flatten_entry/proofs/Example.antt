@@ -57,11 +57,11 @@ module-text = record {
 }
 
 pub is_read : source_of product ≡ Read.module-of module-text
-unfolding integer word_at bytes_of every total rows pick Layout.counted listed offset_of length_of end_of printed name_fits names_fit same_bytes same_name name_new
+unfolding word_at bytes_of every total rows pick Layout.counted listed offset_of length_of end_of printed name_fits names_fit same_bytes same_name name_new
     names_differ name_of operator_of infix_for entry_for entry_of is_expression is_pattern expression_fits pattern_fits item_fits result_fits link_fits
     chain_fits child_fits children_fit nodes_fit definitions_fit expressions_fit publics_fit same result_uses link_uses chain_uses child_uses children_use
     by_nodes by_definitions by_expressions expression_of pattern_of link_of grown tree definition_at expression_at module_of shaped used_once Record.unless
-    source_of
+    source_of integer
 is_read = refl
 
 is-plain : is_plain module-text ≡ true

@@ -38,12 +38,10 @@ sample = record {
 }
 
 pub sample-read-back : source_of (record_of sample) ≡ Read.module-of sample
-unfolding integer low_word high_word word_at bytes_of every total rows pick counted listed offset_of length_of end_of printed name_fits names_fit same_bytes same_name name_new
-    names_differ name_of operator_of infix_for entry_for entry_of is_expression is_pattern expression_fits pattern_fits item_fits result_fits
-    link_fits chain_fits child_fits children_fit
-    nodes_fit definitions_fit expressions_fit publics_fit same result_uses link_uses chain_uses child_uses children_use by_nodes by_definitions by_expressions
-    expression_of pattern_of link_of grown tree definition_at expression_at module_of shaped used_once unless source_of root_of link_to pat_count pats_count
-    expr_count pat_nodes pats_nodes expr_nodes definitions_count definitions_nodes definitions_words
-    expressions_count expressions_nodes expressions_words pair_words
-    joined record_words record_of
+unfolding word_at bytes_of every total rows pick counted listed offset_of length_of end_of printed name_fits names_fit same_bytes same_name name_new
+    names_differ name_of operator_of infix_for entry_for entry_of is_expression is_pattern expression_fits pattern_fits item_fits result_fits link_fits
+    chain_fits child_fits children_fit nodes_fit definitions_fit expressions_fit publics_fit same result_uses link_uses chain_uses child_uses children_use
+    by_nodes by_definitions by_expressions expression_of pattern_of link_of grown tree definition_at expression_at module_of shaped used_once unless
+    source_of root_of link_to pat_count pats_count expr_count pat_nodes pats_nodes expr_nodes definitions_count definitions_nodes definitions_words
+    expressions_count expressions_nodes expressions_words pair_words joined record_words record_of integer low_word high_word
 sample-read-back = refl
