@@ -5,7 +5,7 @@ use mathlib.Core.List.{List, [], ◌∷◌}
 use Prim.Native.Nat.{ℕ, ◌≤◌}
 use lib.Dec.{eqb}
 use lib.IntN.{ℤ}
-use Rattle.field.specs.declared.Answer.{Answer}
+use Rattle.field.specs.Operations.{Answer}
 use Rattle.source.specs.Trees.{Expr}
 use Rattle.flat.specs.Trees.{Definition, Equation, FlatModule, defines}
 use Rattle.flat.specs.Places.{definition_placed, place_definitions, place_equations, place_module}
