@@ -20,6 +20,7 @@ const PLACE_COUNT: usize = 2 * LISTED;
 // Kept as it is: LISTED once more, as u32, since Rust has no constant of two types.
 const LIST: u32 = LISTED as u32;
 
+#[derive(Drop)]
 pub struct Places {
     words: [u32; PLACE_COUNT],
 }
