@@ -65,7 +65,7 @@ OPERATIONS = {
 
 
 def value(e, table):
-    """An expression's value; a zero divisor has none, used or not."""
+    """An expression's value; an operation without value is an error, used or not."""
     if e[0] == "const":
         return element(e[1])
     if e[0] == "var":

@@ -9,6 +9,7 @@ use native.Mathlib.Omega.{arith}
 use lib.IntN.{ℤ, pos, negsuc}
 use lib.Dec.{eqb}
 use Rattle.field.specs.Operations.{Answer}
+use Rattle.field.proofs.Answers.{nothing-value}
 use Rattle.std.specs.Prelude.{Some}
 use Rattle.field.specs.declared.InfixOp.TheVariants.{Divide, DivideZ, Multiply, Add, Subtract, Equal, Exponentiate, IntDivide, Modulo}
 use Rattle.source.specs.Trees.{variable_p, Expr, binary, negate, constant, variable, letting, Module}
@@ -157,3 +158,22 @@ not-zero = (
       also (tt, tt)
       also tt,
 )
+
+-- def b = a | 0, and nothing uses b: 5 as a is left aside, since 5 | 0 has no value, and 0 is not
+abbrev pub unused : Module
+unused = record {
+  names = (97 ∷ []) ∷ (98 ∷ []) ∷ [];
+  publics = [];
+  definitions = (variable_p 1, binary DivideZ a (number 0)) ∷ [];
+  expressions = [];
+}
+
+pub left-aside : NoDivisorZero unused (λ n. pos 5) → ⊥
+unfolding answer_of update on_values write value_of Meaning.defined NotZeroInEquation
+left-aside h =
+    let valued = h.0.0.2 in
+    nothing-value valued.0 valued.1
+
+pub not-left-aside : NoDivisorZero unused (λ n. pos 0)
+unfolding answer_of update on_values write value_of Meaning.defined NotZeroInEquation
+not-left-aside = (((tt, tt, (_, refl)), tt), tt)

@@ -13,7 +13,7 @@ use Rattle.field.specs.declared.InfixOp.TheVariants.{Divide, DivideZ, Multiply, 
 use Rattle.field.specs.Prime.{Prime}
 use Rattle.field.specs.Element.{res, elem}
 use Rattle.field.specs.Operations.{pick, sum, difference, product, raised, divide_of, divide_z_of, int_divide_of, modulo_of, exponentiate_of, infix_of}
-use Rattle.field.specs.Operations.{HasValue, DivisorNotZero}
+use Rattle.field.specs.Operations.{HasValue, HasValueWhere}
 use Rattle.field.proofs.Elements.{elem-zero, zero-elem}
 use Rattle.field.proofs.ByResidues.{pick-zero, pick-else}
 use Rattle.field.proofs.Answers.{nothing-value}
@@ -97,14 +97,14 @@ module _ (p : ℕ) (prime : Prime p) where
         go h (yes e) = (pos 0, at-zero e ∙ pick-zero (res p a) _ _ (zero-elem p above a (h (elem-zero p above b e))))
         go h (no e) = (_, pick-else (res p b) _ _ e)
 
-    -- of every operation: it has a value just where the rules say so
-    pub has-value-where : (o : InfixOp) → HasValue (infix_of p o a b) ↔ DivisorNotZero p o a b
-    has-value-where Divide = divide-valued
-    has-value-where DivideZ = divide-z-valued
-    has-value-where Multiply = ((λ v. tt), (λ h. (_, multiply-answer p a b)))
-    has-value-where Add = ((λ v. tt), (λ h. (_, add-answer p a b)))
-    has-value-where Subtract = ((λ v. tt), (λ h. (_, subtract-answer p a b)))
-    has-value-where Equal = ((λ v. nothing-value (v.0) (sym (equal-answer p a b) ∙ v.1)), (λ h. absurd h))
-    has-value-where Exponentiate = power-valued
-    has-value-where IntDivide = int-divide-valued
-    has-value-where Modulo = modulo-valued
+  -- of every operation: it has a value just where the rules say so
+  pub has-value-where : HasValueWhere p
+  has-value-where a b Divide = divide-valued a b
+  has-value-where a b DivideZ = divide-z-valued a b
+  has-value-where a b Multiply = ((λ v. tt), (λ h. (_, multiply-answer p a b)))
+  has-value-where a b Add = ((λ v. tt), (λ h. (_, add-answer p a b)))
+  has-value-where a b Subtract = ((λ v. tt), (λ h. (_, subtract-answer p a b)))
+  has-value-where a b Equal = ((λ v. nothing-value (v.0) (sym (equal-answer p a b) ∙ v.1)), (λ h. absurd h))
+  has-value-where a b Exponentiate = power-valued a b
+  has-value-where a b IntDivide = int-divide-valued a b
+  has-value-where a b Modulo = modulo-valued a b

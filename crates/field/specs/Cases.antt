@@ -16,7 +16,7 @@ a gives b = record { worked = a; answer = b }
 
 infix 70 ◌gives◌
 -- `negsuc n` is -(n + 1). The nine cases that the rules name, 0 | 0 beside 5 | 0; more of \ and %, rounded to the nearest whole number;
--- then the operations without value beside them, then the ends of 64 bits
+-- | where the prime stands for 0; then the operations without value beside them, then the ends of 64 bits
 abbrev pub cases : List Case
 cases =
     Some (elem P (pos 1073741824)) gives Some (negsuc 1073741822)
@@ -36,6 +36,8 @@ cases =
     ∷ infix_of P IntDivide (negsuc 6) (negsuc 1) gives Some (pos 4)
     ∷ infix_of P Modulo (negsuc 6) (negsuc 1) gives Some (pos 1)
     ∷ infix_of P Modulo (pos 6) (pos 4) gives Some (negsuc 1)
+    ∷ infix_of P DivideZ (pos 5) (pos 2147483647) gives None
+    ∷ infix_of P DivideZ (pos 2147483647) (pos 0) gives Some (pos 0)
     ∷ infix_of P Divide (pos 1) (pos 0) gives None
     ∷ infix_of P IntDivide (pos 7) (pos 0) gives None
     ∷ infix_of P Modulo (pos 7) (pos 0) gives None

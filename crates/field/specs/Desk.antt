@@ -73,7 +73,7 @@ module _ (p : ℕ) where
     -- the other is given back as it is where it is an element
     pub divide-element : (a b : ℤ) → Element a → NonZero b → (Some a ⊗ Some b) ⊘ Some b ≡ Some a
     pub divide-z-element : (a b : ℤ) → Element a → NonZero b → (Some a ⊗ Some b) ⦸ Some b ≡ Some a
-    -- "non-zero" cannot be left out: divided by 0, no number gives a value by `/`, and by `|` only 0 does, 0
+    -- "non-zero" cannot be left out: at divisor 0, `/` has no value, and `|` has one for a dividend of 0 alone, which is 0
     pub divide-by-zero : (a b : ℤ) → elem p b ≡ pos 0 → Some a ⊘ Some b ≡ None
     pub divide-z-by-zero : (a b : ℤ) → elem p b ≡ pos 0 → NonZero a → Some a ⦸ Some b ≡ None
     pub divide-z-zeros : (a b : ℤ) → elem p b ≡ pos 0 → elem p a ≡ pos 0 → Some a ⦸ Some b ≡ Some (pos 0)

@@ -1,6 +1,6 @@
 -- The operations, for any p: what the contracts cite. An operand is any integer and stands for its element.
 -- The laws are in proofs/Laws.antt (for any prime). What pins the rounded quotient is stated in specs/Rounded.antt and proved in proofs/Rounding.antt.
-use Rattle.std.specs.Prelude.{◌≡◌, Option, Some, None, Bool, true, false, ℕ, suc, ◌+◌, ◌*◌, ◌^◌, ◌/◌, ◌%◌, eqb}
+use Rattle.std.specs.Prelude.{◌≡◌, ◌↔◌, Option, Some, None, Bool, true, false, ℕ, suc, ◌+◌, ◌*◌, ◌^◌, ◌/◌, ◌%◌, eqb}
 use Rattle.std.specs.Prelude.{ℤ, pos, negsuc, neg_ℤ, nat_abs, ◌+ℤ◌, ◌-ℤ◌, ◌*ℤ◌}
 use Rattle.field.specs.declared.InfixOp.{InfixOp}
 use Rattle.field.specs.declared.InfixOp.TheVariants.{Divide, DivideZ, Multiply, Add, Subtract, Equal, Exponentiate, IntDivide, Modulo}
@@ -104,7 +104,7 @@ abbrev pub HasValue : Answer → Type 0
 HasValue r = (z : ℤ) × (r ≡ Some z)
 
 -- when an operation has one, in the rules' words. "Divisors are the right sides of `/`, `\`, `%`"; `|` asks that only of a dividend other than 0;
--- "a negative power of 0 counts as a zero divisor". That it is so of every operation: `has-value-where`, proofs/Values.antt
+-- "a negative power of 0 counts as a zero divisor"; `=` has none ever, and in a plain module it stands only where an equation is read
 abbrev pub DivisorNotZero : ℕ → InfixOp → ℤ → ℤ → Type 0
 DivisorNotZero p Divide a b = elem p b ≡ pos 0 → ⊥
 DivisorNotZero p DivideZ a b = elem p b ≡ pos 0 → elem p a ≡ pos 0
@@ -115,3 +115,7 @@ DivisorNotZero p Equal a b = ⊥
 DivisorNotZero p Exponentiate a b = (n : ℕ) → elem p b ≡ negsuc n → elem p a ≡ pos 0 → ⊥
 DivisorNotZero p IntDivide a b = elem p b ≡ pos 0 → ⊥
 DivisorNotZero p Modulo a b = elem p b ≡ pos 0 → ⊥
+
+-- EVERY OPERATION HAS A VALUE JUST WHERE THE RULES SAY SO, for any prime p: `has-value-where`, proofs/Values.antt
+abbrev pub HasValueWhere : ℕ → Type 0
+HasValueWhere p = (a b : ℤ) (o : InfixOp) → HasValue (infix_of p o a b) ↔ DivisorNotZero p o a b

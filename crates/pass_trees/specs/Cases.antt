@@ -56,7 +56,7 @@ case_f-cut =
     ∷ [])
     []
 
--- a | 0 = b: of x | 0 = 0 what evaluation leaves; 5 | 0 = x it refuses, but a record can say it
+-- a | 0 = b. Of x | 0 = 0 evaluation leaves this; 5 | 0 = x it refuses, but a lent record can say it
 abbrev pub over-zero : Flat → Flat → FlatModule
 over-zero a b = flat 11 [] (10 is Flat.infixed InfixOp.DivideZ a (number 0) ∷ []) (v 10 equals b ∷ [])
 

@@ -48,7 +48,7 @@ CutKeepsMeaningAt =
     All (DefinitionHolds τ) (counted f) →
     KeepsMeaning f c I ρ τ
 
--- a divisor has the same value when its turn comes and at the end
+-- every operation has the value at the end that it has when its turn comes, or has none either time
 abbrev pub InTurnIsAtEnd : Type 0
 InTurnIsAtEnd = (ds : List Definition) → Ordered ds → (ρ : Assignment) → NoZeroInTurn ds ρ ↔ All (λ d. NoZeroDivisor (worked_out ds ρ) d.right) ds
 

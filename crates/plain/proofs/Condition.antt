@@ -1,4 +1,4 @@
--- What a plain module says: the condition on divisors from both sides, and that the inputs alone decide.
+-- What a plain module says: the condition on operations from both sides, and that the inputs alone decide.
 use mathlib.Core.Path.{◌≡◌, refl, sym, ap, subst}
 use mathlib.Core.Bool.{true}
 use mathlib.Core.List.{List, [], ◌∷◌}

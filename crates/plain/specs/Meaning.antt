@@ -1,4 +1,4 @@
--- What a plain module says, "worked out from the top": a table of names, the values of expressions, when no divisor is zero, when the equations hold.
+-- What a plain module says, "worked out from the top": a table of names, the values of expressions, when every operation has one, when the equations hold.
 use Rattle.std.specs.Prelude.{◌≡◌, List, [], ◌∷◌, ℕ, ℤ, Some, None}
 use Rattle.field.specs.Operations.{Answer, HasValue}
 use Rattle.field.specs.Prime.{P}
@@ -89,7 +89,7 @@ abbrev pub NotZeroInDefinitions : Table → List (Pat × Expr) → Type 0
 NotZeroInDefinitions t [] = Unit {0}
 NotZeroInDefinitions t (d ∷ ds) = NotZeroIn t d.1 × NotZeroInDefinitions (write d.0 (value_of t d.1) t) ds
 
--- both sides of an equation
+-- the same of both sides of an equation, whose `=` is no operation with a value
 unfoldable pub NotZeroInEquation : Table → Expr → Type 0
 unfolding on_infix
 NotZeroInEquation t e = on_infix e (λ o a b. NotZeroIn t a × NotZeroIn t b) (Unit {0})

@@ -189,7 +189,7 @@ fn over_first(op: InfixOp, a: i64, b: i64, at_zero: Option<i64>) -> Sides {
     )
 }
 
-// What `|` by 0 gives: 0 of 0, and nothing of another number.
+// What a number gives by `|` over 0: 0 gives 0, any other number no value.
 fn given_at_zero(a: i64) -> Option<i64> {
     if field::canonical(a) == 0 {
         return Some(0);
