@@ -132,11 +132,11 @@ module _ (m : ConstraintModule) where
   unfolding header_words H
   next-read = header 0 (omega arith)
 
-  publics-count : publics b ≡ length m.publics
+  pub publics-count : publics b ≡ length m.publics
   unfolding header_words H
   publics-count = header 1 (omega arith)
 
-  provers-count : provers b ≡ length m.provers
+  pub provers-count : provers b ≡ length m.provers
   unfolding header_words H
   provers-count = header 2 (omega arith)
 
@@ -144,11 +144,11 @@ module _ (m : ConstraintModule) where
   unfolding header_words H
   equalities-count = header 3 (omega arith)
 
-  kept-count : kept b ≡ length m.kept
+  pub kept-count : kept b ≡ length m.kept
   unfolding header_words H
   kept-count = header 4 (omega arith)
 
-  nodes-count : nodes b ≡ definitions_nodes m.kept
+  pub nodes-count : nodes b ≡ definitions_nodes m.kept
   unfolding header_words H
   nodes-count = header 5 (omega arith)
 
