@@ -85,7 +85,7 @@ module _ (limit : ℕ) (x y : Term) where
   and-true false = refl
 
   pub side-said : (n : ℕ) → operation_fits n ≡ true → SideSaid n
-  unfolding operation_fits operation_word operator_number operation first second side_for side_fits is_operation operator_of pick
+  unfolding operation_fits operation_word operation first second side_for side_fits is_operation operator_of pick
   side-said zero h = record { number = refl; first-is = refl; second-is = refl; fits = refl }
   side-said (suc zero) h = record { number = refl; first-is = refl; second-is = refl; fits = refl }
   side-said (suc (suc zero)) h = record { number = refl; first-is = refl; second-is = refl; fits = refl }
@@ -105,7 +105,7 @@ module _ (limit : ℕ) (x y : Term) where
 
 -- an operator's number, and whether it may stand in an equality
 operator-fits : (o : InfixOp) → is_operation o ≡ true → (operation_fits (operator_number o) ≡ true) × (ltb (operator_number o) 9 ≡ true)
-unfolding is_operation operation_fits operator_number
+unfolding is_operation operation_fits
 operator-fits InfixOp.Divide h = (refl, refl)
 operator-fits InfixOp.DivideZ h = (refl, refl)
 operator-fits InfixOp.Multiply h = (refl, refl)

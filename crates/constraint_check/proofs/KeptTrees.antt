@@ -46,23 +46,23 @@ module _ (b : List ℕ) (at trees count limit : ℕ) (known : ℕ → Bool) (fit
   -- kept definition k, whose tests hold
   module _ (k : ℕ) (h : kept_stands b at count (start b trees count) known k ≡ true) where
     node : ℕ
-    node = definition_entry b at k.node
+    node = (definition_entry b at k).node
 
     in-nodes : node < count
     unfolding kept_stands entry_stands node
-    in-nodes = ltb-true _ _ (and_left (ltb (definition_entry b at k.node) count) _ h)
+    in-nodes = ltb-true _ _ (and_left (ltb (definition_entry b at k).node count) _ h)
 
     starts : start b trees count node ≡ end_of b at k
     unfolding kept_stands entry_stands node
     starts =
-        let s = eqb (start b trees count (definition_entry b at k.node)) (end_of b at k) in
-        eqb-true _ _ (and_left s _ (and_right (ltb (definition_entry b at k.node) count) _ h))
+        let s = eqb (start b trees count (definition_entry b at k).node) (end_of b at k) in
+        eqb-true _ _ (and_left s _ (and_right (ltb (definition_entry b at k).node count) _ h))
 
-    pub prover : known (definition_entry b at k.id) ≡ true
+    pub prover : known (definition_entry b at k).id ≡ true
     unfolding kept_stands entry_stands
     prover =
-        let s = eqb (start b trees count (definition_entry b at k.node)) (end_of b at k) in
-        and_right s _ (and_right (ltb (definition_entry b at k.node) count) _ h)
+        let s = eqb (start b trees count (definition_entry b at k).node) (end_of b at k) in
+        and_right s _ (and_right (ltb (definition_entry b at k).node count) _ h)
 
     right-is : (read k).right ≡ tree b trees (node + 1) node
     unfolding definition_at node
@@ -85,7 +85,7 @@ module _ (b : List ℕ) (at trees count limit : ℕ) (known : ℕ → Bool) (fit
     unfolding end_of node
     next-end = next-is (end_of b at k) (read k).right ∙ ends
 
-    root-end : root_from (end_of b at k) (read k).right ≡ definition_entry b at k.node
+    root-end : root_from (end_of b at k) (read k).right ≡ (definition_entry b at k).node
     unfolding node
     root-end = root_is (end_of b at k) (read k).right ∙ (omega (arith, ends))
 
@@ -135,7 +135,7 @@ module _ (b : List ℕ) (at trees count limit : ℕ) (known : ℕ → Bool) (fit
 -- ---- what stands there
 
 module _ (b : List ℕ) (at trees count : ℕ) (known : ℕ → Bool) where
-  kept-by : (d : Definition) (k base : ℕ) → end_of b at k ≡ base → definition_entry b at k.id ≡ d.id → definition_entry b at k.node ≡ root_from base d.right
+  kept-by : (d : Definition) (k base : ℕ) → end_of b at k ≡ base → (definition_entry b at k).id ≡ d.id → (definition_entry b at k).node ≡ root_from base d.right
       → Stands b (trees + 4 * base) (nodes_from base d.right) → root_from base d.right < count → known d.id ≡ true
       → kept_stands b at count (start b trees count) known k ≡ true
   unfolding kept_stands entry_stands root_from next_from
@@ -144,7 +144,7 @@ module _ (b : List ℕ) (at trees count : ℕ) (known : ℕ → Bool) where
       let begin : start b trees count r ≡ base = start-settled b trees count r l ∙ (tree-placed b trees d.right base s).starts in
       rw (p, q, e, m, lt-ltb r count l, eq-eqb (start b trees count r) base begin)
 
-  end-is : (d : Definition) (j base : ℕ) → definition_entry b at j.node ≡ root_from base d.right → end_of b at (suc j) ≡ next_from base d.right
+  end-is : (d : Definition) (j base : ℕ) → (definition_entry b at j).node ≡ root_from base d.right → end_of b at (suc j) ≡ next_from base d.right
   unfolding end_of root_from next_from
   end-is d j base q = let p = tree-positive d.right in omega (arith, q)
 

@@ -18,7 +18,7 @@ use Rattle.flat.specs.declared.Node.TheVariants.{Infix, Negate, Constant, Variab
 use Rattle.flat.specs.Layout.{definition_entry}
 use Rattle.flat.specs.Record.{every, rows, pick, nodes_fit, node_of}
 use Rattle.std.proofs.lemmas.Bool.{cases_eq}
-use Rattle.marks.proofs.Indices.{and_no, and-on, every-fails, every_more, every-same}
+use Rattle.marks.proofs.Indices.{and_left, and_no, and-on, every-fails, every_more, every-same}
 use Rattle.flat.proofs.Nodes.{infix-below, negate-below}
 use Rattle.flat.proofs.Rows.{rows_more}
 use Rattle.records.specs.FlatRecord.{IDS, NODES}
@@ -152,26 +152,32 @@ marked-row a f k w e m l =
 
 module _ (b : List ℕ) (at count : ℕ) (first : ℕ → ℕ) (known : ℕ → Bool) (k : ℕ) {d : DefinitionEntry} {end : ℕ} {t : Bool}
     (p : d ≡ definition_entry b at k) (r : end ≡ end_of b at k) (h : t ≡ entry_stands count end first known d) where
-  here : kept_stands b at count first known k ≡ t
+  stood : kept_stands b at count first known k ≡ t
   unfolding kept_stands
-  here = sym (h ∙ ap₂ (λ (e : ℕ) (x : DefinitionEntry). entry_stands count e first known x) r p)
+  stood = sym (h ∙ ap₂ (λ (e : ℕ) (x : DefinitionEntry). entry_stands count e first known x) r p)
 
   pub kept-fails : (n : ℕ) → k < n → t ≡ false → false ≡ kept_stand b at n count first known
   unfolding kept_stand
-  kept-fails n l f = and_no _ _ (sym (every-fails n k (kept_stands b at count first known) l (here ∙ f)))
+  kept-fails n l f = and_no _ _ (sym (every-fails n k (kept_stands b at count first known) l (stood ∙ f)))
 
   pub kept-more : t ≡ true → every k (kept_stands b at count first known) ≡ true
       → (every (k + 1) (kept_stands b at count first known) ≡ true) × (d.node + 1 ≡ end_of b at (k + 1))
   unfolding end_of
   kept-more f g =
       let e : k + 1 ≡ suc k = omega arith in
-      (every_more k (kept_stands b at count first known) g (here ∙ f), rw e (ap (λ (x : DefinitionEntry). x.node + 1) p))
+      (every_more k (kept_stands b at count first known) g (stood ∙ f), rw e (ap (λ (x : DefinitionEntry). x.node + 1) p))
+
+-- one that stands has its node among the nodes
+pub entry-node : (count end : ℕ) (first : ℕ → ℕ) (known : ℕ → Bool) (d : DefinitionEntry) → entry_stands count end first known d ≡ true → d.node < count
+unfolding entry_stands
+entry-node count end first known d h = ltb-true _ _ (and_left (ltb d.node count) _ h)
 
 -- the last of them
-pub kept-end : (b : List ℕ) (at n count : ℕ) (first : ℕ → ℕ) (known : ℕ → Bool) {end : ℕ} {t : Bool}
-    → every n (kept_stands b at count first known) ≡ true → end ≡ end_of b at n → t ≡ eqb end count → t ≡ kept_stand b at n count first known
+pub kept-end : (b : List ℕ) (at n count : ℕ) (first : ℕ → ℕ) (known : ℕ → Bool) (k : ℕ) {end : ℕ} {t : Bool}
+    → every k (kept_stands b at count first known) ≡ true → k ≡ n → end ≡ end_of b at k → t ≡ eqb end count → t ≡ kept_stand b at n count first known
 unfolding kept_stand
-kept-end b at n count first known h f g = and-on _ h (g ∙ ap (λ (j : ℕ). eqb j count) f)
+kept-end b at n count first known k h e f g =
+    and-on _ (ap (λ (j : ℕ). every j (kept_stands b at count first known)) (sym e) ∙ h) (g ∙ ap (λ (j : ℕ). eqb j count) (f ∙ ap (end_of b at) e))
 
 pub kept-none : (b : List ℕ) (at count : ℕ) (first : ℕ → ℕ) (known : ℕ → Bool) → (every 0 (kept_stands b at count first known) ≡ true) × (0 ≡ end_of b at 0)
 unfolding every end_of

@@ -36,7 +36,7 @@ use Rattle.constraint_check.proofs.Starts.{start-settled, start-infix, start-neg
 
 -- operators 0 to 8 have their numbers
 operator-words : (z : ℕ) → z ≤ 8 → operator_number (operator_of z) ≡ z
-unfolding operator_number operator_of pick
+unfolding operator_of pick
 operator-words zero l = refl
 operator-words (suc zero) l = refl
 operator-words (suc (suc zero)) l = refl
