@@ -1,0 +1,8 @@
+-- `season_values::record::Record::new` meets its contract. Assumes nothing.
+use mathlib.Core.Path.{refl}
+use native.Mathlib.Omega.{arith}
+use Rattle.constraint_check.proofs.Accepted.{tested}
+use Rattle.season_values.proofs.record.Record.new.Goals as goal
+
+pub layout_of-requires : goal.layout_of-requires
+layout_of-requires c = omega (arith, (tested c.args.bytes.now c.requires).long)
