@@ -8,7 +8,7 @@ ghost use Rattle.constraint.specs.Reading.{publics, provers, equalities, kept, n
 ghost use Rattle.constraint.specs.Reading.{layout_of, written_at};
 ghost use Rattle.constraint_check.specs.Tests.{tests};
 ghost use Rattle.records.specs.FlatRecord.{IDS};
-ghost use Rattle.season_values.specs.Record.{Below, EqualityBelow, tree_of};
+ghost use Rattle.season_values.specs.Record.{Bytes, bytes-prop, Below, EqualityBelow, tree_of};
 
 use constraint::Equality;
 use constraint::reading::{Layout, equality_at, layout_of};
@@ -20,6 +20,7 @@ use flat::{Node, node_at};
 pub struct Record<'a> {
     pub bytes: &'a [u8],
     pub layout: Layout,
+    pub ghost fit: { Bytes bytes.now } by { bytes-prop _ },
     pub ghost accepted: { tests bytes.now ≡ true } by { Bool-set _ _ },
     pub ghost laid: { layout ≡ layout_of bytes.now } by { Coded-set layout-code _ _ },
 }

@@ -16,4 +16,4 @@ pub returns : goal.returns
 returns c =
     let s = c.args.self.now in
     let value = c.equality_at.ensures ∙ ap (λ (at : ℕ). written_at s.bytes.now at c.args.k) (equalities-at-laid s.bytes.now s.laid) in
-    record { value = value; within = rw value (equality-below s.bytes.now s.accepted (λ k. let q = c.type_inv.self.1 in ?) c.args.k c.requires) }
+    record { value = value; within = rw value (equality-below s.bytes.now s.accepted s.fit c.args.k c.requires) }

@@ -20,6 +20,6 @@ returns c =
     let value = c.definition_at.ensures ∙ ap (λ (at : ℕ). definition_entry b at c.args.k) (kept-at-laid b s.laid) in
     let i = id-is value in
     let n = node-is value in
-    let low = kept-id b (λ k. (c.type_inv.self.1 k).fits) t c.args.k c.requires in
-    let near = kept-node b (λ k. (c.type_inv.self.1 k).fits) t c.args.k c.requires in
+    let low = kept-id b s.fit t c.args.k c.requires in
+    let near = kept-node b s.fit t c.args.k c.requires in
     record { value = value; within = (omega (arith, i, low, ids-few b s.accepted), omega (arith, n, near)) }
