@@ -1,13 +1,13 @@
 -- WHAT PASSES THE TESTS: the module that it says is legal, and the bytes are that module's own. Assumes nothing.
-use mathlib.Core.Bool.{Bool, true, false, ◌&&◌}
+use mathlib.Core.Bool.{true}
 use mathlib.Core.List.{List, [], ◌∷◌, ◌++◌}
 use mathlib.Core.Path.{◌≡◌, refl, sym, ap, subst, ◌∙◌}
 use Prim.Native.Nat.{ℕ, zero, suc, ◌+◌, ◌*◌, ◌≤◌, ◌<◌}
 use native.Mathlib.Omega.{arith}
 use lib.Dec.{eqb, leb, ltb}
 use lib.ListN.{length, get_or}
-use borrow.Author.Tests.{eqb-true, leb-true, le-leb, lt-ltb, ltb-true}
-use Rattle.words.specs.Words.{word_at, bytes_of}
+use borrow.Author.Tests.{eqb-true, lt-ltb, ltb-true}
+use Rattle.words.specs.Words.{word_at}
 use Rattle.flat.specs.Trees.{Definition, definitions_nodes}
 use Rattle.flat.specs.Layout.{public_at, prover_at, definition_entry}
 use Rattle.flat.specs.Record.{every, rows, all_below, nodes_fit, definition_at}
@@ -17,14 +17,16 @@ use Rattle.flat.proofs.Rows.{length-rows}
 use Rattle.flat.proofs.Reading.{below_at, rising-at}
 use Rattle.flat.proofs.Standing.{Stands, stands-join, stands-nothing, standing-bytes}
 use Rattle.flat.proofs.WriteBack.{moved}
-use Rattle.constraint.specs.Trees.{Equality, ConstraintModule}
+use Rattle.constraint.specs.Trees.{Equality}
 use Rattle.constraint.specs.Record.{EQUALITY-WORDS, equality_words, equalities_words, header_words, definitions_words, definitions_trees, constraint_words}
 use Rattle.constraint.specs.Record.{constraint_bytes}
-use Rattle.constraint.specs.Reading.{HEADER, next, publics, provers, equalities, kept, nodes, provers_offset, equalities_offset, kept_offset, nodes_offset, size}
+use Rattle.constraint.specs.Reading.{HEADER, next, publics, provers, equalities, kept, nodes, provers_offset}
+use Rattle.constraint.specs.Reading.{equalities_offset, kept_offset, nodes_offset, size}
 use Rattle.constraint.specs.Reading.{equality_at, layout_of, constraint_of}
 use Rattle.constraint.proofs.Lengths.{length-equality, length-equalities, length-definitions, length-words}
 use Rattle.constraint_check.specs.Record.{every as every_of, rising as rising_of, equality_fits, kept_fits, within_limits, well_formed, legal}
-use Rattle.constraint_check.specs.Tests.{has_few, ids_hold, measured, words_fit, equalities_fit, nodes_follow, end_of, entry_stands, kept_stands, start, kept_stand}
+use Rattle.constraint_check.specs.Tests.{has_few, ids_hold, measured, words_fit, equalities_fit, nodes_follow, end_of}
+use Rattle.constraint_check.specs.Tests.{entry_stands, kept_stands, start, kept_stand}
 use Rattle.constraint_check.specs.Tests.{prover_ids, is_prover, trees_stand, rules, tests}
 use Rattle.constraint_check.proofs.Lists.{every-rows, rising-rows, among-every}
 use Rattle.constraint_check.proofs.EqualityWords.{said_at, equality-said}
@@ -117,12 +119,14 @@ module _ (b : List ℕ) (bytes : (k : ℕ) → get_or b k 0 < 256) (t : Tested b
   equalities-stand zero j l = stands-nothing b _
   equalities-stand (suc n) j l =
       let q = equality_at b (equalities_offset b) j in
-      stands-join b (equalities_offset b + EQUALITY-WORDS * j) (equalities_offset b + EQUALITY-WORDS * suc j) (equality_words q) _ (equality-stands j (omega arith))
+      stands-join b (equalities_offset b + EQUALITY-WORDS * j) (equalities_offset b + EQUALITY-WORDS * suc j) (equality_words q) _
+      (equality-stands j (omega arith))
       (equalities-stand n (suc j) (omega arith)) (omega (arith, length-equality q))
 
   -- ---- kept definitions
 
-  pub stands-at : (k : ℕ) → 0 ≤ k → k < 0 + kept b → kept_stands b (kept_offset b) (nodes b) (start b (nodes_offset b) (nodes b)) (is_prover b) k ≡ true
+  pub stands-at : (k : ℕ) → 0 ≤ k → k < 0 + kept b
+      → kept_stands b (kept_offset b) (nodes b) (start b (nodes_offset b) (nodes b)) (is_prover b) k ≡ true
   unfolding kept_stand
   stands-at k l m =
       every-at (kept b) k (kept_stands b (kept_offset b) (nodes b) (start b (nodes_offset b) (nodes b)) (is_prover b))
@@ -187,14 +191,16 @@ module _ (b : List ℕ) (bytes : (k : ℕ) → get_or b k 0 < 256) (t : Tested b
       every-rows (λ v. ltb v nx) (prover_at b (provers_offset b)) (provers b) 0
       (λ k l m. lt-ltb _ _ (below_at b (provers_offset b) (provers b) nx t.provers-below k (omega arith))) in
       let ok3 : rising_of qs ≡ true =
-      rising-rows (prover_at b (provers_offset b)) (provers b) 0 (λ k l m. rise k (rising-at b (provers_offset b) (provers b) t.provers-rise k (omega arith))) in
+      rising-rows (prover_at b (provers_offset b)) (provers b) 0
+      (λ k l m. rise k (rising-at b (provers_offset b) (provers b) t.provers-rise k (omega arith))) in
       let ok4 : every_of (equality_fits nx) es ≡ true =
       every-rows (equality_fits nx) (equality_at b (equalities_offset b)) (equalities b) 0 (λ k l m. equality-legal k (omega arith)) in
       let ok5 : every_of (kept_fits nx qs) defs ≡ true =
       every-rows (kept_fits nx qs) (definition_at b (kept_offset b) (nodes_offset b) (nodes b)) (kept b) 0 (λ k l m. kept-legal k l m) in
       rw (t.next-small, few1, few2, few3, few4, few5, ok1, ok2, ok3, ok4, ok5)
     where
-      rise : (k : ℕ) → word_at b (provers_offset b + k) < word_at b (provers_offset b + k + 1) → word_at b (provers_offset b + k) < word_at b (provers_offset b + (k + 1))
+      rise : (k : ℕ) → word_at b (provers_offset b + k) < word_at b (provers_offset b + k + 1)
+          → word_at b (provers_offset b + k) < word_at b (provers_offset b + (k + 1))
       rise k l = let e : provers_offset b + (k + 1) ≡ provers_offset b + k + 1 = omega arith in rw e l
 
       kept-legal : (k : ℕ) → 0 ≤ k → k < 0 + kept b
@@ -232,7 +238,8 @@ module _ (b : List ℕ) (bytes : (k : ℕ) → get_or b k 0 < 256) (t : Tested b
       moved b E (equalities_offset b + EQUALITY-WORDS * 0) (equalities_offset b) (omega arith) (equalities-stand (equalities b) 0 (omega arith)) in
       let s4 : Stands b (equalities_offset b) (E ++ (K ++ N)) =
       stands-join b (equalities_offset b) (kept_offset b) E (K ++ N) e0 s5 (omega (arith, length-equalities es, l3)) in
-      let q0 : Stands b (provers_offset b) qs = moved b qs (provers_offset b + 0) (provers_offset b) (omega arith) (ids-stand b (provers_offset b) (provers b) 0) in
+      let q0 : Stands b (provers_offset b) qs =
+      moved b qs (provers_offset b + 0) (provers_offset b) (omega arith) (ids-stand b (provers_offset b) (provers b) 0) in
       let s3 = stands-join b (provers_offset b) (equalities_offset b) qs (E ++ (K ++ N)) q0 s4 (omega (arith, l2)) in
       let p0 : Stands b HEADER ps = moved b ps (HEADER + 0) HEADER (omega arith) (ids-stand b HEADER (publics b) 0) in
       let s2 = stands-join b HEADER (provers_offset b) ps (qs ++ (E ++ (K ++ N))) p0 s3 (omega (arith, l1)) in

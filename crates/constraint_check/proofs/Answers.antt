@@ -1,20 +1,20 @@
 -- From the answers of the reader's parts to those of the whole. Assumes nothing.
 use mathlib.Core.Bool.{Bool, true, false, ◌&&◌}
 use mathlib.Core.List.{List}
-use mathlib.Core.Path.{◌≡◌, refl, sym, ap, ◌∙◌}
-use Prim.Native.Nat.{ℕ, ◌+◌, ◌*◌, ◌≤◌, ◌<◌}
+use mathlib.Core.Path.{◌≡◌, sym, ap, ◌∙◌}
+use Prim.Native.Nat.{ℕ, ◌*◌, ◌≤◌, ◌<◌}
 use native.Mathlib.Omega.{arith}
-use lib.Dec.{eqb, leb}
+use lib.Dec.{eqb}
 use lib.ListN.{length, get_or}
 use borrow.Author.Tests.{eqb-true, leb-true, le-leb, lt-leb, eq-eqb, ne_eqb}
-use Rattle.std.proofs.Common.{Result, Ok, Err}
+use Rattle.std.proofs.Common.{Ok, Err}
 use Rattle.std.proofs.lemmas.Bool.{and_parts}
 use Rattle.marks.proofs.Indices.{and_no, and-on}
 use Rattle.records.specs.declared.refusals.Refusal.{Refusal}
 use Rattle.flat.specs.Layout.{prover_at}
 use Rattle.flat.specs.Record.{pick, rows, all_below, nodes_fit}
 use Rattle.constraint.specs.declared.reading.Layout.{Layout}
-use Rattle.constraint.specs.Reading.{provers_offset, provers, next, size, layout_of, constraint_of}
+use Rattle.constraint.specs.Reading.{size, layout_of, constraint_of}
 use Rattle.constraint_check.specs.Record.{among, Read, constraint_read, checked}
 use Rattle.constraint_check.specs.Tests.{has_few, ids_hold, measured, equalities_fit, start, nodes_follow, kept_stand, trees_stand, rules, tests}
 use Rattle.constraint_check.specs.Arrays.{Within}

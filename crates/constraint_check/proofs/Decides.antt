@@ -1,18 +1,17 @@
 -- THE TESTS DECIDE: they hold just where the module is legal and the bytes are its own. So they give the definition's answer. Assumes nothing.
 use mathlib.Core.Bool.{Bool, true, false, ◌&&◌}
-use mathlib.Core.List.{List, [], ◌∷◌, ◌++◌}
+use mathlib.Core.List.{List, [], ◌∷◌}
 use mathlib.Core.Logic.{⊎_elim}
-use mathlib.Core.Path.{◌≡◌, refl, sym, ap, ap₂, subst, ◌∙◌}
-use Prim.Native.Nat.{ℕ, zero, suc, ◌+◌, ◌*◌, ◌≤◌, ◌<◌}
+use mathlib.Core.Path.{◌≡◌, refl, sym, ap, ap₂, ◌∙◌}
+use Prim.Native.Nat.{ℕ, suc, ◌+◌, ◌*◌, ◌≤◌, ◌<◌}
 use native.Mathlib.Omega.{arith}
-use lib.Dec.{eqb, leb, ltb}
+use lib.Dec.{leb, ltb}
 use lib.ListN.{length, get_or}
-use borrow.Author.Tests.{eq-eqb, eqb-true, leb-true, le-leb, lt-ltb, ltb-true}
+use borrow.Author.Tests.{eq-eqb, le-leb, ltb-true}
 use Rattle.words.specs.Words.{word_at}
 use Rattle.flat.specs.Trees.{Definition, definitions_nodes, every_id}
 use Rattle.flat.specs.Rules.{All, Every}
-use Rattle.flat.specs.Layout.{node_at}
-use Rattle.flat.specs.Record.{every, rows, pick, nodes_fit}
+use Rattle.flat.specs.Record.{rows, pick, nodes_fit}
 use Rattle.std.proofs.lemmas.Bool.{cases_eq, both_ways}
 use Rattle.marks.proofs.Indices.{and_left, and_right, every-from}
 use Rattle.flat.proofs.Reading.{below-from, rising-from, nodes-from}
@@ -21,13 +20,15 @@ use Rattle.flat.proofs.WriteBack.{moved, ids-read, kept-fit}
 use Rattle.records.specs.declared.refusals.Refusal.{Refusal}
 use Rattle.constraint.specs.Trees.{Equality, ConstraintModule}
 use Rattle.constraint.specs.Record.{EQUALITY-WORDS, equality_words, equalities_words, definitions_words, constraint_bytes}
-use Rattle.constraint.specs.Reading.{HEADER, next, publics, provers, equalities, kept, nodes, provers_offset, equalities_offset, kept_offset, nodes_offset, size, layout_of, constraint_of}
+use Rattle.constraint.specs.Reading.{HEADER, next, publics, provers, equalities, kept, nodes, provers_offset, equalities_offset}
+use Rattle.constraint.specs.Reading.{kept_offset, nodes_offset, size, layout_of, constraint_of}
 use Rattle.constraint.proofs.Lengths.{length-equality}
 use Rattle.constraint.proofs.ReadBack.{next-read, publics-count, provers-count, equalities-count, kept-count, nodes-count, length-size}
 use Rattle.constraint.proofs.ReadBack.{publics-placed, provers-placed, equalities-placed, kept-placed, nodes-placed}
 use Rattle.constraint_check.specs.Record.{every as every_of, rising as rising_of, among, equality_fits, kept_fits, within_limits, well_formed, legal}
 use Rattle.constraint_check.specs.Record.{same, Read, constraint_read}
-use Rattle.constraint_check.specs.Tests.{has_few, ids_hold, measured, words_fit, equalities_fit, follows, nodes_follow, end_of, entry_stands, kept_stands, start, kept_stand}
+use Rattle.constraint_check.specs.Tests.{has_few, ids_hold, measured, words_fit, equalities_fit, nodes_follow, end_of}
+use Rattle.constraint_check.specs.Tests.{entry_stands, kept_stands, start, kept_stand}
 use Rattle.constraint_check.specs.Tests.{prover_ids, is_prover, trees_stand, rules, tests}
 use Rattle.constraint_check.proofs.Lists.{every-get_d, rising-get_d, among-every, id-every}
 use Rattle.constraint_check.proofs.EqualityWords.{equality-fits}
@@ -219,6 +220,7 @@ tests-decide b bytes = go (tests b) refl (legal (constraint_of b)) refl (same b 
     go false h false e s f = refl
 
 -- THE ANSWER by the tests
-pub read-by : (b : List ℕ) → ((k : ℕ) → get_or b k 0 < 256) → constraint_read b ≡ pick (tests b) (Read.module-of (constraint_of b)) (Read.refused Refusal.ConstraintRecord)
+pub read-by : (b : List ℕ) → ((k : ℕ) → get_or b k 0 < 256)
+    → constraint_read b ≡ pick (tests b) (Read.module-of (constraint_of b)) (Read.refused Refusal.ConstraintRecord)
 unfolding constraint_read
 read-by b bytes = ap (λ (t : Bool). pick t (Read.module-of (constraint_of b)) (Read.refused Refusal.ConstraintRecord)) (sym (tests-decide b bytes))

@@ -1,14 +1,14 @@
 -- AN EQUALITY'S WORDS: where they fit, the equality that they say has just these words and is a legal one; and those of a legal one fit. Assumes nothing.
 use mathlib.Core.Bool.{Bool, true, false, not, ◌&&◌}
 use mathlib.Core.List.{List, [], ◌∷◌, ◌++◌}
-use mathlib.Core.Path.{◌≡◌, refl, sym, ap, ap₂, ◌∙◌}
-use Prim.Native.Nat.{ℕ, zero, suc, ◌+◌, ◌*◌, ◌≤◌, ◌<◌}
+use mathlib.Core.Path.{◌≡◌, refl, sym, ap, ◌∙◌}
+use Prim.Native.Nat.{ℕ, zero, suc, ◌+◌, ◌<◌}
 use native.Mathlib.Omega.{arith}
 use lib.Dec.{eqb, ltb, leb}
-use lib.ListN.{length, get_or}
+use lib.ListN.{get_or}
 use mir.Val.{to_z, of_z}
 use mir.Syntax.{w32}
-use borrow.Author.Tests.{eq-eqb, ne_eqb, eqb-true, leb-true, ltb-true, lt-ltb, le-ltb}
+use borrow.Author.Tests.{eq-eqb, ne_eqb, eqb-true, leb-true}
 use Rattle.words.specs.Words.{word_at}
 use Rattle.words.proofs.Laws.{unsigned_signed, word_at-fits}
 use Rattle.field.specs.declared.InfixOp.{InfixOp}
@@ -19,10 +19,9 @@ use Rattle.std.proofs.lemmas.Bool.{both_ways}
 use Rattle.marks.proofs.Indices.{and_left, and_right}
 use Rattle.flat.proofs.Standing.{Stands, stands-left, stands-right, stands-join, at_place}
 use Rattle.constraint.specs.declared.Term.{Term}
-use Rattle.constraint.specs.declared.Operation.{Operation}
 use Rattle.constraint.specs.Trees.{Side, Equality, operation, first, second, written_of}
-use Rattle.constraint.specs.Record.{EQUALITY-WORDS, PLACE-WORD, term_words, operation_word, written_words, equality_words}
-use Rattle.constraint.specs.Reading.{term_at, side_for, place_at, equality_at}
+use Rattle.constraint.specs.Record.{PLACE-WORD, term_words, operation_word, written_words, equality_words}
+use Rattle.constraint.specs.Reading.{term_at, side_for}
 use Rattle.constraint.proofs.Lengths.{length-term}
 use Rattle.constraint_check.specs.Record.{is_operation, term_known, side_fits, equality_fits}
 use Rattle.constraint_check.specs.Tests.{term_fits, operation_fits, second_fits, words_fit}
@@ -180,7 +179,8 @@ module _ (b : List ℕ) (bytes : (k : ℕ) → get_or b k 0 < 256) (limit i : �
       stands-join b (i + 2) (i + 3) (operation_word (operation side) ∷ []) W1 (one-stands b (i + 2) (operation_word (operation side)) (sym o.number)) p3
       (omega arith) in
       record {
-        words = stands-join b i (i + 2) (term_words (term_at b i)) (operation_word (operation side) ∷ W1) l.words p2 (omega (arith, length-term (term_at b i)));
+        words =
+            stands-join b i (i + 2) (term_words (term_at b i)) (operation_word (operation side) ∷ W1) l.words p2 (omega (arith, length-term (term_at b i)));
         legal = rw (l.known, o.fits, f.known) s.known;
       }
 

@@ -1,19 +1,16 @@
 -- THE NODES OF A TREE FOLLOW THEIR CHILDREN where its words stand in a record, and its start is the first of them; so do those of definitions.
 -- Assumes nothing.
-use mathlib.Core.Bool.{Bool, true, ◌&&◌}
+use mathlib.Core.Bool.{true}
 use mathlib.Core.List.{List, [], ◌∷◌, ◌++◌}
 use mathlib.Core.Logic.{⊎_elim}
-use mathlib.Core.Path.{◌≡◌, refl, sym, ap, ◌∙◌}
-use Prim.Native.Nat.{ℕ, zero, suc, ◌+◌, ◌-◌, ◌*◌, ◌≤◌, ◌<◌}
+use mathlib.Core.Path.{◌≡◌, refl, sym, ◌∙◌}
+use Prim.Native.Nat.{ℕ, suc, ◌+◌, ◌-◌, ◌*◌, ◌≤◌, ◌<◌}
 use native.Mathlib.Omega.{arith}
-use lib.Dec.{eqb}
 use lib.IntN.{ℤ}
-use lib.ListN.{length}
 use mir.Val.{to_z}
 use mir.Syntax.{w32}
 use borrow.Author.Tests.{eq-eqb}
 use Rattle.field.specs.declared.InfixOp.{InfixOp}
-use Rattle.flat.specs.declared.Node.{Node}
 use Rattle.flat.specs.declared.Node.TheVariants.{Infix, Negate, Constant, Variable}
 use Rattle.flat.specs.Layout.{node_words}
 use Rattle.flat.specs.Record.{node_of}
@@ -21,9 +18,9 @@ use Rattle.flat.specs.Trees.{Flat, Definition, tree_nodes, definitions_nodes}
 use Rattle.flat.specs.Writer.{number_word, next_from, root_from, nodes_from, definitions_trees}
 use Rattle.field.specs.Operators.{operator_number}
 use Rattle.std.proofs.lemmas.Bool.{cases_lt}
-use Rattle.flat.proofs.Lengths.{tree-positive, next-is, root_is, length-nodes}
+use Rattle.flat.proofs.Lengths.{tree-positive, next-is, length-nodes}
 use Rattle.flat.proofs.Standing.{Stands, stands-left, stands-right}
-use Rattle.flat.proofs.WriteBack.{moved, next-words, infix-stands, negate-stands, constant-stands, variable-stands}
+use Rattle.flat.proofs.WriteBack.{next-words, infix-stands, negate-stands, constant-stands, variable-stands}
 use Rattle.field.proofs.Numbered.{operator-reads}
 use Rattle.constraint_check.specs.Tests.{start, follows}
 use Rattle.constraint_check.proofs.Starts.{start-settled, start-infix, start-negate, start-constant, start-variable}
@@ -61,7 +58,8 @@ module _ (b : List ℕ) (at : ℕ) where
   tree-placed (Flat.constant c) base h =
       let r = base + 1 - 1 in
       let is : r ≡ base = omega arith in
-      let w : node_of b at base ≡ Constant (to_z w32 (number_word c)) = constant-stands b at base 7 (number_word c) 0 0 h (to_z w32 (number_word c)) refl refl in
+      let w : node_of b at base ≡ Constant (to_z w32 (number_word c)) =
+      constant-stands b at base 7 (number_word c) 0 0 h (to_z w32 (number_word c)) refl refl in
       record {
         starts = rw is (start-constant b at base w);
         follow = λ k l m. let e : k ≡ base = omega arith in rw e (constant-by base w);

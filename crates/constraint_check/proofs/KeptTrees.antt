@@ -1,7 +1,7 @@
 -- KEPT DEFINITIONS: where their tests hold, the words of the definitions that are read stand in the record; and those of definitions that stand there pass the
 -- tests. Assumes nothing.
-use mathlib.Core.Bool.{Bool, true, false, ◌&&◌}
-use mathlib.Core.List.{List, [], ◌∷◌, ◌++◌}
+use mathlib.Core.Bool.{Bool, true}
+use mathlib.Core.List.{List, [], ◌∷◌}
 use mathlib.Core.Logic.{⊎_elim}
 use mathlib.Core.Path.{◌≡◌, refl, sym, ap, subst, ◌∙◌}
 use Prim.Native.Nat.{ℕ, zero, suc, ◌+◌, ◌-◌, ◌*◌, ◌≤◌, ◌<◌}
@@ -12,15 +12,15 @@ use borrow.Author.Tests.{eq-eqb, eqb-true, ltb-true, lt-ltb}
 use Rattle.words.specs.Words.{word_at}
 use Rattle.flat.specs.Layout.{definition_entry, definition_words, DEFINITION-WORDS}
 use Rattle.flat.specs.Record.{rows, tree, nodes_fit, definition_at}
-use Rattle.flat.specs.Trees.{Flat, Definition, tree_nodes, definitions_nodes, every_id}
+use Rattle.flat.specs.Trees.{Definition, tree_nodes, definitions_nodes, every_id}
 use Rattle.flat.specs.Writer.{next_from, root_from, nodes_from, definitions_words, definitions_trees}
 use Rattle.flat.proofs.EntryLaws.{length-definition, definition-reads}
 use Rattle.std.proofs.lemmas.Bool.{cases_eq}
 use Rattle.marks.proofs.Indices.{and_left, and_right}
-use Rattle.flat.proofs.Lengths.{tree-positive, next-is, root_is, length-nodes}
+use Rattle.flat.proofs.Lengths.{tree-positive, next-is, root_is}
 use Rattle.flat.proofs.Nodes.{settled, tree-below}
 use Rattle.flat.proofs.Standing.{Stands, stands-left, stands-right, stands-join, stands-nothing}
-use Rattle.flat.proofs.WriteBack.{moved, next-words, root_below, next-below}
+use Rattle.flat.proofs.WriteBack.{next-words, root_below, next-below}
 use Rattle.constraint_check.specs.Record.{every}
 use Rattle.constraint_check.specs.Tests.{start, nodes_follow, end_of, entry_stands, kept_stands}
 use Rattle.constraint_check.proofs.Lists.{every-id}
@@ -135,7 +135,8 @@ module _ (b : List ℕ) (at trees count limit : ℕ) (known : ℕ → Bool) (fit
 -- ---- what stands there
 
 module _ (b : List ℕ) (at trees count : ℕ) (known : ℕ → Bool) where
-  kept-by : (d : Definition) (k base : ℕ) → end_of b at k ≡ base → (definition_entry b at k).id ≡ d.id → (definition_entry b at k).node ≡ root_from base d.right
+  kept-by : (d : Definition) (k base : ℕ) → end_of b at k ≡ base → (definition_entry b at k).id ≡ d.id
+      → (definition_entry b at k).node ≡ root_from base d.right
       → Stands b (trees + 4 * base) (nodes_from base d.right) → root_from base d.right < count → known d.id ≡ true
       → kept_stands b at count (start b trees count) known k ≡ true
   unfolding kept_stands entry_stands root_from next_from

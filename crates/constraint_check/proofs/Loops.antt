@@ -4,14 +4,13 @@ use mathlib.Core.Bool.{Bool, true, false, ◌&&◌, ◌||◌, and-false}
 use mathlib.Core.List.{List, [], ◌∷◌, ◌++◌}
 use mathlib.Core.Logic.{⊎_elim}
 use mathlib.Core.Path.{◌≡◌, refl, sym, ap, ap₂, subst, ◌∙◌}
-use Prim.Native.Nat.{ℕ, zero, suc, ◌+◌, ◌*◌, ◌≤◌, ◌<◌}
+use Prim.Native.Nat.{ℕ, zero, suc, ◌+◌, ◌<◌}
 use native.Mathlib.Omega.{arith}
 use lib.Dec.{eqb, ltb}
 use lib.ListN.{length, get_or, set, replicate, length-set, length-replicate}
 use lib.Seq.{get_or-set_same, get_or-set_other}
 use borrow.Author.Tests.{eq-eqb, ne_eqb, lt-ltb, ltb-true}
 use Rattle.std.proofs.Common.{Option, Some, None}
-use Rattle.field.specs.declared.InfixOp.{InfixOp}
 use Rattle.flat.specs.declared.entries.DefinitionEntry.{DefinitionEntry}
 use Rattle.flat.specs.declared.Node.{Node}
 use Rattle.flat.specs.declared.Node.TheVariants.{Infix, Negate, Constant, Variable}
@@ -196,6 +195,7 @@ kept-same b at n count trees ids a m s w =
         → (ltb node count && (eqb (get_or a node 0) end && marked_in m id)) ≡ (ltb node count && (eqb (start b trees count node) end && among id ids))
     one node id end = go (ltb node count) refl
       where
-        go : (t : Bool) → ltb node count ≡ t → (t && (eqb (get_or a node 0) end && marked_in m id)) ≡ (t && (eqb (start b trees count node) end && among id ids))
+        go : (t : Bool) → ltb node count ≡ t
+            → (t && (eqb (get_or a node 0) end && marked_in m id)) ≡ (t && (eqb (start b trees count node) end && among id ids))
         go true e = ap₂ (λ (x : ℕ) (y : Bool). eqb x end && y) (s.starts node (ltb-true node count e)) (w.marks id)
         go false e = refl

@@ -1,6 +1,6 @@
 -- Records and modules are one to one. Assumes nothing.
 use mathlib.Core.Bool.{Bool, true, false, ◌&&◌}
-use mathlib.Core.Path.{◌≡◌, refl, sym, ap, ap₂, subst, ◌∙◌}
+use mathlib.Core.Path.{◌≡◌, refl, sym, ap, ap₂, ◌∙◌}
 use mathlib.Core.List.{List, [], ◌∷◌}
 use Prim.Native.Nat.{ℕ}
 use native.Mathlib.Omega.{arith}
@@ -10,7 +10,7 @@ use Rattle.flat.specs.Record.{pick}
 use Rattle.records.specs.declared.refusals.Refusal.{Refusal}
 use Rattle.constraint.specs.Trees.{ConstraintModule}
 use Rattle.constraint.specs.Record.{constraint_bytes}
-use Rattle.constraint.specs.Reading.{constraint_of, Signed}
+use Rattle.constraint.specs.Reading.{constraint_of}
 use Rattle.constraint.proofs.ReadBack.{read_back}
 use Rattle.constraint_check.specs.Record.{legal, same, Read, constraint_read}
 use Rattle.constraint_check.specs.Statements.{Accepted, AcceptedIsLegal, LegalIsAccepted}

@@ -1,20 +1,17 @@
 -- Where a tree starts: the laws of `start`, as those of `tree` (crate flat), and what `follows` says of nodes that fit. Assumes nothing.
-use mathlib.Core.Bool.{Bool, true, false, ◌&&◌}
+use mathlib.Core.Bool.{true, ◌&&◌}
 use mathlib.Core.List.{List}
 use mathlib.Core.Logic.{⊎_elim}
-use mathlib.Core.Path.{◌≡◌, refl, sym, ap, ◌∙◌}
-use Prim.Native.Nat.{ℕ, zero, suc, ◌+◌, ◌*◌, ◌≤◌, ◌<◌}
+use mathlib.Core.Path.{◌≡◌, refl, ap, ◌∙◌}
+use Prim.Native.Nat.{ℕ, zero, suc, ◌+◌, ◌≤◌, ◌<◌}
 use native.Mathlib.Numerals.{add-one}
 use native.Mathlib.Omega.{arith}
-use lib.Dec.{eqb, ltb, leb}
+use lib.Dec.{eqb}
 use lib.IntN.{ℤ}
-use borrow.Author.Tests.{eq-eqb, ne_eqb, eqb-true, leb-true}
-use Rattle.words.specs.Words.{word_at}
+use borrow.Author.Tests.{eq-eqb, ne_eqb, eqb-true}
 use Rattle.field.specs.declared.InfixOp.{InfixOp}
-use Rattle.flat.specs.declared.Node.{Node}
 use Rattle.flat.specs.declared.Node.TheVariants.{Infix, Negate, Constant, Variable}
-use Rattle.flat.specs.Layout.{node_at}
-use Rattle.flat.specs.Record.{pick, every, node_fits, nodes_fit, node_of, node_for}
+use Rattle.flat.specs.Record.{node_of}
 use Rattle.std.proofs.lemmas.Bool.{cases_lt}
 use Rattle.marks.proofs.Indices.{and_left, and_right, every-at}
 use Rattle.constraint_check.specs.Tests.{start_for, start, follows, nodes_follow}

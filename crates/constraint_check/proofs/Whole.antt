@@ -1,14 +1,14 @@
 -- NODES THAT FOLLOW THEIR CHILDREN are those of their trees: from its start on, the words of a node's tree stand in the record, and its root is the node.
 -- And the words of a tree, where they stand, follow each other so. Assumes nothing.
 use mathlib.Core.Bool.{Bool, true, false, ◌&&◌}
-use mathlib.Core.List.{List, [], ◌∷◌, ◌++◌}
+use mathlib.Core.List.{List, ◌++◌}
 use mathlib.Core.Logic.{⊎_elim}
-use mathlib.Core.Path.{◌≡◌, refl, sym, ap, subst, ◌∙◌}
+use mathlib.Core.Path.{◌≡◌, refl, sym, ap, ◌∙◌}
 use Prim.Native.Nat.{ℕ, zero, suc, ◌+◌, ◌-◌, ◌*◌, ◌≤◌, ◌<◌}
 use native.Mathlib.Omega.{arith}
 use lib.Dec.{eqb, ltb, leb}
-use lib.ListN.{length, get_or, length-append}
-use mir.Val.{to_z, of_z, Fits}
+use lib.ListN.{get_or}
+use mir.Val.{to_z, of_z}
 use mir.Syntax.{w32}
 use borrow.Author.Tests.{eq-eqb, ne_eqb, eqb-true, leb-true, ltb-true}
 use Rattle.words.specs.Words.{word_at}
@@ -17,7 +17,7 @@ use Rattle.field.specs.declared.InfixOp.{InfixOp}
 use Rattle.flat.specs.declared.Node.{Node}
 use Rattle.flat.specs.declared.Node.TheVariants.{Infix, Negate, Constant, Variable}
 use Rattle.flat.specs.Layout.{node_at, node_words}
-use Rattle.flat.specs.Record.{pick, every, operator_of, node_fits, nodes_fit, node_of, node_for, tree}
+use Rattle.flat.specs.Record.{pick, operator_of, node_fits, nodes_fit, node_of, tree}
 use Rattle.flat.specs.Trees.{Flat, tree_nodes}
 use Rattle.flat.specs.Writer.{number_word, next_from, root_from, nodes_from}
 use Rattle.field.specs.Operators.{operator_number}
@@ -26,11 +26,9 @@ use Rattle.marks.proofs.Indices.{and_left, and_right}
 use Rattle.flat.proofs.Lengths.{tree-positive, length-nodes}
 use native.Mathlib.Nat.{le_refl}
 use Rattle.flat.proofs.Nodes.{infix-below, negate-below, fits-at, by_kind, for-4, for-5, for-7, for-8, tree-infix, tree-negate, tree-constant, tree-variable}
-use Rattle.flat.proofs.Standing.{Stands, stands-left, stands-right, stands-join}
-use Rattle.flat.proofs.WriteBack.{moved, infix-stands, negate-stands, constant-stands, variable-stands}
-use Rattle.field.proofs.Numbered.{operator-reads}
-use Rattle.constraint_check.specs.Tests.{start, follows, nodes_follow}
-use Rattle.constraint_check.proofs.Starts.{start-settled, start-infix, start-negate, start-constant, start-variable, infix-follows, negate-follows}
+use Rattle.flat.proofs.Standing.{Stands, stands-join}
+use Rattle.constraint_check.specs.Tests.{start, nodes_follow}
+use Rattle.constraint_check.proofs.Starts.{start-infix, start-negate, start-constant, start-variable, infix-follows, negate-follows}
 
 -- ---- the words of a node that fits
 

@@ -11,7 +11,7 @@ use Rattle.records.specs.FlatRecord.{IDS, LISTED, NODES, PUBLICS}
 use Rattle.records.specs.Operators.{EQUAL, EXPONENTIATE}
 use Rattle.constraint.specs.declared.reading.Layout.{Layout}
 use Rattle.constraint.specs.Record.{COPY, EQUALITY-WORDS, NEGATE}
-use Rattle.constraint.specs.Reading.{HEADER, layout_of, next, publics, provers, equalities, kept, nodes}
+use Rattle.constraint.specs.Reading.{HEADER, layout_of, next, provers, equalities, kept, nodes}
 use Rattle.constraint.specs.Reading.{provers_offset, equalities_offset, kept_offset, nodes_offset, size}
 use Rattle.constraint_check.specs.Record.{PROVERS, EQUALITIES, among}
 

@@ -70,6 +70,10 @@ impl Measured<'_> {
         ensures { result ≡ equalities_fit self.now.bytes.now self.now.layout.equalities_at self.now.layout.equalities self.now.layout.next }
     {
         let l = &self.layout;
-        (0..l.equalities).all(|k| words_fit(self.bytes, l.equalities_at + EQUALITY_WORDS * k, l.next))
+        (0..l.equalities).all(|k| words_fit(
+            self.bytes,
+            l.equalities_at + EQUALITY_WORDS * k,
+            l.next,
+        ))
     }
 }

@@ -14,7 +14,7 @@ use Rattle.pass_legal.proofs.Returned.{passes-returned}
 use Rattle.agreement.specs.Flattened.{passed, flattened_of}
 use Rattle.source.specs.Record.{Read, source_of}
 use Rattle.eval_entry.specs.Source.{capacity_of}
-use Rattle.eval_entry.proofs.Recorded.{next-fits, publics-few}
+use Rattle.eval_entry.proofs.Recorded.{next_fits, publics-few}
 use Rattle.flatten_entry.specs.Flatten.{flattened_read, flattened}
 use Rattle.flatten_legal.specs.Statement.{FlattenedReturned, FlattenReturned}
 
@@ -33,5 +33,5 @@ unfolding flattened flattened_read
 flatten-returned b len c e = go (source_of b) refl e
   where
     go : (r : Read) → source_of b ≡ r → flattened_read (capacity_of len) r ≡ cut c → ReturnedWithin c
-    go (Read.module-of m) h k = flattened-returned m (next-fits b m h) (publics-few b m h) (capacity_of len) c k
+    go (Read.module-of m) h k = flattened-returned m (next_fits b m h) (publics-few b m h) (capacity_of len) c k
     go (Read.refused n) h k = absurd (let z : ◌≡◌ {A = ℕ} 0 1 = cc in omega arith)

@@ -1,4 +1,4 @@
--- What `flatten` writes is read as written just if it has at most 8,192 prover ids (document 02, request vi). Proved in proofs/Returned.antt.
+-- What `flatten` writes is read as written just if it has at most 8,192 prover ids. Proved in proofs/Returned.antt.
 use Rattle.std.specs.Prelude.{List, ◌≡◌, ℕ, ◌≤◌, length}
 use Rattle.records.specs.FlatRecord.{IDS}
 use Rattle.source.specs.Trees.{Module}

@@ -1,12 +1,10 @@
 -- What a cut leaves: ids below the next id, and operations that may stand in an equality. Assumes nothing.
-use mathlib.Core.Bool.{Bool, true, false, ◌&&◌}
+use mathlib.Core.Bool.{Bool, true, false}
 use mathlib.Core.List.{List, [], ◌∷◌, ◌++◌}
 use mathlib.Core.Option.{Option, none, some}
-use mathlib.Core.Path.{◌≡◌, refl, sym, ap, ◌∙◌}
-use Prim.Native.Nat.{ℕ, suc, ◌≤◌, ◌<◌}
+use mathlib.Core.Path.{◌≡◌, refl, sym}
+use Prim.Native.Nat.{ℕ, ◌≤◌, ◌<◌}
 use native.Mathlib.Nat.{le_refl, le_trans}
-use native.Mathlib.Omega.{arith}
-use lib.Dec.{eqb, ltb}
 use borrow.Author.Tests.{lt-ltb}
 use Rattle.field.specs.declared.InfixOp.{InfixOp}
 use Rattle.flat.specs.Trees.{Flat, Definition, Equation}
@@ -15,12 +13,14 @@ use Rattle.constraint.specs.declared.Term.{Term}
 use Rattle.constraint.specs.Trees.{Side, Equality, at_place}
 use Rattle.constraint.specs.Meaning.{InTerm, InSide, InEquality}
 use Rattle.constraint_check.specs.Record.{every as every_of, is_operation, term_known, side_fits, equality_fits}
-use Rattle.pass_trees.specs.Passes.{when, is_one, is_zero, infix_op, Cut, or_variable, push_constraint_def, copied, flatten_expr_to_3ac, Cuts, cuts_of, joined}
+use Rattle.pass_trees.specs.Passes.{when, infix_op, Cut, push_constraint_def, copied}
+use Rattle.pass_trees.specs.Passes.{flatten_expr_to_3ac, Cuts, cuts_of, joined}
 use Rattle.pass_trees.specs.Passes.{all_at, placed}
-use Rattle.pass_trees.specs.Passes.{member, flatten_def_to_3ac, flatten_defs, Sides, into, both, sides, flatten_sides, flatten_equations, flatten_lists, to_expr}
+use Rattle.pass_trees.specs.Passes.{member, flatten_def_to_3ac, flatten_defs, into, both, sides}
+use Rattle.pass_trees.specs.Passes.{flatten_sides, flatten_equations, flatten_lists, to_expr}
 use Rattle.pass_trees.specs.Passes.{cuttable, cuttable_expr}
 use Rattle.pass_trees.proofs.Lists.{all_append, all_map, every_map, term-map, both_true, bool-not}
-use Rattle.pass_trees.proofs.Cutting.{OutBelow, Bounded, bounded, raise}
+use Rattle.pass_trees.proofs.Cutting.{OutBelow, bounded, raise}
 
 -- ---- operations
 

@@ -1,15 +1,15 @@
 -- WHAT THE PASSES LEAVE IS LEGAL, but for the number of its prover ids. Assumes nothing.
 use mathlib.Core.Bool.{Bool, true, false, not, ◌&&◌, ◌||◌}
-use mathlib.Core.List.{List, [], ◌∷◌, ◌++◌}
+use mathlib.Core.List.{List, [], ◌∷◌}
 use mathlib.Core.Option.{none}
-use mathlib.Core.Path.{◌≡◌, refl, sym, ap, ap₂, subst, ◌∙◌}
+use mathlib.Core.Path.{◌≡◌, refl, sym, ap, subst, ◌∙◌}
 use Prim.Native.Nat.{ℕ, zero, suc, ◌+◌, ◌≤◌, ◌<◌}
-use native.Mathlib.Nat.{le_refl, le_trans}
+use native.Mathlib.Nat.{le_trans}
 use native.Mathlib.Omega.{arith}
 use lib.Dec.{eqb, leb, ltb}
 use lib.ListN.{length}
 use borrow.Author.Tests.{lt-ltb, le-leb, leb-true}
-use Rattle.flat.specs.Trees.{Flat, Definition, Equation, FlatModule, definitions_nodes, module_nodes, every_id}
+use Rattle.flat.specs.Trees.{Flat, Definition, Equation, FlatModule, definitions_nodes}
 use Rattle.flat.specs.Rules.{All, Every, Rising, Recordable}
 use Rattle.constraint.specs.declared.Term.{Term}
 use Rattle.constraint.specs.Trees.{ConstraintModule}
@@ -17,8 +17,10 @@ use Rattle.constraint.specs.Meaning.{InTerm}
 use Rattle.constraint_check.specs.Record.{every as every_of, among, rising as rising_of, equality_fits, kept_fits, within_limits, well_formed, legal}
 use Rattle.constraint_check.proofs.Lists.{every-id}
 use Rattle.pass_trees.specs.Passes.{keep_if, member, those, ids_from, is_witness, is_never, usage, classify_defs, Substitutions, walk, to_expr, substituting}
-use Rattle.pass_trees.specs.Passes.{copy_propagate_expr, copy_propagate_def, after_def, copy_propagate_defs, after_defs, copy_propagate_equations, copy_propagate}
-use Rattle.pass_trees.specs.Passes.{alive, eliminate_dead_equalities, Cuts, flatten_lists, flatten_module_to_3ac, passes, cuttable, cuttable_expr, cuttable_defs}
+use Rattle.pass_trees.specs.Passes.{copy_propagate_expr, copy_propagate_def, after_def, copy_propagate_defs}
+use Rattle.pass_trees.specs.Passes.{after_defs, copy_propagate_equations, copy_propagate}
+use Rattle.pass_trees.specs.Passes.{alive, eliminate_dead_equalities, flatten_lists, flatten_module_to_3ac, passes}
+use Rattle.pass_trees.specs.Passes.{cuttable, cuttable_expr, cuttable_defs}
 use Rattle.pass_trees.specs.Passes.{cuttable_equations, counted, Outcome, cut, unless, fitting, cut_of}
 use Rattle.pass_trees.proofs.Lists.{all_map, all-those, all_keep, every_map, both_true, bool-not}
 use Rattle.pass_trees.proofs.Copied.{EntriesIn, none-entries, substituting-entries, copy-in, unflat, alive-in}

@@ -1,16 +1,16 @@
 -- WHAT IS WRITTEN IS READ AS WRITTEN, where it has at most 8,192 prover ids, and else refused. Assumes nothing.
-use mathlib.Core.Bool.{true}
 use mathlib.Core.List.{List}
-use mathlib.Core.Path.{◌≡◌, refl, sym, ap, subst, ◌∙◌}
-use Prim.Native.Nat.{ℕ, ◌≤◌, ◌<◌}
+use mathlib.Core.Path.{◌≡◌, refl, sym, subst}
+use Prim.Native.Nat.{ℕ, ◌≤◌}
 use native.Mathlib.Omega.{arith}
-use lib.ListN.{length, get_or}
+use lib.ListN.{length}
 use Rattle.flat.specs.Trees.{FlatModule, module_nodes}
 use Rattle.flat.specs.Rules.{WellFormed, Recordable}
 use Rattle.flat.specs.Readable.{Readable}
 use Rattle.flat.specs.Writer.{SignedModule}
 use Rattle.flat.specs.Record.{Read as FlatRead, flat_of, module_of, definition_at, equation_at}
-use Rattle.flat.specs.Layout.{publics, provers, definitions, equations, nodes, provers_offset, definitions_offset, equations_offset, nodes_offset, public_at, prover_at}
+use Rattle.flat.specs.Layout.{publics, provers, definitions, equations, nodes, provers_offset, definitions_offset}
+use Rattle.flat.specs.Layout.{equations_offset, nodes_offset, public_at, prover_at}
 use Rattle.flat.proofs.Reading.{accepted-module, accepted-readable}
 use Rattle.flat.proofs.Rows.{length-rows}
 use Rattle.flat.proofs.Sizes.{accepted-nodes}
@@ -18,13 +18,12 @@ use Rattle.flat.proofs.Wellformed.{accepted-well-formed}
 use Rattle.constraint.specs.Trees.{ConstraintModule}
 use Rattle.constraint.specs.Record.{constraint_bytes}
 use Rattle.constraint.specs.Reading.{Signed}
-use Rattle.constraint_check.specs.Record.{legal, Read, constraint_read}
 use Rattle.constraint_check.proofs.OneToOne.{accepted-is-legal, legal-is-accepted}
-use Rattle.pass_trees.specs.Passes.{Outcome, cut, refused, passes, cut_of}
+use Rattle.pass_trees.specs.Passes.{cut, passes, cut_of}
 use Rattle.pass_trees.proofs.SignedConstants.{passes-keep-signed, lent_signed}
 use Rattle.pass_entry.specs.Cut.{cut_read, cut_record}
 use Rattle.pass_legal.specs.Statements.{ReturnedWithin, CutReturned, PassesReturned}
-use Rattle.pass_legal.proofs.Legal.{Accepted, accepted, passes-legal, legal-provers}
+use Rattle.pass_legal.proofs.Legal.{accepted, passes-legal, legal-provers}
 
 pub passes-returned : PassesReturned
 passes-returned f r signed few c e =
@@ -54,7 +53,7 @@ module-recordable b w r n =
         definitions-fit = omega (arith, definitions-long, r.definitions-few);
         equations-fit = omega (arith, equations-long, r.equations-few);
         nodes-fit = omega (arith, n, r.nodes-few);
-        next-fits = r.next-small;
+        next_fits = r.next_small;
       },
       omega (arith, publics-long, r.publics-few),
     )

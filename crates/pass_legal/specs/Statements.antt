@@ -1,5 +1,5 @@
--- "This needs a reader for constraint records that returns what was written" (document 02, request vi): what the passes leave is read as written just if it
--- has at most 8,192 prover ids. So the limit is the only cause of a refusal. Proved in proofs/Returned.antt.
+-- The reader of constraint records returns what was written: what the passes leave is read as written just if it has at most 8,192 prover ids. So the limit is
+-- the only cause of a refusal. Proved in proofs/Returned.antt.
 use Rattle.std.specs.Prelude.{List, ◌↔◌, ◌≡◌, ℕ, ◌≤◌, ◌<◌, length, get_or}
 use Rattle.flat.specs.Trees.{FlatModule}
 use Rattle.flat.specs.Rules.{Recordable}
@@ -7,7 +7,7 @@ use Rattle.flat.specs.Writer.{SignedModule}
 use Rattle.constraint.specs.Trees.{ConstraintModule}
 use Rattle.constraint.specs.Record.{constraint_bytes}
 use Rattle.constraint_check.specs.Record.{PROVERS, Read, constraint_read}
-use Rattle.pass_trees.specs.Passes.{Outcome, cut, cut_of}
+use Rattle.pass_trees.specs.Passes.{cut, cut_of}
 use Rattle.pass_entry.specs.Cut.{cut_record}
 
 -- what is written is read as written just where the limit is kept

@@ -17,9 +17,8 @@ returns-in_default-clause-follow c =
 
 pub loop-k-preserved : goal.loop-k-preserved
 loop-k-preserved c =
-    let near = before-at _ _ _ _ _ c.requires c.loop-k-test.true _ c.node_at.ensures in
-    (
+    let near = before-at _ _ _ _ _ c.requires c.loop-k-test.true _ c.node_at.ensures in (
       follow-more _ _ _ _ c.loop-k.invariant.1 _ c.node_at.ensures near c.placed.ensures _ c.in-Some.is c.loop-k.invariant.0,
       starts-more _ _ _ _ c.loop-k.invariant.1 _ c.node_at.ensures near c.placed.ensures _ c.in-Some.is
-      (omega (arith, c.loop-k-test.true, c.args.self.now.within.few)),
+          (omega (arith, c.loop-k-test.true, c.args.self.now.within.few)),
     )

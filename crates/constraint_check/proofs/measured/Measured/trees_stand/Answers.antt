@@ -1,6 +1,5 @@
 -- `Measured::trees_stand` meets its contract. Assumes nothing.
-use mathlib.Core.Bool.{not}
-use mathlib.Core.Path.{◌∙◌, sym, ap}
+use mathlib.Core.Path.{◌∙◌, sym}
 use Rattle.marks.proofs.Indices.{and_no, and-on}
 use Rattle.constraint_check.proofs.Answers.{trees-by}
 use Rattle.constraint_check.proofs.Loops.{kept-same}
