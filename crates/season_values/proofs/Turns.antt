@@ -22,16 +22,16 @@ use Rattle.season_values.proofs.Arrays.{said-set}
 pub kept_from : List ℕ → ℕ → List Definition
 kept_from b k = rows (kept b - k) k (definition_at b (kept_offset b) (nodes_offset b) (nodes b))
 
-kept-whole : (b : List ℕ) → kept_from b 0 ≡ (constraint_of b).kept
+pub kept-whole : (b : List ℕ) → kept_from b 0 ≡ (constraint_of b).kept
 unfolding kept_from constraint_of
 kept-whole b = let e : kept b - 0 ≡ kept b = omega arith in rw e
 
-kept-none : (b : List ℕ) (k : ℕ) → kept b ≤ k → kept_from b k ≡ []
+pub kept-none : (b : List ℕ) (k : ℕ) → kept b ≤ k → kept_from b k ≡ []
 unfolding kept_from rows
 kept-none b k l = let e : kept b - k ≡ 0 = omega arith in rw e
 
 -- the definition that an entry says
-entry-is : (b : List ℕ) (k : ℕ) {d : DefinitionEntry} → d ≡ definition_entry b (kept_offset b) k → d.node < nodes b
+pub entry-is : (b : List ℕ) (k : ℕ) {d : DefinitionEntry} → d ≡ definition_entry b (kept_offset b) k → d.node < nodes b
     → definition_at b (kept_offset b) (nodes_offset b) (nodes b) k ≡ record { id = d.id; right = tree_of b d.node; place = d.place }
 unfolding definition_at
 entry-is b k {d} read within =
@@ -43,7 +43,7 @@ entry-is b k {d} read within =
     said_by : List ℕ → DefinitionEntry → Definition
     said_by c e = of_tree e (tree c (nodes_offset c) (nodes c) e.node)
 
-kept-more : (b : List ℕ) {k : ℕ} {d : DefinitionEntry} → k < kept b → d ≡ definition_entry b (kept_offset b) k → d.node < nodes b
+pub kept-more : (b : List ℕ) {k : ℕ} {d : DefinitionEntry} → k < kept b → d ≡ definition_entry b (kept_offset b) k → d.node < nodes b
     → kept_from b k ≡ record { id = d.id; right = tree_of b d.node; place = d.place } ∷ kept_from b (k + 1)
 unfolding kept_from
 kept-more b {k} l read within =
