@@ -136,8 +136,8 @@ module _ (m : ConstraintModule) (es : List ℤ) where
   unfolding values_of inputs_of
   stepped-values ws a₀ a₁ a₂ a₃ e l i c r w =
       w.says ∙ ap (worked_out m.kept) (r.says ∙ ap (λ (vs : List ℕ). written vs es (said a₁)) e
-          ∙ fun_ext (λ v. written-given (is_input m) v 0 m.next es (said a₁) (sym (l ∙ ap length e))
-          (λ n. ap (λ (σ : Environment). σ v) c.says ∙ cleared-other m.kept (said a₀) v (i.idle v n))))
+      ∙ fun_ext (λ v. written-given (is_input m) v 0 m.next es (said a₁) (sym (l ∙ ap length e))
+      (λ n. ap (λ (σ : Environment). σ v) c.says ∙ cleared-other m.kept (said a₀) v (i.idle v n))))
 
   pub stepped-idle : (a : List Answer) → said a ≡ values_of m es → length a ≡ 65536 → Idle m a
   unfolding values_of

@@ -28,4 +28,4 @@ pub record Left (b : List ℕ) (c : Calibration) (s s' : State) : Type 0 where
   pub idle : Idle (constraint_of b) s'.values
   pub held : Bumps s.totals.held s'.totals.held (equalities b) (λ k. is_held (verdict (values_of (constraint_of b) c) (equality_at b (equalities_offset b) k)))
   pub failed : Bumps s.totals.failed s'.totals.failed (equalities b)
-    (λ k. is_failed (verdict (values_of (constraint_of b) c) (equality_at b (equalities_offset b) k)))
+      (λ k. is_failed (verdict (values_of (constraint_of b) c) (equality_at b (equalities_offset b) k)))

@@ -41,7 +41,13 @@ impl State {
 }
 
 // The calibration from word `at` of c on: whether it fulfils every equality, or `Calibrations` where an element is out of range.
-pub fn step(r: &Record, inputs: &[u32], c: &[u8], at: usize, state: &mut State) -> Result<bool, Refusal>
+pub fn step(
+    r: &Record,
+    inputs: &[u32],
+    c: &[u8],
+    at: usize,
+    state: &mut State,
+) -> Result<bool, Refusal>
     requires inputs { inputs.now ≡ inputs_of (constraint_of r.now.bytes.now) }
     requires laid { 4 * (at + length inputs.now) ≤ length c.now }
     requires idle { Idle (constraint_of r.now.bytes.now) state.old.values }

@@ -32,8 +32,8 @@ loop-v-preserved c =
     record {
       end = c.loop-v.invariant.end;
       so-far = elim c.if-marks-v.branch [
-          then-marks-v w ↦
-              ap (λ (v : ArrayVec ℕ). v.items) w.inputs-is ∙ w.push.ensures.items ∙ ids-yes _ _ _ c.loop-v.invariant.so-far w.if-marks-v.true
+        | then-marks-v w ↦
+            ap (λ (v : ArrayVec ℕ). v.items) w.inputs-is ∙ w.push.ensures.items ∙ ids-yes _ _ _ c.loop-v.invariant.so-far w.if-marks-v.true
         | else-marks-v w ↦ ap (λ (v : ArrayVec ℕ). v.items) w.inputs-is ∙ ids-no _ _ _ c.loop-v.invariant.so-far w.if-marks-v.false
       ];
     }

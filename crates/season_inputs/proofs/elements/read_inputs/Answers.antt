@@ -27,9 +27,12 @@ loop-k-preserved c =
     let i = c.loop-k.invariant in
     let same = to_z-of_z {w = w32} (record { sfits = c.signed-z.type_inv }) in
     let z = returned c.from.result c.from.type_inv c.from.ensures in
-    record { so-far = read-turn _ _ _ _ _ _ _ _ (omega arith) refl (omega (arith, i.long, c.requires.low c.loop-k.k (omega arith)))
-        (z ∙ same ∙ c.signed-z.ensures ∙ ap (to_z w32) c.word_at.ensures)
-        (ap (λ (y : ℤ). leb (nat_abs y) 1073741823) z ∙ sym c.is_element.ensures ∙ c.if-not-is_element.false) i.so-far; long = length-set _ _ _ ∙ i.long }
+    record {
+      so-far = read-turn _ _ _ _ _ _ _ _ (omega arith) refl (omega (arith, i.long, c.requires.low c.loop-k.k (omega arith)))
+          (z ∙ same ∙ c.signed-z.ensures ∙ ap (to_z w32) c.word_at.ensures)
+          (ap (λ (y : ℤ). leb (nat_abs y) 1073741823) z ∙ sym c.is_element.ensures ∙ c.if-not-is_element.false) i.so-far;
+      long = length-set _ _ _ ∙ i.long;
+    }
 
 pub returns-clause-range : goal.returns-clause-range
 returns-clause-range c = read-range _ _ _ _ _ _ (omega arith) c.loop-k.invariant.so-far

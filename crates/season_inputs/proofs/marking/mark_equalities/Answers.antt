@@ -18,8 +18,11 @@ pub loop-k-preserved : goal.loop-k-preserved
 unfolding written_at
 loop-k-preserved c =
     let i = c.loop-k.invariant in
-    record { most = omega arith; so-far = more-turn _ _ some-equality _ _ _ _ c.loop-k-test.true i.most i.so-far
-      (marks-as _ _ _ _ (λ v. ap (in_written v) (sym c.equality.ensures.value)) c.mark_equality.ensures) }
+    record {
+      most = omega arith;
+      so-far = more-turn _ _ some-equality _ _ _ _ c.loop-k-test.true i.most i.so-far
+          (marks-as _ _ _ _ (λ v. ap (in_written v) (sym c.equality.ensures.value)) c.mark_equality.ensures);
+    }
 
 pub returns : goal.returns
 unfolding constraint_of

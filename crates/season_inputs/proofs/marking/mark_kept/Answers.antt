@@ -18,8 +18,11 @@ loop-k-init c =
 pub loop-k-preserved : goal.loop-k-preserved
 loop-k-preserved c =
     let i = c.loop-k.invariant in
-    record { most = omega arith; so-far = more-turn _ _ some-kept _ _ _ _ c.loop-k-test.true i.most i.so-far
-      (marks-as _ _ _ _ (λ v. ap (λ (d : Definition). in_tree v d.right) (entry-is _ _ c.kept.ensures.value c.kept.ensures.within.1)) c.mark_tree.ensures) }
+    record {
+      most = omega arith;
+      so-far = more-turn _ _ some-kept _ _ _ _ c.loop-k-test.true i.most i.so-far
+          (marks-as _ _ _ _ (λ v. ap (λ (d : Definition). in_tree v d.right) (entry-is _ _ c.kept.ensures.value c.kept.ensures.within.1)) c.mark_tree.ensures);
+    }
 
 pub returns : goal.returns
 unfolding constraint_of

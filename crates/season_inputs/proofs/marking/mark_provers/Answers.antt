@@ -16,8 +16,11 @@ loop-k-init c =
 pub loop-k-preserved : goal.loop-k-preserved
 loop-k-preserved c =
     let i = c.loop-k.invariant in
-    record { most = omega arith; so-far = more-turn _ _ some-among _ _ _ _ c.loop-k-test.true i.most i.so-far
-      (marks-as _ _ _ _ (λ v. ap (eqb v) (sym c.prover.ensures.value)) c.mark.ensures) }
+    record {
+      most = omega arith;
+      so-far = more-turn _ _ some-among _ _ _ _ c.loop-k-test.true i.most i.so-far
+          (marks-as _ _ _ _ (λ v. ap (eqb v) (sym c.prover.ensures.value)) c.mark.ensures);
+    }
 
 pub returns : goal.returns
 unfolding constraint_of

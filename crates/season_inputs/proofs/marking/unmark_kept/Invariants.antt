@@ -9,6 +9,6 @@ abbrev pub invariant-loop-k : goal.invariant-loop-k
 invariant-loop-k l = record {
   end : l.k-end ≡ kept l.r.bytes.now;
   so-far : LeftOf (kept l.r.bytes.now) (definition_at l.r.bytes.now (kept_offset l.r.bytes.now) (nodes_offset l.r.bytes.now) (nodes l.r.bytes.now))
-    l.initial.marks l.marks l.k;
+      l.initial.marks l.marks l.k;
   long : length l.marks ≡ 65536;
 }

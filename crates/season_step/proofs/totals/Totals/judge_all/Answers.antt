@@ -26,9 +26,13 @@ count-all-requires c =
     let i = c.loop-k.invariant in
     let r = c.args.r.now in
     let few = leb-true (equalities r.bytes.now) 16384 (tested r.bytes.now r.accepted).equalities-few in
-    let low : c.loop-k.k < 16384 = omega (arith, few, i.end, c.loop-k-test.true) in
-    (low, (omega (arith, i.held.above c.loop-k.k (omega arith), c.requires.0.small c.loop-k.k low),
-      omega (arith, i.failed.above c.loop-k.k (omega arith), c.requires.1.small c.loop-k.k low)))
+    let low : c.loop-k.k < 16384 = omega (arith, few, i.end, c.loop-k-test.true) in (
+      low,
+      (
+        omega (arith, i.held.above c.loop-k.k (omega arith), c.requires.0.small c.loop-k.k low),
+        omega (arith, i.failed.above c.loop-k.k (omega arith), c.requires.1.small c.loop-k.k low),
+      ),
+    )
 
 pub loop-k-preserved : goal.loop-k-preserved
 loop-k-preserved c =

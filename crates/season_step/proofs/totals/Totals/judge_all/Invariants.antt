@@ -12,7 +12,7 @@ invariant-loop-k l = record {
   end : l.k-end ≡ equalities l.r.bytes.now;
   all : l.all ≡ all_held (said l.values) (rows l.k 0 (equality_at l.r.bytes.now (equalities_offset l.r.bytes.now)));
   held : Bumps l.initial.self.held l.self.held l.k
-    (λ k. is_held (verdict (said l.values) (equality_at l.r.bytes.now (equalities_offset l.r.bytes.now) k)));
+      (λ k. is_held (verdict (said l.values) (equality_at l.r.bytes.now (equalities_offset l.r.bytes.now) k)));
   failed : Bumps l.initial.self.failed l.self.failed l.k
-    (λ k. is_failed (verdict (said l.values) (equality_at l.r.bytes.now (equalities_offset l.r.bytes.now) k)));
+      (λ k. is_failed (verdict (said l.values) (equality_at l.r.bytes.now (equalities_offset l.r.bytes.now) k)));
 }
