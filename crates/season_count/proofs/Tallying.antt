@@ -1,5 +1,5 @@
 -- One calibration more. Assumes nothing.
-use mathlib.Core.Bool.{Bool, true, false, not, ◌&&◌}
+use mathlib.Core.Bool.{Bool, true, false, ◌&&◌}
 use mathlib.Core.List.{List, [], ◌∷◌, ◌++◌, append_assoc, append-nil}
 use mathlib.Core.Logic.{⊎_elim}
 use mathlib.Core.Path.{◌≡◌, refl, sym, ap, ap₂, subst, ◌∙◌}
@@ -22,7 +22,7 @@ use Rattle.season_trees.specs.Season.{in_range, all_in_range}
 use Rattle.season_trees.proofs.Tests.{not-both}
 use Rattle.season_step.specs.declared.State.{State}
 use Rattle.season_step.specs.Totals.{no_totals, bit, Small, Bumps}
-use Rattle.season_step.specs.Stepped.{stepped, Idle, Left}
+use Rattle.season_step.specs.Stepped.{stepped, Left}
 use Rattle.season_count.specs.declared.Count.{Count}
 use Rattle.season_count.specs.Tally.{first_after, fulfilled_after, TotalsAre, Running, Begun}
 

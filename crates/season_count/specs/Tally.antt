@@ -1,5 +1,5 @@
 -- The count over calibrations, as the code has it.
-use Rattle.std.specs.Prelude.{Bool, true, false, List, [], ◌∷◌, ◌++◌, ◌≡◌, ℕ, zero, suc, ◌+◌, ◌*◌, ◌≤◌, ◌<◌, length, get_or, Result, Ok, Err}
+use Rattle.std.specs.Prelude.{Bool, true, false, List, [], ◌∷◌, ◌++◌, ◌≡◌, ℕ, zero, suc, ◌*◌, ◌≤◌, ◌<◌, length, get_or, Result, Ok, Err}
 use Rattle.flat.specs.Record.{rows}
 use Rattle.records.specs.declared.refusals.Refusal.{Refusal}
 use Rattle.constraint.specs.Reading.{equalities, equalities_offset, equality_at, constraint_of}
@@ -7,7 +7,7 @@ use Rattle.constraint_check.specs.Record.{EQUALITIES}
 use Rattle.season_trees.specs.declared.Verdict.{Verdict}
 use Rattle.season_trees.specs.Values.{values_of, verdict}
 use Rattle.season_trees.specs.Count.{Calibration, number, is_held, is_failed, fulfils, first_from}
-use Rattle.season_trees.specs.Season.{element_at, in_range, all_in_range}
+use Rattle.season_trees.specs.Season.{element_at, all_in_range}
 use Rattle.season_step.specs.Stepped.{Idle}
 use Rattle.season_count.specs.declared.Count.{Count}
 

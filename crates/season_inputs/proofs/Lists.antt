@@ -2,7 +2,7 @@
 use mathlib.Core.Bool.{Bool, true, false}
 use mathlib.Core.List.{List, [], ◌∷◌, ◌++◌, append-nil}
 use mathlib.Core.Path.{◌≡◌, refl, sym, ap, ap₂, ◌∙◌}
-use Prim.Native.Nat.{ℕ, zero, suc, ◌+◌, ◌≤◌, ◌<◌}
+use Prim.Native.Nat.{ℕ, zero, suc, ◌+◌, ◌≤◌}
 use native.Mathlib.Omega.{arith}
 use lib.ListN.{length}
 use Rattle.flat.specs.Record.{pick}
@@ -23,7 +23,8 @@ ids-end t a zero = let e : a + 0 ≡ a = omega arith in rw e
 ids-end t a (suc k) =
     let e : suc k + 1 ≡ suc (k + 1) = omega arith in
     let f : suc a + k ≡ a + suc k = omega arith in
-    let rest : ids_from t (suc a) (k + 1) ≡ ids_from t (suc a) k ++ one t (a + suc k) = ids-end t (suc a) k ∙ ap (λ (v : ℕ). ids_from t (suc a) k ++ one t v) f in
+    let rest : ids_from t (suc a) (k + 1) ≡ ids_from t (suc a) k ++ one t (a + suc k) = ids-end t (suc a) k
+    ∙ ap (λ (v : ℕ). ids_from t (suc a) k ++ one t v) f in
     ap (ids_from t a) e ∙ ap (λ (xs : List ℕ). pick (t a) (a ∷ xs) xs) rest ∙ pick-append (t a) a (ids_from t (suc a) k) (one t (a + suc k))
 
 pub ids-none : (t : ℕ → Bool) → [] ≡ ids_from t 0 0

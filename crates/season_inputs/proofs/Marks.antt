@@ -1,25 +1,23 @@
 -- Marks of ids: what a store changes, and what loops over lists mark. Assumes nothing.
-use mathlib.Core.Bool.{Bool, true, false, not, ◌&&◌, ◌||◌, or-false}
+use mathlib.Core.Bool.{Bool, true, false, not, ◌&&◌, ◌||◌}
 use mathlib.Core.List.{List, [], ◌∷◌}
 use mathlib.Core.Logic.{⊎_elim}
-use mathlib.Core.Path.{◌≡◌, refl, sym, ap, ap₂, ◌∙◌}
+use mathlib.Core.Path.{◌≡◌, refl, sym, ap, ◌∙◌}
 use Prim.Native.Nat.{ℕ, ◌+◌, ◌-◌, ◌≤◌, ◌<◌}
 use native.Mathlib.Omega.{arith}
 use lib.Dec.{eqb}
 use lib.IntN.{ℤ}
-use lib.ListN.{length, get_or, set, length-set, replicate, length-replicate, get_or-replicate, get_or-eq_default}
+use lib.ListN.{length, set, length-set, replicate, length-replicate, get_or-replicate, get_or-eq_default}
 use lib.Seq.{get_or-set_same, get_or-set_other}
 use borrow.Author.Tests.{eq-eqb, ne_eqb}
 use Rattle.std.proofs.lemmas.Bool.{cases_eq, cases_lt}
 use Rattle.flat.specs.Record.{rows}
-use Rattle.flat.specs.Trees.{Flat, Definition, defines}
+use Rattle.flat.specs.Trees.{Definition, defines}
 use Rattle.constraint.specs.declared.Term.{Term}
-use Rattle.constraint.specs.declared.Operation.{Operation}
-use Rattle.constraint.specs.declared.Equality.{Equality as Written}
 use Rattle.constraint.specs.Trees.{Side, Equality, operation, first, second, written, written_of}
 use Rattle.constraint_check.specs.Record.{among}
 use Rattle.season_trees.specs.Values.{in_term, in_side, in_tree, in_equalities, in_kept}
-use Rattle.season_inputs.specs.Marks.{marked, Marked, MarksMore, Unmarked, in_operation, in_written}
+use Rattle.season_inputs.specs.Marks.{marked, MarksMore, Unmarked, in_operation, in_written}
 use Rattle.season_inputs.proofs.Rows.{from_more, from_none, from_whole}
 
 or_assoc : (r s t : Bool) → ((r || s) || t) ≡ (r || (s || t))
@@ -108,7 +106,8 @@ module _ {A : Type 0} (h : ℕ → List A → Bool) (g : ℕ → A → Bool) (s 
       → MarksMore m₀ c (λ v. h v (rows (n - (k - 1)) (k - 1) f))
   more-turn k {m} {c} l o i j =
       let back : k - 1 + 1 ≡ k = omega arith in
-      marks-as m₀ c _ _ (λ v. ap (h v) (from_more n (k - 1) f (omega arith) ∙ ap (λ (x : ℕ). f (k - 1) ∷ rows (n - x) x f) back) ∙ s.more v (f (k - 1)) (rows (n - k) k f))
+      marks-as m₀ c _ _ (λ v. ap (h v) (from_more n (k - 1) f (omega arith) ∙ ap (λ (x : ℕ). f (k - 1) ∷ rows (n - x) x f) back)
+      ∙ s.more v (f (k - 1)) (rows (n - k) k f))
       (marks-both m₀ m c _ _ i j)
 
   pub more-end : {m : List Bool} → MarksMore m₀ m (λ v. h v (rows (n - 0) 0 f)) → MarksMore m₀ m (λ v. h v (rows n 0 f))

@@ -2,20 +2,19 @@
 use mathlib.Core.Bool.{Bool, true, false, ◌&&◌}
 use mathlib.Core.List.{List, [], ◌∷◌}
 use mathlib.Core.Path.{◌≡◌, refl, sym, ap, ap₂, ◌∙◌}
-use Prim.Native.Nat.{ℕ, suc, ◌+◌, ◌-◌, ◌≤◌, ◌<◌}
+use Prim.Native.Nat.{ℕ, ◌+◌, ◌-◌, ◌≤◌, ◌<◌}
 use native.Mathlib.Numerals.{add-one}
 use native.Mathlib.Omega.{arith}
 use lib.Dec.{leb}
 use lib.IntN.{ℤ, nat_abs}
-use lib.ListN.{length, get_or, set, length-set, drop}
+use lib.ListN.{length, get_or, set, drop}
 use lib.Seq.{drop-cons}
-use Rattle.std.specs.Prelude.{Some, None}
+use Rattle.std.specs.Prelude.{Some}
 use Rattle.field.specs.Operations.{Answer}
 use Rattle.flat.specs.Meaning.{update}
 use Rattle.flat.specs.Record.{rows}
 use Rattle.flat.proofs.Rows.{rows-first}
 use Rattle.season_trees.specs.Season.{element_at, in_range}
-use Rattle.season_trees.specs.Values.{Environment}
 use Rattle.season_values.specs.Arrays.{said, Says}
 use Rattle.season_values.proofs.Arrays.{said-set}
 use Rattle.season_inputs.specs.Given.{written}

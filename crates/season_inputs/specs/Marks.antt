@@ -1,5 +1,5 @@
 -- The marks of ids, for the contracts of the functions that find a calibration's variables.
-use Rattle.std.specs.Prelude.{Bool, true, false, not, ◌&&◌, ◌||◌, List, ◌≡◌, ℕ, length, get_or}
+use Rattle.std.specs.Prelude.{Bool, false, not, ◌&&◌, ◌||◌, List, ◌≡◌, ℕ, length, get_or}
 use Rattle.flat.specs.Trees.{Definition, defines}
 use Rattle.records.specs.FlatRecord.{IDS}
 use Rattle.constraint.specs.declared.Operation.{Operation}

@@ -1,21 +1,13 @@
 -- The laws of the count. Assumes nothing.
-use mathlib.Core.Bool.{Bool, true, false, not, ◌&&◌, ◌||◌}
-use mathlib.Core.List.{List, [], ◌∷◌, ◌++◌}
-use mathlib.Core.Logic.{◌↔◌}
-use mathlib.Core.Path.{◌≡◌, refl, sym, ap, ap₂, subst, ◌∙◌}
-use Prim.Native.Nat.{ℕ, zero, suc, ◌+◌, ◌≤◌}
+use mathlib.Core.List.{List, [], ◌∷◌}
+use mathlib.Core.Path.{◌≡◌, refl, ap, ◌∙◌}
+use Prim.Native.Nat.{ℕ, suc, ◌+◌}
 use native.Mathlib.Omega.{arith}
-use lib.Dec.{eqb, leb}
-use lib.IntN.{ℤ, pos, negsuc, nat_abs}
 use lib.ListN.{length}
-use borrow.Author.Tests.{eqb-true, eq-eqb, ne_eqb, leb-true}
-use Rattle.std.specs.Prelude.{Some, None}
-use Rattle.field.specs.Operations.{Answer}
 use Rattle.flat.specs.Record.{pick}
-use Rattle.constraint.specs.Trees.{Side, Equality, ConstraintModule}
 use Rattle.season_trees.specs.declared.Verdict.{Verdict}
-use Rattle.season_trees.specs.Values.{Environment, verdict, values_of, same_number, compared}
-use Rattle.season_trees.specs.Count.{Calibration, number, is_held, is_failed, is_valueless, all_held, fulfils}
+use Rattle.season_trees.specs.Values.{verdict, values_of}
+use Rattle.season_trees.specs.Count.{number, is_held, is_failed, is_valueless}
 use Rattle.season_trees.specs.Statements.{TotalsAddUp}
 
 -- ---- totals

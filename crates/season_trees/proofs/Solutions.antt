@@ -1,9 +1,8 @@
 -- A CALIBRATION THAT FULFILS IS A SOLUTION, and the other way round. Assumes nothing.
-use mathlib.Core.Bool.{Bool, true, false, not, ◌&&◌, ◌||◌, cond}
+use mathlib.Core.Bool.{Bool, true, false, not, ◌||◌, cond}
 use mathlib.Core.List.{List, [], ◌∷◌}
-use mathlib.Core.Logic.{◌↔◌}
 use mathlib.Core.Path.{◌≡◌, refl, sym, ap, ap₂, subst, ◌∙◌}
-use Prim.Native.Nat.{ℕ, ◌≤◌}
+use Prim.Native.Nat.{ℕ}
 use native.Mathlib.Omega.{arith}
 use lib.Dec.{eqb, leb}
 use lib.IntN.{ℤ, pos, negsuc, nat_abs}
@@ -13,7 +12,7 @@ use Rattle.field.specs.Operations.{Answer}
 use Rattle.field.specs.declared.InfixOp.{InfixOp}
 use Rattle.field.specs.Prime.{P}
 use Rattle.field.specs.Element.{elem}
-use Rattle.field.specs.Operations.{opposite, infix_of, HasValue}
+use Rattle.field.specs.Operations.{opposite, HasValue}
 use Rattle.field.proofs.Answers.{value-path, opposite-element, infix-element}
 use Rattle.field.proofs.Elements.{elem-elem, elem-small}
 use Rattle.field.proofs.Primality.{P-prime, P-above, P-odd}
@@ -21,18 +20,18 @@ use Rattle.field.proofs.Units.{zero-element}
 use Rattle.flat.specs.Trees.{Flat, Definition, defines}
 use Rattle.flat.specs.Rules.{All}
 use Rattle.flat.specs.Record.{pick}
-use Rattle.flat.specs.Meaning.{update, Elements, on_values, negated, or_zero}
+use Rattle.flat.specs.Meaning.{update, on_values, negated, or_zero}
 use Rattle.marks.proofs.Indices.{and_left, and_right}
 use Rattle.season_trees.proofs.Tests.{not-both}
 use Rattle.constraint.specs.declared.Term.{Term}
 use Rattle.constraint.specs.Trees.{Side, Equality, ConstraintModule}
-use Rattle.constraint.specs.Meaning.{InTerm, InSide, InEquality, term_value, side_value, EqualityHolds, Solution}
+use Rattle.constraint.specs.Meaning.{InTerm, InSide, InEquality, term_value, side_value, EqualityHolds}
 use Rattle.season_trees.specs.declared.Verdict.{Verdict}
 use Rattle.season_trees.specs.Values.{appears, is_input, inputs_of, Environment, given, value_in, worked_out, values_of, term_in, side_in, same_number}
 use Rattle.season_trees.specs.Values.{compared, verdict}
 use Rattle.season_trees.specs.Count.{Calibration, is_held, all_held, fulfils}
 use Rattle.season_trees.specs.Season.{in_range}
-use Rattle.season_trees.specs.Statements.{assignment_of, input_values, FulfilsIsSolution}
+use Rattle.season_trees.specs.Statements.{FulfilsIsSolution}
 
 nothing-value : {A : Type 0} {z : ℤ} → None ≡ Some z → A
 nothing-value e = absurd (let c : ◌≡◌ {A = ℕ} 0 1 = cc in omega arith)

@@ -1,5 +1,5 @@
 -- The count over a list of calibrations: "each total is the number of calibrations of that sort in the list".
-use Rattle.std.specs.Prelude.{Bool, true, false, ◌&&◌, List, [], ◌∷◌, ◌++◌, ℕ, suc, ◌+◌, ℤ, length}
+use Rattle.std.specs.Prelude.{Bool, true, false, ◌&&◌, List, [], ◌∷◌, ◌++◌, ℕ, suc, ℤ, length}
 use Rattle.flat.specs.Record.{pick}
 use Rattle.constraint.specs.Trees.{Equality, ConstraintModule}
 use Rattle.season_trees.specs.declared.Verdict.{Verdict}

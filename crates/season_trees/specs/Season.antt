@@ -1,6 +1,6 @@
 -- A season's bytes: "a constraint record and after it, in words, a count up to 1,000,000 and that many calibrations", or 42 or 43. `b` is the list of the
 -- bytes; where they end early, what is missing reads as 0.
-use Rattle.std.specs.Prelude.{Bool, true, false, ◌&&◌, List, [], ◌∷◌, ◌++◌, ℕ, zero, suc, ◌+◌, ◌*◌, eqb, leb, ℤ, nat_abs, length, take, drop, Result, Ok, Err}
+use Rattle.std.specs.Prelude.{Bool, true, ◌&&◌, List, [], ◌∷◌, ◌++◌, ℕ, ◌+◌, ◌*◌, eqb, leb, ℤ, nat_abs, length, take, drop, Result, Ok, Err}
 use Rattle.std.proofs.Common.{to_z}
 use Rattle.std.specs.Int.{w32}
 use Rattle.words.specs.Words.{word_at, bytes_of}

@@ -1,5 +1,5 @@
 -- What is proved of the count, in proofs/: its statements.
-use Rattle.std.specs.Prelude.{true, List, ◌↔◌, ◌≡◌, ℕ, ◌+◌, length}
+use Rattle.std.specs.Prelude.{true, List, ◌↔◌, ◌≡◌, ◌+◌, length}
 use Rattle.field.specs.Operations.{HasValue}
 use Rattle.flat.specs.Rules.{All}
 use Rattle.flat.specs.Meaning.{Assignment, or_zero}

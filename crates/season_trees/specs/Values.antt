@@ -1,6 +1,6 @@
 -- What a calibration makes of a constraint record: which variables it gives, the value of each variable, and what becomes of each
 -- equality.
-use Rattle.std.specs.Prelude.{Bool, true, false, not, ◌&&◌, ◌||◌, List, [], ◌∷◌, ℕ, zero, suc, eqb, ℤ, pos, negsuc, Some, None}
+use Rattle.std.specs.Prelude.{Bool, false, not, ◌&&◌, ◌||◌, List, [], ◌∷◌, ℕ, zero, suc, eqb, ℤ, pos, negsuc, Some, None}
 use Rattle.field.specs.Operations.{Answer}
 use Rattle.field.specs.Prime.{P}
 use Rattle.field.specs.Element.{elem}

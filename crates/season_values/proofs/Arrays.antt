@@ -2,18 +2,16 @@
 use Prim.Native.Nat.{ℕ, ◌<◌}
 use mathlib.Core.Path.{◌≡◌, refl, sym, ap, ◌∙◌, fun_ext}
 use mathlib.Core.List.{List}
-use mathlib.Core.Bool.{Bool, cond}
+use mathlib.Core.Bool.{cond}
 use mathlib.Core.Logic.{⊎_elim}
-use native.Mathlib.Omega.{arith}
-use lib.ListN.{length, get_or, set, length-set}
+use lib.ListN.{length, set}
 use lib.Seq.{get_or-set_same, get_or-set_other}
 use borrow.Author.Tests.{eq-eqb, ne_eqb}
 use Rattle.std.specs.Prelude.{None}
 use Rattle.std.proofs.lemmas.Bool.{cases_eq}
 use Rattle.field.specs.Operations.{Answer}
 use Rattle.flat.specs.Meaning.{update}
-use Rattle.season_trees.specs.Values.{Environment}
-use Rattle.season_values.specs.Arrays.{said, Says}
+use Rattle.season_values.specs.Arrays.{said}
 
 pub update_same : {A : Type 0} (f : ℕ → A) (v : ℕ) (a : A) → update f v a v ≡ a
 unfolding update

@@ -1,12 +1,11 @@
 -- The entries of an accepted record: ids below the next id, children below their node. Assumes nothing.
-use mathlib.Core.Bool.{Bool, true, false, ◌&&◌}
+use mathlib.Core.Bool.{true}
 use mathlib.Core.List.{List}
-use mathlib.Core.Path.{◌≡◌, refl, sym, ap, ◌∙◌}
-use Prim.Native.Nat.{ℕ, ◌+◌, ◌≤◌, ◌<◌}
+use mathlib.Core.Path.{◌≡◌}
+use Prim.Native.Nat.{ℕ, ◌≤◌, ◌<◌}
 use native.Mathlib.Omega.{arith}
-use lib.ListN.{length, get_or}
+use lib.ListN.{get_or}
 use borrow.Author.Tests.{leb-true, ltb-true}
-use Rattle.field.specs.declared.InfixOp.{InfixOp}
 use Rattle.flat.specs.declared.Node.{Node}
 use Rattle.flat.specs.declared.Node.TheVariants.{Infix, Negate, Constant, Variable}
 use Rattle.flat.specs.Layout.{public_at, prover_at}
@@ -15,13 +14,12 @@ use Rattle.flat.proofs.Nodes.{infix-below, negate-below, variable-below, tree-in
 use Rattle.flat.proofs.Reading.{below_at}
 use Rattle.marks.proofs.Indices.{and_left, and_right}
 use Rattle.constraint.specs.declared.Term.{Term}
-use Rattle.constraint.specs.declared.Equality.{Equality as Written}
-use Rattle.constraint.specs.Trees.{Side, Equality, operation, first, second, written, written_of}
-use Rattle.constraint.specs.Reading.{HEADER, next, publics, provers, nodes, provers_offset, equalities_offset, nodes_offset, equalities, equality_at, written_at}
+use Rattle.constraint.specs.Trees.{Side, Equality, first, second, written, written_of}
+use Rattle.constraint.specs.Reading.{HEADER, next, publics, provers, nodes}
+use Rattle.constraint.specs.Reading.{provers_offset, equalities_offset, nodes_offset, equalities, equality_at, written_at}
 use Rattle.constraint_check.specs.Record.{is_operation, term_known, side_fits, equality_fits}
 use Rattle.constraint_check.specs.Tests.{tests}
 use Rattle.constraint_check.proofs.Accepted.{tested, equality-legal}
-use Rattle.records.specs.FlatRecord.{IDS}
 use Rattle.season_values.specs.Record.{Below, TermBelow, EqualityBelow, tree_of}
 
 -- ---- terms

@@ -11,7 +11,7 @@ use mir.Val.{SFits, to_z, of_z}
 use borrow.Author.Tests.{eq-eqb, ne_eqb}
 use Rattle.field.specs.Operations.{Answer}
 use Rattle.constraint.specs.declared.Equality.{Equality as Written}
-use Rattle.constraint.specs.Trees.{Side, Equality, operation, first, second, written_of}
+use Rattle.constraint.specs.Trees.{Side, operation, first, second, written_of}
 use Rattle.constraint.specs.Reading.{equality_at, written_at}
 use Rattle.season_trees.specs.declared.Verdict.{Verdict}
 use Rattle.season_trees.specs.Values.{Environment, term_in, side_in, same_number, compared, verdict}

@@ -1,9 +1,9 @@
 -- The kept definitions, from one index on: what a turn makes of them. Assumes nothing.
-use Prim.Native.Nat.{ℕ, suc, ◌+◌, ◌-◌, ◌≤◌, ◌<◌}
-use mathlib.Core.Path.{◌≡◌, refl, sym, ap, ap₂, ◌∙◌}
+use Prim.Native.Nat.{ℕ, ◌+◌, ◌-◌, ◌≤◌, ◌<◌}
+use mathlib.Core.Path.{◌≡◌, sym, ap, ap₂, ◌∙◌}
 use mathlib.Core.List.{List, [], ◌∷◌}
 use native.Mathlib.Omega.{arith}
-use lib.ListN.{length, set, length-set}
+use lib.ListN.{length, set}
 use Rattle.std.specs.Prelude.{None}
 use Rattle.field.specs.Operations.{Answer}
 use Rattle.flat.specs.declared.entries.DefinitionEntry.{DefinitionEntry}
@@ -14,7 +14,7 @@ use Rattle.flat.specs.Trees.{Flat, Definition}
 use Rattle.flat.proofs.Nodes.{settled}
 use Rattle.flat.proofs.Rows.{rows-first}
 use Rattle.constraint.specs.Reading.{kept, nodes, kept_offset, nodes_offset, constraint_of}
-use Rattle.season_trees.specs.Values.{Environment, value_in, worked_out}
+use Rattle.season_trees.specs.Values.{value_in, worked_out}
 use Rattle.season_values.specs.Arrays.{said, Says, cleared}
 use Rattle.season_values.specs.Record.{tree_of}
 use Rattle.season_values.proofs.Arrays.{said-set}

@@ -1,5 +1,5 @@
 -- Values as the code has them, in an array by id, for the contracts of the count's functions.
-use Rattle.std.specs.Prelude.{◌≡◌, List, [], ◌∷◌, ℕ, length, get_or, None}
+use Rattle.std.specs.Prelude.{◌≡◌, List, [], ◌∷◌, length, get_or, None}
 use Rattle.field.specs.Operations.{Answer}
 use Rattle.flat.specs.Trees.{Definition}
 use Rattle.flat.specs.Meaning.{update, on_values, negated}

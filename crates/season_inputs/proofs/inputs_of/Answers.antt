@@ -1,11 +1,11 @@
 -- `season_inputs::inputs_of` meets its contract. Assumes nothing.
 use native.Mathlib.Omega.{arith}
-use mathlib.Core.Path.{◌≡◌, sym, ap, ◌∙◌}
+use mathlib.Core.Path.{◌≡◌, ap, ◌∙◌}
 use Prim.Native.Nat.{ℕ, ◌<◌}
 use lib.ListN.{length}
 use Rattle.arrayvec.specs.ArrayVec.{ArrayVec}
 use Rattle.constraint.specs.Reading.{next, constraint_of}
-use Rattle.season_trees.specs.Values.{ids_from, is_input, inputs_of}
+use Rattle.season_trees.specs.Values.{ids_from, inputs_of}
 use Rattle.season_values.proofs.Entries.{ids-few}
 use Rattle.season_values.proofs.Laid.{next-laid}
 use Rattle.season_inputs.specs.Marks.{marked}

@@ -1,10 +1,7 @@
 -- `season_count::Count::add_all` meets its contract. Assumes nothing.
 use native.Mathlib.Omega.{arith}
-use mathlib.Core.List.{◌++◌}
-use mathlib.Core.Path.{◌≡◌, refl, sym, ap, subst, ◌∙◌}
-use Prim.Native.Nat.{◌<◌, ◌+◌}
+use mathlib.Core.Path.{◌≡◌, subst}
 use lib.ListN.{length}
-use Rattle.flat.specs.Record.{rows}
 use Rattle.season_count.specs.Tally.{calibration_from, Running}
 use Rattle.std.proofs.lemmas.Result.{err_from_is_err_and}
 use Rattle.season_count.proofs.Tallying.{none-behind, one-behind, so-many, range-fails, out-one}
@@ -17,7 +14,8 @@ pub add-requires-clause-begun : goal.add-requires-clause-begun
 add-requires-clause-begun c =
     let p = c.requires.begun.0 in
     let r = c.loop-k.invariant.so-far p.0 p.1 in
-    ((_, r), omega (arith, r.done_is, so-many p.0 (calibration_from c.args.c.now (length c.args.inputs.now)) c.loop-k.k, p.1.done_is, c.requires.begun.1, c.loop-k-test.true))
+    let many = so-many p.0 (calibration_from c.args.c.now (length c.args.inputs.now)) c.loop-k.k in
+    ((_, r), omega (arith, r.done_is, many, p.1.done_is, c.requires.begun.1, c.loop-k-test.true))
 
 pub returns-in_err-add : goal.returns-in_err-add
 unfolding calibration_from
@@ -31,7 +29,9 @@ pub loop-k-preserved : goal.loop-k-preserved
 unfolding calibration_from
 loop-k-preserved c = record {
   so-far = λ cs r.
-      subst (λ ds. Running c.args.r.now.bytes.now ds c.add.new.self) (one-behind cs (calibration_from c.args.c.now (length c.args.inputs.now)) c.loop-k.k) (c.in_ok-add.ensures _ (c.loop-k.invariant.so-far cs r));
+      subst (λ ds. Running c.args.r.now.bytes.now ds c.add.new.self)
+      (one-behind cs (calibration_from c.args.c.now (length c.args.inputs.now)) c.loop-k.k)
+      (c.in_ok-add.ensures _ (c.loop-k.invariant.so-far cs r));
 }
 
 pub returns : goal.returns

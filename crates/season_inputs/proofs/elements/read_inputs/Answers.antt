@@ -1,6 +1,6 @@
 -- `season_inputs::elements::read_inputs` meets its contract. Assumes nothing.
 use native.Mathlib.Omega.{arith}
-use mathlib.Core.Path.{◌≡◌, refl, sym, ap, ◌∙◌}
+use mathlib.Core.Path.{refl, sym, ap, ◌∙◌}
 use lib.Dec.{leb}
 use lib.IntN.{ℤ, nat_abs}
 use lib.ListN.{length-set}

@@ -1,7 +1,6 @@
 -- `season_inputs::marking::mark_equalities` meets its contract. Assumes nothing.
 use native.Mathlib.Omega.{arith}
 use mathlib.Core.Path.{◌≡◌, sym, ap}
-use Prim.Native.Nat.{◌-◌}
 use Rattle.constraint.specs.Reading.{written_at}
 use Rattle.season_inputs.specs.Marks.{in_written}
 use Rattle.constraint.specs.Reading.{constraint_of}

@@ -1,5 +1,4 @@
 -- `season_inputs::marking::mark_equality` meets its contract. Assumes nothing.
-use mathlib.Core.Path.{refl}
 use Rattle.season_inputs.specs.Marks.{in_written}
 use Rattle.season_inputs.proofs.Marks.{marks-both}
 use Rattle.season_inputs.proofs.marking.mark_equality.Goals as goal

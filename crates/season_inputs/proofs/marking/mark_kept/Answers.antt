@@ -1,7 +1,6 @@
 -- `season_inputs::marking::mark_kept` meets its contract. Assumes nothing.
 use native.Mathlib.Omega.{arith}
-use mathlib.Core.Path.{◌≡◌, sym, ap}
-use Prim.Native.Nat.{◌-◌}
+use mathlib.Core.Path.{◌≡◌, ap}
 use Rattle.flat.specs.Trees.{Definition}
 use Rattle.season_trees.specs.Values.{in_tree}
 use Rattle.season_values.proofs.Turns.{entry-is}

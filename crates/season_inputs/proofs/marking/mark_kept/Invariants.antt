@@ -1,7 +1,4 @@
-use mathlib.Core.Path.{◌≡◌}
-use mathlib.Core.List.{List}
-use lib.ListN.{length}
-use Prim.Native.Nat.{ℕ, ◌≤◌, ◌-◌}
+use Prim.Native.Nat.{◌≤◌, ◌-◌}
 use Rattle.flat.specs.Record.{rows}
 use Rattle.constraint.specs.Reading.{kept, nodes, kept_offset, nodes_offset}
 use Rattle.flat.specs.Record.{definition_at}
@@ -12,5 +9,7 @@ use Rattle.season_inputs.proofs.marking.mark_kept.Given as goal
 abbrev pub invariant-loop-k : goal.invariant-loop-k
 invariant-loop-k l = record {
   most : l.k ≤ kept l.r.bytes.now;
-  so-far : MarksMore l.initial.marks l.marks (λ v. in_kept v (rows (kept l.r.bytes.now - l.k) l.k (definition_at l.r.bytes.now (kept_offset l.r.bytes.now) (nodes_offset l.r.bytes.now) (nodes l.r.bytes.now))));
+  so-far : MarksMore l.initial.marks l.marks
+      (λ v. in_kept v
+      (rows (kept l.r.bytes.now - l.k) l.k (definition_at l.r.bytes.now (kept_offset l.r.bytes.now) (nodes_offset l.r.bytes.now) (nodes l.r.bytes.now))));
 }

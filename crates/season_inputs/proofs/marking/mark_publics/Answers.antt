@@ -1,7 +1,6 @@
 -- `season_inputs::marking::mark_publics` meets its contract. Assumes nothing.
 use native.Mathlib.Omega.{arith}
 use mathlib.Core.Path.{◌≡◌, sym, ap}
-use Prim.Native.Nat.{◌-◌}
 use lib.Dec.{eqb}
 use Rattle.constraint.specs.Reading.{constraint_of}
 use Rattle.season_values.proofs.Laid.{publics-laid}

@@ -1,7 +1,4 @@
-use mathlib.Core.Path.{◌≡◌}
-use mathlib.Core.List.{List}
-use lib.ListN.{length}
-use Prim.Native.Nat.{ℕ, ◌≤◌, ◌-◌}
+use Prim.Native.Nat.{◌≤◌, ◌-◌}
 use Rattle.flat.specs.Record.{rows}
 use Rattle.constraint.specs.Reading.{publics}
 use Rattle.flat.specs.Layout.{public_at}

@@ -1,7 +1,6 @@
 -- `season_inputs::marking::marked_inputs` meets its contract. Assumes nothing.
 use mathlib.Core.Bool.{Bool, not, ◌&&◌, ◌||◌, or-false}
-use mathlib.Core.Path.{◌≡◌, ap, ◌∙◌}
-use Prim.Native.Nat.{ℕ}
+use mathlib.Core.Path.{ap, ◌∙◌}
 use Rattle.flat.specs.Trees.{defines}
 use Rattle.constraint.specs.Reading.{constraint_of}
 use Rattle.constraint_check.specs.Record.{among}

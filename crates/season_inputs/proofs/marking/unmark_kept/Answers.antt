@@ -1,6 +1,6 @@
 -- `season_inputs::marking::unmark_kept` meets its contract. Assumes nothing.
 use native.Mathlib.Omega.{arith}
-use mathlib.Core.Path.{ap, ◌∙◌}
+use mathlib.Core.Path.{◌∙◌}
 use lib.ListN.{length-set}
 use Rattle.flat.proofs.Parts.{id-is}
 use Rattle.flat.specs.Record.{definition_at}

@@ -1,6 +1,5 @@
 -- `season_values::kept::value` meets its contract. Assumes nothing.
 use mathlib.Core.Path.{ap, ap₂, ◌∙◌}
-use Rattle.std.specs.Prelude.{Some}
 use borrow.Author.Rules.{rules}
 use Rattle.flat.specs.Record.{grown}
 use Rattle.flat.specs.Meaning.{on_values, negated}

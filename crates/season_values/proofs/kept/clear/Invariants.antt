@@ -1,6 +1,5 @@
 use mathlib.Core.Path.{◌≡◌}
 use lib.ListN.{length}
-use Prim.Native.Nat.{◌≤◌}
 use Rattle.constraint.specs.Reading.{kept}
 use Rattle.season_values.proofs.Turns.{ClearedFrom}
 use Rattle.season_values.proofs.kept.clear.Given as goal

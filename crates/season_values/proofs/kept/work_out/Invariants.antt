@@ -1,6 +1,5 @@
 use mathlib.Core.Path.{◌≡◌}
 use lib.ListN.{length}
-use Prim.Native.Nat.{◌≤◌}
 use Rattle.constraint.specs.Reading.{kept}
 use Rattle.season_values.proofs.Turns.{WorkedFrom}
 use Rattle.season_values.proofs.kept.work_out.Given as goal

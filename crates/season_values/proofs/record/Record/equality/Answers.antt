@@ -4,7 +4,6 @@ use mathlib.Core.Path.{ap, ◌∙◌}
 use Prim.Native.Nat.{ℕ}
 use Rattle.constraint.specs.Reading.{written_at}
 use Rattle.constraint_check.proofs.Accepted.{tested}
-use Rattle.season_values.specs.Record.{EqualityBelow}
 use Rattle.season_values.proofs.Entries.{equality-below}
 use Rattle.season_values.proofs.Laid.{equalities-at-laid}
 use Rattle.season_values.proofs.record.Record.equality.Goals as goal

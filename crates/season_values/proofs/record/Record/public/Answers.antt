@@ -8,4 +8,6 @@ pub public_at-requires : goal.public_at-requires
 public_at-requires c = let s = c.args.self.now in omega (arith, (tested s.bytes.now s.accepted).long)
 
 pub returns : goal.returns
-returns c = let s = c.args.self.now in record { value = c.public_at.ensures; within = omega (arith, c.public_at.ensures, public-below s.bytes.now s.accepted c.args.k c.requires) }
+returns c =
+    let s = c.args.self.now in
+    record { value = c.public_at.ensures; within = omega (arith, c.public_at.ensures, public-below s.bytes.now s.accepted c.args.k c.requires) }
