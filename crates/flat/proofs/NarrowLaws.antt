@@ -40,6 +40,7 @@ narrow-fits z = by-sign z
     chosen : (z : ℤ) (c : Bool) → ltb (mag z) 2147483648 ≡ c → SFits w32 (cond c z (elem P z))
     chosen z true e = record { sfits = ltb-true (mag z) 2147483648 e }
     chosen z false e = elem-fits z
+
     by-sign : (z : ℤ) → SFits w32 (narrow z)
     by-sign (pos n) = chosen (pos n) (ltb n 2147483648) refl
     by-sign (negsuc n) = chosen (negsuc n) (ltb n 2147483648) refl
@@ -51,6 +52,7 @@ narrow-element z = by-sign z
     chosen : (z : ℤ) (c : Bool) → elem P (cond c z (elem P z)) ≡ elem P z
     chosen z true = refl
     chosen z false = elem-elem P P-above z
+
     by-sign : (z : ℤ) → elem P (narrow z) ≡ elem P z
     by-sign (pos n) = chosen (pos n) (ltb n 2147483648)
     by-sign (negsuc n) = chosen (negsuc n) (ltb n 2147483648)
