@@ -186,10 +186,10 @@ module _ (q : Queue) {z : Lengths} {zs : List Lengths} (first : q.lengths.now �
           turns-are =
               ap (turns s left) all-is ∙ ap (λ (gs : List Given). given (fits s left (need now)) now ∷ gs) (sym later-is)
 
-          pub answers-are : {m : ℕ} {a : Result ℕ ℕ} {bs : List (Result ℕ ℕ)} → a ≡ (given (fits s left x) (lent (take k rec) (take h out))).answer →
+          pub answers-are : (m : ℕ) {a : Result ℕ ℕ} {bs : List (Result ℕ ℕ)} → a ≡ (given (fits s left x) (lent (take k rec) (take h out))).answer →
               bs ≡ answers_of m later → a ∷ bs ≡ answers_of (suc m) (turns s left (lents_in q out))
           unfolding answers_of
-          answers-are {m} ea es =
+          answers-are m ea es =
               ap₂ ◌∷◌ (ea ∙ ap (λ (g : Given). g.answer) given-is) es ∙ sym (ap (answers_of (suc m)) turns-are)
 
           r-long : length (rejoined (drop z.output out) zs later) ≡ length (drop z.output out)
@@ -221,14 +221,14 @@ module _ (q : Queue) (s left : ℕ) (out : List ℕ) (none : q.lengths.now ≡ [
   unfolding turns lents_in lents_of
   no-turns = ap (λ (ls : List Lengths). turns s left (lents_of q.records.now out ls)) none
 
-  pub no-answers : {m : ℕ} {bs : List (Result ℕ ℕ)} → bs ≡ answers_of m [] → bs ≡ answers_of m (turns s left (lents_in q out))
-  no-answers {m} e = e ∙ sym (ap (answers_of m) no-turns)
+  pub no-answers : (m : ℕ) {bs : List (Result ℕ ℕ)} → bs ≡ answers_of m [] → bs ≡ answers_of m (turns s left (lents_in q out))
+  no-answers m e = e ∙ sym (ap (answers_of m) no-turns)
 
   pub no-outputs : out ≡ rejoined out q.lengths.now (turns s left (lents_in q out))
   unfolding rejoined
   no-outputs = sym (ap₂ (rejoined out) none no-turns)
 
 -- what is left of an array of answers that were none
-pub answers-left : {m : ℕ} {a : Result ℕ ℕ} {bs : List (Result ℕ ℕ)} → a ∷ bs ≡ answers_of (suc m) [] → bs ≡ answers_of m []
+pub answers-left : (m : ℕ) {a : Result ℕ ℕ} {bs : List (Result ℕ ℕ)} → a ∷ bs ≡ answers_of (suc m) [] → bs ≡ answers_of m []
 unfolding answers_of
-answers-left e = cc
+answers-left m e = cc

@@ -43,10 +43,10 @@ module _ (T : ℕ) (q : Queue) (out : List ℕ) where
         ∙ ap (λ (n : ℕ). turns (share T n) (pool T (share T n) (map need ls)) ls) long
 
     module _ (few : length q.lengths.now ≤ MOST) where
-      pub all-answered : {each : List (Result ℕ Refusal)} → map numbered each ≡ answers_of MOST (turns p.share p.left (lents_in q out)) →
+      pub all-answered : (each : List (Result ℕ Refusal)) → map numbered each ≡ answers_of MOST (turns p.share p.left (lents_in q out)) →
           all_numbered (Ok each) ≡ shared_for T q.records.now out q.lengths.now
       unfolding shared_for pick
-      all-answered g =
+      all-answered each g =
           let t = le-leb (length q.lengths.now) MOST few in
           rw t (ap (λ (rs : List (Result ℕ ℕ)). Ok rs) (g ∙ ap (answers_of MOST) all-given))
 

@@ -1,6 +1,6 @@
 -- `share_entry::take_turns` meets its contract. Assumes nothing.
 use mathlib.Core.Path.{◌≡◌, sym, ap, ◌∙◌}
-use mathlib.Core.List.{List, map}
+use mathlib.Core.List.{List, [], map}
 use native.Mathlib.Omega.{arith}
 use Prim.Native.Nat.{ℕ}
 use lib.ListN.{length}
@@ -17,7 +17,7 @@ use Rattle.share_entry.proofs.+take_turns.Goals as goal
 pub returns-in_default-clause-value : goal.returns-in_default-clause-value
 returns-in_default-clause-value t c =
     let none = MatchOption-at_none _ _ c.in_default.is c.split_first.ensures.cases in
-    no-answers c.args.queue c.args.pool.now.share c.args.pool.now.left c.args.out.now (empty c.args.queue.lengths.now none) c.requires.1.1
+    no-answers c.args.queue c.args.pool.now.share c.args.pool.now.left c.args.out.now (empty c.args.queue.lengths.now none) _ c.requires.1.1
 
 pub returns-in_default-clause-out_after : goal.returns-in_default-clause-out_after
 returns-in_default-clause-out_after t c =
@@ -27,7 +27,8 @@ returns-in_default-clause-out_after t c =
 pub returns-in_default-split_first-clause-value : goal.returns-in_default-split_first-clause-value
 returns-in_default-split_first-clause-value t c =
     let none = MatchOption-at_none _ _ c.in_default-split_first.is c.split_first-2.ensures.cases in
-    no-answers c.args.queue c.args.pool.now.share c.args.pool.now.left c.args.out.now (none-left c.args.queue c.args.out.now c.requires.1.0 none) c.requires.1.1
+    no-answers c.args.queue c.args.pool.now.share c.args.pool.now.left c.args.out.now (none-left c.args.queue c.args.out.now c.requires.1.0 none) _
+    c.requires.1.1
 
 pub returns-in_default-split_first-clause-out_after : goal.returns-in_default-split_first-clause-out_after
 returns-in_default-split_first-clause-out_after t c =
@@ -44,7 +45,7 @@ take_turns-requires t c =
     (omega (arith, c.decreases, first.1), (omega (arith, c.requires.0, first.1, slots.1), (
       needs-then c.args.queue first.0 c.args.pool.now.share c.args.pool.now.left c.args.out.now needs c.held_length.ensures.is c.held_length-2.ensures.is
       c.take_turn.ensures.out_after c.min.ensures c.min-2.ensures,
-      answers-left none,
+      answers-left _ none,
     )))
 
 pub returns-clause-value : goal.returns-clause-value
@@ -54,8 +55,8 @@ returns-clause-value t c =
     let slots = c.in-Some-split_first_mut.ensures.cases in
     let needs = sym c.in-Some-split_first.ensures.cases.0 ∙ c.requires.1.0 in
     answers-are c.args.queue first.0 c.args.pool.now.share c.args.pool.now.left c.args.out.now needs c.held_length.ensures.is c.held_length-2.ensures.is
-    c.take_turn.ensures.out_after c.min.ensures c.min-2.ensures c.take_turn.ensures.share c.take_turn.ensures.left c.take_turn.ensures.value
-    c.take_turns.ensures.value
+    c.take_turn.ensures.out_after c.min.ensures c.min-2.ensures c.take_turn.ensures.share c.take_turn.ensures.left _
+    c.take_turn.ensures.value c.take_turns.ensures.value
     ∙ ap (λ (xs : List _). answers_of (length xs) (turns c.args.pool.now.share c.args.pool.now.left (lents_in c.args.queue c.args.out.now))) (sym slots.0)
 
 pub returns-clause-out_after : goal.returns-clause-out_after

@@ -23,7 +23,7 @@ pub returns-clause-value : goal.returns-clause-value
 returns-clause-value c =
     let q : Queue = record { lengths = c.args.lengths; records = c.args.records } in
     all-answered c.args.total q c.args.out.now (needs-are c.args.total q c.args.out.now c.put_needs.ensures) c.new-pool.ensures
-    (omega (arith, c.if-n-gt-MOST.false)) c.take_turns.ensures.value
+    (omega (arith, c.if-n-gt-MOST.false)) _ c.take_turns.ensures.value
 
 pub returns-clause-out_after : goal.returns-clause-out_after
 returns-clause-out_after c =
