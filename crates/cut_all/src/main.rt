@@ -37,6 +37,15 @@ const NAME: usize = 4096;
 
 const LINE: usize = NAME + 64;
 
+// Kept as it is: behind a function, for else a caller's proof computes the array place by place.
+fn records_buffer() -> [u8; RECORDS] {
+    [0u8; RECORDS]
+}
+
+fn outputs_buffer() -> [u8; OUTPUTS] {
+    [0u8; OUTPUTS]
+}
+
 fn say_usage(rt: &impl Eprint) -> Failed {
     let _ = rt.eprint("usage: cut_all T OUTPUT_BYTES FILE..\n");
     Failed
@@ -173,7 +182,7 @@ fn run<R: Env + Files + Print + Eprint>(
 ) -> Result<usize, Failed>
     requires { (n ≤ 9) × ((room ≤ 147456) × (length out.old ≡ 8 * room)) }
 {
-    let mut records = [0u8; RECORDS];
+    let mut records = records_buffer();
     let mut lengths = [Lengths {
         record: 0,
         output: room,
@@ -219,6 +228,6 @@ fn main(rt: HostRuntime) {
         return;
     };
     let room = most.min(OUTPUT_BYTES);
-    let mut out = [0u8; OUTPUTS];
+    let mut out = outputs_buffer();
     let _ = run(&rt, total, files(&rt), room, &mut out[..MOST * room]);
 }
