@@ -103,7 +103,12 @@ fn take_turns(
     let records = queue.records;
     let size = out.len();
     let record = &records[..held_length(of.record, records.len())];
-    *answer = take_turn(pool, *need, record, &mut out[..held_length(of.output, size)]);
+    *answer = take_turn(
+        pool,
+        *need,
+        record,
+        &mut out[..held_length(of.output, size)],
+    );
     let behind = Queue {
         lengths,
         records: &records[of.record.min(records.len())..],

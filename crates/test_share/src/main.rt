@@ -92,7 +92,10 @@ fn are_said(answer: Result<[Result<usize, Refusal>; MOST], Refusal>, head: &[u32
         Err(refusal) => head[CALL_AT] == refusal.number(),
         Ok(each) => {
             head[CALL_AT] == 0
-                && each.iter().zip(&head[ANSWERS_AT..]).all(|(a, word)| is_said(*a, *word))
+                && each
+                    .iter()
+                    .zip(&head[ANSWERS_AT..])
+                    .all(|(a, word)| is_said(*a, *word))
         }
     }
 }
@@ -129,7 +132,10 @@ impl Cases<KINDS_OF_CASES> for Lent {
         counts: &mut Counts<KINDS_OF_CASES>,
     ) -> Result<(), Stop> {
         let head = read_words::<HEAD>(rt)?;
-        let records = self.records.get_mut(..head[2] as usize).ok_or(Stop::Broken)?;
+        let records = self
+            .records
+            .get_mut(..head[2] as usize)
+            .ok_or(Stop::Broken)?;
         let out = self.out.get_mut(..head[3] as usize).ok_or(Stop::Broken)?;
         read_rest(rt, records)?;
         let right = answers(&head, records, &mut self.store, out);

@@ -41,12 +41,17 @@ take_turns-requires t c =
     let first = c.in-Some.ensures.cases in
     let slots = c.in-Some-split_first_mut.ensures.cases in
     let needs = sym c.in-Some-split_first.ensures.cases.0 ∙ c.requires.1.0 in
-    let none = sym (ap (map (numbered {A = ℕ})) slots.0) ∙ c.requires.1.1 ∙ ap (λ (xs : List _). answers_of (length xs) []) slots.0 in
-    (omega (arith, c.decreases, first.1), (omega (arith, c.requires.0, first.1, slots.1), (
-      needs-then c.args.queue first.0 c.args.pool.now.share c.args.pool.now.left c.args.out.now needs c.held_length.ensures.is c.held_length-2.ensures.is
-      c.take_turn.ensures.out_after c.min.ensures c.min-2.ensures,
-      answers-left _ none,
-    )))
+    let none = sym (ap (map (numbered {A = ℕ})) slots.0) ∙ c.requires.1.1 ∙ ap (λ (xs : List _). answers_of (length xs) []) slots.0 in (
+      omega (arith, c.decreases, first.1),
+      (
+        omega (arith, c.requires.0, first.1, slots.1),
+        (
+          needs-then c.args.queue first.0 c.args.pool.now.share c.args.pool.now.left c.args.out.now needs c.held_length.ensures.is c.held_length-2.ensures.is
+              c.take_turn.ensures.out_after c.min.ensures c.min-2.ensures,
+          answers-left _ none,
+        ),
+      ),
+    )
 
 pub returns-clause-value : goal.returns-clause-value
 unfolding lents_in

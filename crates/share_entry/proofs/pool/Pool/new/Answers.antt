@@ -13,7 +13,7 @@ overflow_sub-left c =
     let i = c.loop-need.invariant in
     let m : c.min-left.result ≡ min c.unwrap_or-share.result (get_or c.args.needs.now c.loop-need.need-index 0) = c.min-left.ensures in
     let e : c.min-left.result ≡ sure (share c.args.total (length c.args.needs.now)) (get_or c.args.needs.now c.loop-need.need-index 0) =
-        m ∙ least-is _ _ ∙ ap (λ s. sure s (get_or c.args.needs.now c.loop-need.need-index 0)) i.0 in
+    m ∙ least-is _ _ ∙ ap (λ s. sure s (get_or c.args.needs.now c.loop-need.need-index 0)) i.0 in
     rw e (left-holds c.args.total c.args.needs.now _ _ i.1 c.loop-need-test.true)
 
 pub loop-need-preserved : goal.loop-need-preserved
@@ -21,7 +21,7 @@ loop-need-preserved c =
     let i = c.loop-need.invariant in
     let m : c.min-left.result ≡ min c.unwrap_or-share.result (get_or c.args.needs.now c.loop-need.need-index 0) = c.min-left.ensures in
     let e : c.min-left.result ≡ sure (share c.args.total (length c.args.needs.now)) (get_or c.args.needs.now c.loop-need.need-index 0) =
-        m ∙ least-is _ _ ∙ ap (λ s. sure s (get_or c.args.needs.now c.loop-need.need-index 0)) i.0 in
+    m ∙ least-is _ _ ∙ ap (λ s. sure s (get_or c.args.needs.now c.loop-need.need-index 0)) i.0 in
     (i.0, rw e (left-turn c.args.total c.args.needs.now _ _ i.1 c.loop-need-test.true))
 
 pub returns : goal.returns
