@@ -70,7 +70,8 @@ cut-refusal : (b : List ℕ) (n : ℕ) → cut_record b ≡ refused n → n < 48
 unfolding cut_record cut_read flat_of pick
 cut-refusal b n e = by (measured b) (rules b) e
   where
-    by : (t u : Bool) → cut_read (pick t (pick u (Read.module-of (module_of b)) (Read.refused Refusal.FlatRule)) (Read.refused Refusal.FlatLength)) ≡ refused n → n < 48
+    by : (t u : Bool) →
+        cut_read (pick t (pick u (Read.module-of (module_of b)) (Read.refused Refusal.FlatRule)) (Read.refused Refusal.FlatLength)) ≡ refused n → n < 48
     by true true q = module-refusal (module_of b) n q
     by true false q = let z : ◌≡◌ {A = ℕ} n 21 = cc in omega arith
     by false u q = let z : ◌≡◌ {A = ℕ} n 20 = cc in omega arith

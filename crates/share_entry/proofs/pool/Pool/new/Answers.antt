@@ -26,5 +26,6 @@ loop-need-preserved c =
 
 pub returns : goal.returns
 returns c =
+    let end = c.loop-need.auto.need-index-end in
     pool-made c.args.total c.args.needs.now c.loop-need.invariant.0
-    (left-end c.args.total c.args.needs.now _ _ c.loop-need.invariant.1 (omega (arith, c.loop-need-test.false)) (omega (arith, c.loop-need.auto.need-index-end)))
+    (left-end c.args.total c.args.needs.now _ _ c.loop-need.invariant.1 (omega (arith, c.loop-need-test.false)) (omega (arith, end)))
