@@ -19,6 +19,7 @@ import os
 import struct
 import sys
 
+from assemble import NONE, pack
 from source_records import (
     LAST_STORE, answer_of, directed, generated, group, model, model_answer, module_record, run, stores, twin_lines,
 )
@@ -332,6 +333,23 @@ def damaged(records):
         yield r[: len(r) - 1 - k % 3]
 
 
+COUNTS = (513, 65, 513, 513, 2049)  # each one over its limit
+
+
+def unreadable():
+    """Records with the numbers that `damaged` does not come to: 1 and 2 by length and header, 6 by a node that is not used once."""
+    whole = module_record((["x"], [D("y", X)], [I(EQ, Y, C(7))]))
+    lists = len(whole) - len(b"xy")
+    yield from ((1, whole[:n]) for n in (1, 19, 20, lists - 16, lists - 1))
+    yield 1, bytes(20) + b"x"
+    for k, n in enumerate(COUNTS):
+        header = whole[: 4 * k] + struct.pack("<I", n) + whole[4 * k + 4 :]
+        yield from ((2, header), (2, header[:20]))
+    one, link = (7, 1, 0, 0), (14, 0, NONE, 0)
+    for expressions, nodes in (([], [one]), ([0], [one, one]), ([0, 0], [one]), ([1], [one, (2, 0, 0, 0)]), ([0], [one, link])):
+        yield 6, pack([], [], [], expressions, nodes)
+
+
 # Directed modules that are left to compare_source.py: their flat records are long, or others are like them.
 LEFT_OUT = {"grow 60 x 30", "right nest", "right nest 2", "left nest", "lets captured 2", "provers ok", "defs 16", "power ok", "negs 178"}
 LEFT_OUT |= {"ids 32 in infix %d" % n for n in (5, 6, 7, 8, 9)} | {"ids 32 in split 4", "ids 32 in split 5", "ids 32 in expand 9"}
@@ -462,6 +480,7 @@ def write(oracle, twin):
         print("%d records: %s" % (w.groups - before, chosen), file=sys.stderr)
     w.put_all([*damaged([r for r in generated(oracle, 30001, 150, "mixed") if len(r) < 900])])
     w.put_all(modules((not_by_nesting(), not_in_all())), 0)
+    w.put_numbered([*unreadable()])
     write_counts(w)
     if w.tested[ALL] < ENOUGH:
         raise SystemExit("%d accepted records with all three, of %d" % (w.tested[ALL], ENOUGH))

@@ -15,7 +15,7 @@ import sys
 
 ROOT = os.path.join(os.path.dirname(os.path.abspath(__file__)), "..", "crates")
 
-# tables of cases, and examples worked out on numerals
+# tables of cases, examples worked out on numerals, and the numbers of the operators
 COMPUTED = {
     "agreement/proofs/Cases.antt",
     "agreement/proofs/Example.antt",
@@ -24,7 +24,9 @@ COMPUTED = {
     "eval_trees/proofs/Compute.antt",
     "eval_trees/proofs/Limits.antt",
     "eval_trees/proofs/PowersExample.antt",
+    "eval_values/proofs/Operators.antt",
     "flatten_entry/proofs/Cases.antt",
+    "pass_trees/proofs/Example.antt",
     "plain/proofs/Example.antt",
 }
 

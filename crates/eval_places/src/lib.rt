@@ -75,7 +75,6 @@ impl Places {
     }
 
     // What the statement x emitted, from the state before it to the state behind it.
-    #[tactic(auto, unfolding(crate::specs::Places::noted, crate::specs::Places::column_number))]
     pub fn note(&mut self, before: State, behind: State, x: u32)
         ensures { self.new.words ≡ noted before behind x self.old.words }
     {

@@ -123,7 +123,8 @@ impl Writer<'_, '_> {
     }
 
     // The equations' nodes, and their roots and places from word `list` on.
-    #[tactic(auto, using(crate::proofs::Laws::lists), unfolding(crate::specs::Written::write_sides, crate::specs::Written::write_equation, eval_places::specs::Places::column_number))]
+    #[tactic(auto, using(crate::proofs::Laws::lists), // and an entry's place
+    unfolding(crate::specs::Written::write_sides, crate::specs::Written::write_equation, eval_places::specs::Places::column_number))]
     pub fn equations(&mut self, places: &Places, list: usize)
         requires { (list ≤ LAST-EQUATIONS-AT) × (self.old.memory.now.state.equations ≤ LISTED) }
         ensures { Wrote (write_equations self.old.memory.now.fixed self.old.memory.now.store.now self.old.at self.old.memory.now.rows places.now.words list

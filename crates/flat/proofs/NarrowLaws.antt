@@ -25,27 +25,37 @@ elem-fits z = small-fits (elem P z) (omega (arith, elem-range P (omega arith) z)
 
 pub narrow-same : (z : ℤ) → SFits w32 z → narrow z ≡ z
 unfolding narrow
-narrow-same z f = rw (lt-ltb (mag z) 2147483648 f.sfits) refl
+narrow-same (pos n) f = rw (lt-ltb n 2147483648 f.sfits) refl
+narrow-same (negsuc n) f = rw (lt-ltb n 2147483648 f.sfits) refl
 
 pub narrow-wide : (z : ℤ) → 2147483648 ≤ mag z → narrow z ≡ elem P z
 unfolding narrow
-narrow-wide z l = rw (le-ltb (mag z) 2147483648 l) refl
+narrow-wide (pos n) l = rw (le-ltb n 2147483648 l) refl
+narrow-wide (negsuc n) l = rw (le-ltb n 2147483648 l) refl
 
 pub narrow-fits : (z : ℤ) → SFits w32 (narrow z)
 unfolding narrow
-narrow-fits z = go (ltb (mag z) 2147483648) refl
+narrow-fits z = by-sign z
   where
-    go : (c : Bool) → ltb (mag z) 2147483648 ≡ c → SFits w32 (cond c z (elem P z))
-    go true e = record { sfits = ltb-true (mag z) 2147483648 e }
-    go false e = elem-fits z
+    chosen : (z : ℤ) (c : Bool) → ltb (mag z) 2147483648 ≡ c → SFits w32 (cond c z (elem P z))
+    chosen z true e = record { sfits = ltb-true (mag z) 2147483648 e }
+    chosen z false e = elem-fits z
+
+    by-sign : (z : ℤ) → SFits w32 (narrow z)
+    by-sign (pos n) = chosen (pos n) (ltb n 2147483648) refl
+    by-sign (negsuc n) = chosen (negsuc n) (ltb n 2147483648) refl
 
 pub narrow-element : (z : ℤ) → elem P (narrow z) ≡ elem P z
 unfolding narrow
-narrow-element z = go (ltb (mag z) 2147483648)
+narrow-element z = by-sign z
   where
-    go : (c : Bool) → elem P (cond c z (elem P z)) ≡ elem P z
-    go true = refl
-    go false = elem-elem P P-above z
+    chosen : (z : ℤ) (c : Bool) → elem P (cond c z (elem P z)) ≡ elem P z
+    chosen z true = refl
+    chosen z false = elem-elem P P-above z
+
+    by-sign : (z : ℤ) → elem P (narrow z) ≡ elem P z
+    by-sign (pos n) = chosen (pos n) (ltb n 2147483648)
+    by-sign (negsuc n) = chosen (negsuc n) (ltb n 2147483648)
 
 -- what the code tests
 pub below-least : (z : ℤ) → lt_z z (negsuc 2147483647) ≡ true → 2147483648 ≤ mag z

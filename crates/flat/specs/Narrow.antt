@@ -1,10 +1,9 @@
--- The constants of flat records: "flat and constraint records keep their 32 bits".
-use Rattle.std.specs.Prelude.{cond, ltb, ℤ}
-use lib.Signed.{mag}
+-- The constants of flat records.
+use Rattle.std.specs.Prelude.{cond, ltb, ℤ, pos, negsuc}
 use Rattle.field.specs.Prime.{P}
 use Rattle.field.specs.Element.{elem}
 
--- the number that a flat list has for a constant: "a constant beyond 32 bits .. goes there as its element"; every other as it stands.
--- `mag` of a number from -2,147,483,648 to 2,147,483,647, and of no other, is below 2 ^ 31
+-- The number that a flat list has for a constant: signed 32 bits stay as they are, every other number goes as its element. `negsuc n` is -(n + 1)
 unfoldable pub narrow : ℤ → ℤ
-narrow z = cond (ltb (mag z) 2147483648) z (elem P z)
+narrow (pos n) = cond (ltb n 2147483648) (pos n) (elem P (pos n))
+narrow (negsuc n) = cond (ltb n 2147483648) (negsuc n) (elem P (negsuc n))

@@ -120,7 +120,8 @@ room-defs b k ds m m' {n = n} p l h = room-puts (defs_cut b k (subst_of m) ds n)
 
 -- ---- the ways through one definition
 
-module _ {b : List ℕ} {us : List Usage} {ps : List Bool} (c : Classified b us ps) (k : ℕ) (m : List Substitute) (body : List ℕ) (at n id : ℕ) (e : Flat) (place : ℕ) where
+module _ {b : List ℕ} {us : List Usage} {ps : List Bool} (c : Classified b us ps) (k : ℕ) (m : List Substitute) (body : List ℕ)
+    (at n id : ℕ) (e : Flat) (place : ℕ) where
   abbrev Leaving : List Substitute → List ℕ → Place → Type 0
   Leaving m' body' r = DefsPut b k (record { id = id; right = e; place = place } ∷ []) m m' body body' at n r
 
@@ -129,7 +130,9 @@ module _ {b : List ℕ} {us : List Usage} {ps : List Bool} (c : Classified b us 
   skipped q a = let p = puts_none body at n in (rw q p.0, rw q p.1, a)
 
   pub way-unused : is_never (usage_of us id) ≡ true → Leaving m body (record { next = n; at = at })
-  way-unused h = let u = says-used c id h in skipped (cut-unused b k (subst_of m) id e place n u) (put-unused b k m (record { id = id; right = e; place = place }) u)
+  way-unused h =
+      let u = says-used c id h in
+      skipped (cut-unused b k (subst_of m) id e place n u) (put-unused b k m (record { id = id; right = e; place = place }) u)
 
   pub way-prover : is_never (usage_of us id) ≡ false → marked ps id ≡ true → Leaving m body (record { next = n; at = at })
   way-prover h g =
@@ -138,7 +141,8 @@ module _ {b : List ℕ} {us : List Usage} {ps : List Bool} (c : Classified b us 
       skipped (cut-prover b k (subst_of m) id e place n u p) (put-prover b k m (record { id = id; right = e; place = place }) u p)
 
   pub way-counted : (m' : List Substitute) {body' : List ℕ} {r : Cut} → is_never (usage_of us id) ≡ false → marked ps id ≡ false →
-      Leaves body body' at (tree_cut place (Some (Term.Variable id)) k (subst_of m) e n) r → m' ≡ put_definition k m (record { id = id; right = e; place = place }) →
+      Leaves body body' at (tree_cut place (Some (Term.Variable id)) k (subst_of m) e n) r →
+      m' ≡ put_definition k m (record { id = id; right = e; place = place }) →
       Leaving m' body' r.place
   way-counted m' h g l a =
       let u = says-used c id h in

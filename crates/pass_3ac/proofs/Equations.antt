@@ -72,7 +72,8 @@ module _ (k : ℕ) (s : Substitutions) (l r : Flat) (place n : ℕ) where
   unfolding equations_cut copy_propagate_equations alive keep_if flatten_equations
   cut-alive h = rw h (joined-none _)
 
-  cut_by : (q : Sides) → sides_of (copied_of x) (copied_of y) ≡ q → dead x y ≡ false → equations_cut k s (the ∷ []) n ≡ placed place (flatten_sides (sides_by q x y) n)
+  cut_by : (q : Sides) → sides_of (copied_of x) (copied_of y) ≡ q → dead x y ≡ false
+      → equations_cut k s (the ∷ []) n ≡ placed place (flatten_sides (sides_by q x y) n)
   cut_by q e h = cut-alive h ∙ ap (λ (z : SidesOf). placed place (flatten_sides z n)) (sides-by x y ∙ ap (λ (z : Sides). sides_by z x y) e)
 
   cut_left : (t : Term) → placed place (flatten_sides (sides_by (Left t) x y) n) ≡ cuts_of (tree_cut place (Some t) k s r n)
@@ -145,7 +146,8 @@ module _ (k : ℕ) (s : Substitutions) (l r : Flat) (place n : ℕ) where
 
 -- ---- both sides cut
 
-module _ (place : ℕ) (k : ℕ) (s : Substitutions) (l r : Flat) (b : List ℕ) {c : List ℕ} (at n : ℕ) {r1 : Cut} (l1 : Leaves b c at (tree_cut place None k s l n) r1) where
+module _ (place : ℕ) (k : ℕ) (s : Substitutions) (l r : Flat) (b : List ℕ) {c : List ℕ} (at n : ℕ) {r1 : Cut}
+    (l1 : Leaves b c at (tree_cut place None k s l n) r1) where
   pub room-both : {d : List ℕ} {r2 : Cut} → Leaves c d r1.place.at (tree_cut place None k s r r1.place.next) r2 → Room (tree_nodes l + tree_nodes r) at n b
       → 4 * (r2.place.at + EQUALITY-WORDS) ≤ length d
   unfolding after
@@ -167,7 +169,8 @@ module _ (place : ℕ) (k : ℕ) (s : Substitutions) (l r : Flat) (b : List ℕ)
       let y : Cutting = tree_cut place None k s r r1.place.next in
       let z : Cutting = placed_cut place (copied (option_of (Some r1.term)) r2.term r2.place.next) in
       let e : placed place (flatten_sides (both (copy_propagate_expr k s l) (copy_propagate_expr k s r)) n)
-      ≡ joined (cuts_of a).equalities (joined (cuts_of y).equalities (cuts_of z)) = cut-both k s l r place n a y refl (ap (tree_cut place None k s r) (its-next at a l1.1))
+      ≡ joined (cuts_of a).equalities (joined (cuts_of y).equalities (cuts_of z)) =
+      cut-both k s l r place n a y refl (ap (tree_cut place None k s r) (its-next at a l1.1))
       ∙ rw (its-term at a l1.1, its-term r1.place.at y l2.1, its-next r1.place.at y l2.1) in
       rw e (puts-join b at (cuts_of a) (joined (cuts_of y).equalities (cuts_of z)) (puts-tree b at a l1)
       (puts-join c r1.place.at (cuts_of y) (cuts_of z) (puts-tree c r1.place.at y l2) (puts-tree d r2.place.at z l3)))

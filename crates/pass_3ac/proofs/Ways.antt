@@ -51,7 +51,8 @@ pushed b at n place out es side {c} {d} {m} {q} {l} p e f g h =
     h ∙ ap (λ (x : Written). set_words c m (written_words x place)) (e ∙ ap (λ (t : Term). written_of t side) p) ∙ put_one c m place (or_variable out n) side in
     let u : m + EQUALITY-WORDS ≡ after at (es ++ (record { left = or_variable out n; right = side; place = place } ∷ [])) =
     sym (after-append at es _ ∙ after_one (after at es) _ ∙ ap (λ (x : ℕ). x + EQUALITY-WORDS) (sym g)) in (
-      w ∙ ap₂ (λ (x : List ℕ) (y : ℕ). put_equalities x y (record { left = or_variable out n; right = side; place = place } ∷ [])) f g ∙ sym (put-append b at es _),
+      w ∙ ap₂ (λ (x : List ℕ) (y : ℕ). put_equalities x y (record { left = or_variable out n; right = side; place = place } ∷ [])) f g
+          ∙ sym (put-append b at es _),
       rw (k, u, add-one),
     )
 
@@ -66,7 +67,8 @@ module _ {at n : ℕ} {b : List ℕ} where
   room-one h l = (omega (arith, h.words), omega (arith, h.ids))
 
 -- what a cut leaves of the room for its tree and more
-module _ (place : ℕ) (target : Maybe Term) (k : ℕ) (s : Substitutions) (e : Flat) {b c : List ℕ} {at n : ℕ} {r : Cut} (l : Leaves b c at (tree_cut place target k s e n) r) where
+module _ (place : ℕ) (target : Maybe Term) (k : ℕ) (s : Substitutions) (e : Flat) {b c : List ℕ} {at n : ℕ} {r : Cut}
+    (l : Leaves b c at (tree_cut place target k s e n) r) where
   pub room-on : (p : ℕ) → Room (tree_nodes e + p) at n b → Room p r.place.at r.place.next c
   unfolding after
   room-on p h =
@@ -127,7 +129,8 @@ module _ (place : ℕ) (target : Maybe Term) (k : ℕ) (s : Substitutions) (e : 
       let Y : Cutting = tree_cut place None k s y r1.place.next in
       let n1 = its-next at X l1.1 in
       let z : tree_cut place target k s e n ≡ push_at place (option_of target) (X.equalities ++ Y.equalities) r2.place.next (infix_op o r1.term r2.term) =
-      cut-infix place target k s n X Y p refl (ap (tree_cut place None k s y) n1) ∙ rw (its-term at X l1.1, its-term r1.place.at Y l2.1, its-next r1.place.at Y l2.1) in
+      cut-infix place target k s n X Y p refl (ap (tree_cut place None k s y) n1)
+      ∙ rw (its-term at X l1.1, its-term r1.place.at Y l2.1, its-next r1.place.at Y l2.1) in
       let i : r1.place.at ≡ after at X.equalities = its-at at X l1.1 in
       let body : d ≡ put_equalities b at (X.equalities ++ Y.equalities) =
       l2.0 ∙ ap₂ (λ (u : List ℕ) (v : ℕ). put_equalities u v Y.equalities) l1.0 i ∙ sym (put-append b at X.equalities Y.equalities) in
@@ -148,7 +151,8 @@ module _ (place : ℕ) (target : Maybe Term) (k : ℕ) (s : Substitutions) (e : 
       let g = pushed b at r1.place.next place (option_of target) X.equalities (Side.negate r1.term) lt qt l1.0 (its-at at X l1.1) w.0 in
       rw z (g.0, w.1 ∙ g.1)
 
-  pub way-constant : {z w : ℤ} {c : List ℕ} {r : Cut} → e ≡ Flat.constant z → w ≡ z → Leaves b c at (placed_cut place (copied (option_of target) (Term.Constant w) n)) r
+  pub way-constant : {z w : ℤ} {c : List ℕ} {r : Cut} → e ≡ Flat.constant z → w ≡ z
+      → Leaves b c at (placed_cut place (copied (option_of target) (Term.Constant w) n)) r
       → Leaves b c at (tree_cut place target k s e n) r
   way-constant p q l = rw (cut-constant place target k s n p, ← q) l
 

@@ -82,7 +82,8 @@ module _ (b : List ℕ) {k : ℕ} {entry : DefinitionEntry} (h : k < definitions
 -- an equation that was read
 module _ (b : List ℕ) {k : ℕ} {entry : EquationEntry} (h : k < equations b) (read : entry ≡ equation_entry b (equations_offset b) k)
     (within : (entry.left < nodes b) × (entry.right < nodes b)) where
-  pub equations-more : equations_from b k ≡ record { left = tree_of b entry.left; right = tree_of b entry.right; place = entry.place } ∷ equations_from b (k + 1)
+  pub equations-more : equations_from b k
+      ≡ record { left = tree_of b entry.left; right = tree_of b entry.right; place = entry.place } ∷ equations_from b (k + 1)
   unfolding equations_from equation_at
   equations-more =
       let left-settled = settled b (nodes_offset b) (nodes b) entry.left within.0 in

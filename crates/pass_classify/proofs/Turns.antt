@@ -226,7 +226,8 @@ module _ (b : List ℕ) (u : List Usage) (m : List Bool) where
       let d = definition-below r k l in
       let entry : DefinitionEntry = definition_entry b (definitions_offset b) k in
       ap (λ (ds : List Definition). cuttable_defs (counted_of b ds)) (definitions-more b l refl (omega (arith, d.0, r.next_small), d.1))
-      ∙ counted_step _ _ (record { id = entry.id; right = tree_of b entry.node; place = entry.place }) (definitions_from b (k + 1)) (is_never (usage_of u entry.id))
-      (marked m entry.id) (ap (λ (c : ℕ → Usage). not (is_never (c entry.id))) (sym w.used)) (ap (λ (c : ℕ → Bool). not (c entry.id)) (sym w.proved)))
+      ∙ counted_step _ _ (record { id = entry.id; right = tree_of b entry.node; place = entry.place }) (definitions_from b (k + 1))
+      (is_never (usage_of u entry.id)) (marked m entry.id)
+      (ap (λ (c : ℕ → Usage). not (is_never (c entry.id))) (sym w.used)) (ap (λ (c : ℕ → Bool). not (c entry.id)) (sym w.proved)))
       (ap (λ (ds : List Definition). cuttable_defs (counted_of b ds)) (definitions-none b (definitions b) (omega arith)))
       ∙ ap (λ (ds : List Definition). cuttable_defs (counted_of b ds)) (sym (definitions-whole b))

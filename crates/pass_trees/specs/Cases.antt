@@ -119,8 +119,8 @@ pub cases-hold : worked-out cases ≡ answers cases
 unfolding update member keep_if those most is_never is_witness mark_used used_in override classify_def classified usage ids_from classify_defs follow walk
     to_expr
     copy_propagate_expr substituting copy_propagate_def after_def copy_propagate_defs after_defs copy_propagate_equations copy_propagate same_number dead alive
-    eliminate_dead_equalities is_one is_zero when infix_op or_variable push_constraint_def copied flatten_expr_to_3ac cuts_of joined at_place all_at placed flatten_def_to_3ac
-    flatten_defs sides
+    eliminate_dead_equalities is_one is_zero when infix_op or_variable push_constraint_def copied flatten_expr_to_3ac cuts_of joined
+    at_place all_at placed flatten_def_to_3ac flatten_defs sides
     flatten_sides flatten_equations flatten_lists flatten_module_to_3ac passes cuttable cuttable_expr cuttable_defs cuttable_equations counted unless fitting
     cut_of
 cases-hold = refl

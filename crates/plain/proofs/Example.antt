@@ -94,7 +94,13 @@ fresh-public-body = refl
 
 abbrev fresh-public-made : FlatModule
 fresh-public-made =
-    record { next = 10; publics = 0 ∷ []; provers = []; definitions = []; equations = record { left = Flat.variable 9; right = Flat.constant (pos 1); place = 0 } ∷ [] }
+    record {
+      next = 10;
+      publics = 0 ∷ [];
+      provers = [];
+      definitions = [];
+      equations = record { left = Flat.variable 9; right = Flat.constant (pos 1); place = 0 } ∷ [];
+    }
 
 fresh-public-makes : evaluated 65535 (Rattle.numbering.specs.Numbering.numbered fresh-public) ≡ flat fresh-public-made
 unfolding answer_of

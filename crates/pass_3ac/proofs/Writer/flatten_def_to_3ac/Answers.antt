@@ -11,7 +11,8 @@ returns-then-is_never c =
 pub returns-then-is_prover : goal.returns-then-is_prover
 returns-then-is_prover c =
     let used = sym c.is_never.ensures ∙ c.if-is_never.false in
-    record { defs_put = way-prover c.args.classes.now.classified _ _ _ _ _ _ _ _ used (sym c.is_prover.ensures ∙ c.if-is_prover.true); lent = refl; steps = refl }
+    let prover = sym c.is_prover.ensures ∙ c.if-is_prover.true in
+    record { defs_put = way-prover c.args.classes.now.classified _ _ _ _ _ _ _ _ used prover; lent = refl; steps = refl }
 
 pub returns : goal.returns
 returns c =
