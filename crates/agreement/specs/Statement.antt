@@ -29,7 +29,7 @@ pub record Agrees (m : Module) (c : ConstraintModule) (ρ : ℕ → ℤ) : Type 
   pub unique : OneAtMost m c ρ
 
 -- for every module that is accepted and has a plain body, as every plain one has, and whatever elements its inputs have that make no divisor in it zero
--- (`NoDivisorZero`: every operation in it has a value)
+-- (`NoDivisorZero`: every operation in it, used or not, but the `=` of its equations has a value)
 abbrev pub Agreement : Type 0
 Agreement =
     (m : Module) →

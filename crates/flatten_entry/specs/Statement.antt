@@ -18,9 +18,10 @@ use Rattle.pass_entry.specs.Body.{OUTPUT-BYTES}
 use Rattle.flatten_entry.specs.Buffers.{LONGEST-SOURCE, STORE-BYTES}
 
 -- For every source record b that is accepted (with a store of `len` bytes and the output `out`, n bytes are written) and whose module m has a plain body, as
--- every plain one has, and whatever elements ρ its inputs have that make no divisor in it zero (`NoDivisorZero`: every operation in m has a value): the
--- equalities read back from the bytes that were written agree with m. `Agrees` of agreement/specs/Statement.antt: m's equations hold just if these equalities have a solution with the inputs ρ, and any two
--- solutions agree on every variable in them. And the bytes are the record of what is read back from them
+-- every plain one has, and whatever elements ρ its inputs have that make no divisor in it zero (`NoDivisorZero`: every operation in m, used or not, but the
+-- `=` of its equations has a value): the equalities read back from the bytes that were written agree with m. `Agrees` of agreement/specs/Statement.antt:
+-- m's equations hold just if these equalities have a solution with the inputs ρ, and any two solutions agree on every variable in them. And the bytes are
+-- the record of what is read back from them
 abbrev pub FlattenAgrees : Type 0
 FlattenAgrees =
     (b out : List ℕ) (len n : ℕ) (m : Module) →
