@@ -25,7 +25,7 @@ The text is made of parentheses and words; spaces, tabs and line ends separate w
                 (seq a ..)                     a sequence, of one item at least
     PATTERN     NUMBER   NAME   unit   nil
                 (, p q)   (: p q)   (as p NAME)
-    NUMBER      decimal digits, perhaps with a sign in front: -2147483648 to 2147483647
+    NUMBER      decimal digits, perhaps with a sign in front: -9223372036854775808 to 9223372036854775807
     NAME        any other word, of 1 to 64 characters from ! to ~
 
 Names are numbered by first appearance. Nodes come statement by statement, children first and left to right; the links of a chain stand behind its items, the last one
@@ -76,6 +76,10 @@ class Builder:
     def node(self, kind, a=0, b=0, c=0):
         self.nodes.append((kind, a, b, c))
         return len(self.nodes) - 1
+
+    def constant(self, kind, n):
+        """A signed 64-bit number, an expression's or a pattern's: its low word, then its high word."""
+        return self.node(kind, n % 2**32, (n >> 32) % 2**32)
 
     def chain(self, items):
         """The first link of the items, pairs of nodes (item, arm result). The links are made last to first, since the next one stands before."""
@@ -158,18 +162,18 @@ class Text(Builder):
 
     def number(self, word):
         digits = word.text.lstrip("+-").lstrip("0")
-        if len(digits) > 10 or not -(2**31) <= int(word.text) < 2**31:
-            raise Wrong(word.line, "%s is no signed 32-bit number" % word.text)
+        if len(digits) > 19 or not -(2**63) <= int(word.text) < 2**63:
+            raise Wrong(word.line, "%s is no signed 64-bit number" % word.text)
         return int(word.text)
 
-    def leaf(self, word, unit, nil, constant, variable):
+    def leaf(self, word, unit, nil, number, variable):
         """A word, by the kinds for its forms."""
         if word.text == "unit":
             return self.node(unit)
         if word.text == "nil":
             return self.node(nil)
         if NUMBER.match(word.text):
-            return self.node(constant, self.number(word))
+            return self.constant(number, self.number(word))
         return self.node(variable, self.name(word))
 
     def head(self, group, what):

@@ -1,7 +1,7 @@
 #!/usr/bin/env python3
 """Compares program test_flatten with the Rust on generated source records, from the record to its constraint record, and prints the counts by cause.
 
-    python3 tools/compare_flatten.py TWIN PROGRAM SEED N [KIND..] [--ops LIST] [--model] [--jobs J] [--timeout S]
+    python3 tools/compare_flatten.py TWIN PROGRAM SEED N [KIND..] [--ops LIST] [--widen] [--model] [--jobs J] [--timeout S]
 
 The arguments, the kinds and what answers where the Rust has no answer are those of tools/compare_source.py; with --model the model's constraint record is
 compared too. Each record is run with a store and an output that are just full, a store that is a node short (30), an output that is a byte short (33),
@@ -16,8 +16,8 @@ import random
 import re
 import sys
 
-from compare_source import SHOWN, any_store, arguments, batches, different, named, replay
-from source_records import LAST_ROOM, LAST_STORE, answers, model, model_answer, stores
+from compare_source import SHOWN, any_store, arguments, batches, different, named, replay, wide_line
+from source_records import LAST_ROOM, LAST_STORE, answers, model, model_answer, stores, wide_constants
 
 # The rows of docs/DIFFERENCES.md, by the number that the port gives where the Rust goes on.
 ROWS = {18: "18, arithmetic on no number", 19: "19, depth", 30: "30, made nodes", 31: "31, flat lists", 32: "32, ids"}
@@ -73,8 +73,9 @@ def compare(a, kind, start, records, counts, runs):
 
 def main():
     a = arguments()
-    totals, runs, unexplained, seen = (collections.Counter() for _ in range(4))
+    totals, runs, unexplained, seen, wide = (collections.Counter() for _ in range(5))
     for kind, start, records in batches(a):
+        wide.update(place for r in records for place in wide_constants(r).elements())
         for what, record, run in compare(a, kind, start, records, totals, runs):
             unexplained[what] += 1
             if sum(unexplained.values()) <= SHOWN:
@@ -84,6 +85,7 @@ def main():
     for what in sorted(totals):
         print("%7d  %s" % (totals[what], what))
     print("runs: " + ", ".join("%d %s" % (runs[n], named(n)) for n in sorted(runs)))
+    print(wide_line(wide))
     for what, n in unexplained.most_common():
         print("%7d  unexplained: %s" % (n, what))
     print("%s: %d records, %d runs, %d unexplained" % (" ".join(seen), sum(seen.values()), sum(runs.values()), sum(unexplained.values())))

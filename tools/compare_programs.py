@@ -1,10 +1,11 @@
 #!/usr/bin/env python3
 """Compares the programs flatten, flatten_equalities, equalities and cut_flat with the Rust: standard output and standard error byte by byte, and the exit status.
 
-    python3 tools/compare_programs.py ORACLE TWIN BIN SEED N [KIND..] [--jobs J] [--timeout S]
+    python3 tools/compare_programs.py ORACLE TWIN BIN SEED N [KIND..] [--widen] [--jobs J] [--timeout S]
 
 ORACLE and TWIN are built by oracle/build.sh, BIN is the folder of the proved programs (target/bin, after `tools/build.sh`). The records are those of N seeds from
-SEED on, for each KIND: source records of the oracle's generator (mixed, plain, rich, big, deep) and flat records (flat); all six by default.
+SEED on, for each KIND: source records of the oracle's generator (mixed, plain, rich, big, deep) and flat records (flat); all six by default. With --widen half of
+the constants of source records are other numbers, as tools/compare_source.py says.
 
 A source record goes through flatten_equalities, and through flatten without arguments, with a store that is just full, with one that is a node short (30), with an
 output that is just long enough, and with one that is a byte short (33). A flat record goes, as it is and with a word changed, through equalities, and the
@@ -170,7 +171,7 @@ class Comparison:
             records, rng = flat_records.generated(self.a.oracle, seed, count), random.Random(seed)
             self.flats(records + [changed(r, rng) for r in records])
         else:
-            self.sources(generated(self.a.oracle, seed, count, kind))
+            self.sources(generated(self.a.oracle, seed, count, kind, (), self.a.widen))
 
 
 def main():
@@ -181,6 +182,7 @@ def main():
     p.add_argument("seed", type=int)
     p.add_argument("n", type=int)
     p.add_argument("kinds", nargs="*", default=[*ORACLE_KINDS, "flat"])
+    p.add_argument("--widen", action="store_true")
     p.add_argument("--jobs", type=int, default=2)
     p.add_argument("--timeout", type=int, default=5)
     a = p.parse_args()

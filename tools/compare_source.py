@@ -1,12 +1,14 @@
 #!/usr/bin/env python3
 """Compares a program of the port with the Rust on generated source records, and prints the counts by cause.
 
-    python3 tools/compare_source.py TWIN PROGRAM SEED N [KIND..] [--ops LIST] [--model] [--jobs J] [--timeout S]
+    python3 tools/compare_source.py TWIN PROGRAM SEED N [KIND..] [--ops LIST] [--widen] [--model] [--jobs J] [--timeout S]
 
 TWIN is built by oracle/build.sh. PROGRAM reads groups as tools/source_records.py says (test_eval). The records are those of N seeds from SEED on, for
 each KIND: those of the oracle's generator (mixed, plain, rich, big, deep: all five by default) or of the model's (typed, untyped, closures, lambda,
 mix, lost, combi, obs, rec, and the last five with +); the kind `directed` is every directed module, whatever the seeds. Each record is run with a store that
-is just full, one that is a node short, and one of random length. With --ops, as 7,8, the oracle's kinds are rich in these operators.
+is just full, one that is a node short, and one of random length. With --ops, as 7,8, the oracle's kinds are rich in these operators. With --widen half of the
+constants, those of exponents, iter counts and patterns too, are other numbers: most of the same element, the others ends of 32 and 64 bits and neighbours of the
+prime's multiples (`widened`, tools/source_records.py); how many lie beyond 32 bits, with or without it, is printed at the end.
 
 Where the Rust runs out of time (S seconds, by default 5) or memory the model answers. With --model its answer is compared everywhere, and a difference
 between it and the Rust is counted too. The first records that differ are printed. The exit status says whether any does.
@@ -17,7 +19,7 @@ import random
 import subprocess
 import sys
 
-from source_records import LAST_STORE, ORACLE_KINDS, answers, directed, generated, group, model, model_answer, module_record, stores
+from source_records import LAST_STORE, ORACLE_KINDS, answers, directed, generated, group, model, model_answer, module_record, stores, wide_constants
 
 BATCH = 1000
 SHOWN = 10
@@ -32,6 +34,7 @@ def arguments():
     p.add_argument("n", type=int)
     p.add_argument("kinds", nargs="*", default=ORACLE_KINDS)
     p.add_argument("--ops", type=lambda text: ["--ops", text], default=[])
+    p.add_argument("--widen", action="store_true")
     p.add_argument("--model", action="store_true")
     p.add_argument("--jobs", type=int, default=2)
     p.add_argument("--timeout", type=int, default=5)
@@ -45,7 +48,11 @@ def batches(a):
             yield kind, 0, [r for r in (module_record(m) for _, m in directed.CASES) if r is not None]
             continue
         for start in range(a.seed, a.seed + a.n, BATCH):
-            yield kind, start, generated(a.twin, start, min(BATCH, a.seed + a.n - start), kind, a.ops)
+            yield kind, start, generated(a.twin, start, min(BATCH, a.seed + a.n - start), kind, a.ops, a.widen)
+
+
+def wide_line(counts):
+    return "constants beyond 32 bits: " + ", ".join("%d %s" % (counts[place], place) for place in sorted(counts))
 
 
 def lengths(answer, k, rng):
@@ -98,9 +105,10 @@ def differences(a, kind, start, records, counts):
 
 def main():
     a = arguments()
-    causes, seen = collections.Counter(), 0
+    causes, wide, seen = collections.Counter(), collections.Counter(), 0
     for kind, start, records in batches(a):
         counts = collections.Counter()
+        wide.update(place for r in records for place in wide_constants(r).elements())
         for cause, record, run in differences(a, kind, start, records, counts):
             causes[cause] += 1
             if sum(causes.values()) <= SHOWN:
@@ -109,6 +117,7 @@ def main():
         print("%s from %d: %d records, runs %s" % (kind, start, len(records), ", ".join("%d %s" % (counts[k], k) for k in sorted(counts))), flush=True)
     for cause, n in causes.most_common():
         print("%d times: %s" % (n, cause))
+    print(wide_line(wide))
     print("%d records, %d differences" % (seen, sum(causes.values())))
     return 1 if causes else 0
 

@@ -9,7 +9,7 @@ output that are just full, with a store that is a node short (30), and with an o
 """
 import sys
 
-from evaluation_cases import REFUSED, X, Y, Writer, accepted, damaged, hand_made, id_limits, list_limits, modules, negated, numbered, powers, write_counts
+from evaluation_cases import REFUSED, X, Y, Writer, accepted, damaged, hand_made, id_limits, list_limits, modules, negated, numbered, powers, wide, write_counts
 from plain_agreement import judged, modules as plain_modules, record_of
 from source_records import LAST_STORE, MODEL_KINDS, directed, generated, model, stores
 from assemble import pack
@@ -40,7 +40,7 @@ def no_modules():
     yield pack([], [], [], [], [])[:16] + (2049).to_bytes(4, "little")
     yield from (pack([name], [], [], [], []) for name in (b"", b"X" * 300, b"0"))
     yield pack([b"x", b"y", b"x"], [], [], [], [])
-    yield from (pack([], [], [], [], [node]) for node in ((15, 0, 0, 0), (7, 0, 1, 0), (5, 0, 0, 0), (7, 1, 0, 0)))
+    yield from (pack([], [], [], [], [node]) for node in ((15, 0, 0, 0), (7, 0, 0, 1), (5, 0, 0, 0), (7, 1, 0, 0)))
 
 
 def last_ids():
@@ -63,7 +63,7 @@ def write(oracle, twin):
     w.put_all([*no_modules()])
     for number, made in REFUSED.items():
         w.put_all(modules(made()), number)
-    w.put_all(modules((*accepted(), *powers())), 0)
+    w.put_all(modules((*accepted(), *wide(), *powers())), 0)
     w.put_numbered(numbered((*list_limits(), *id_limits(), *last_ids(), *((directed.NUMBERS[name], m) for name, m in directed.CASES[::4]))))
     for chosen in GENERATED:
         w.put_small(*chosen)

@@ -1,7 +1,7 @@
 #!/usr/bin/env python3
 """Checks on random plain modules that the equalities of the constraint record hold exactly when the module's equations do.
 
-    python3 tools/plain_agreement.py TWIN PROGRAM SEED N [--ops LIST] [--jobs J]
+    python3 tools/plain_agreement.py TWIN PROGRAM SEED N [--ops LIST] [--widen] [--jobs J]
 
 TWIN is built by oracle/build.sh, PROGRAM is test_flatten. Each seed from SEED on gives a plain module (document 01, "Plain modules") and elements for its
 inputs under which no divisor is zero; half of the equations are made to hold. The module is worked out from the top as document 01 says, by the evaluator below. Its
@@ -9,7 +9,8 @@ constraint record is the Rust's, and test_flatten shows that the port's is the s
 to determine every variable in them, and to hold exactly when the equations do. Printed are the counts of modules whose equations
 hold, of those whose do not, and of refused ones (an exponent that is no constant); and what fails. The exit status says whether any does. With --ops, as
 7,8, the modules are rich in these operators. With `|` among them each has one equation more, x | 0 = 0 with a divisor that is 0 under the inputs: where x is
-0 it holds, and where not the inputs are left aside, its equality has no value, and no solution may be found. These are counted apart.
+0 it holds, and where not the inputs are left aside, its equality has no value, and no solution may be found. These are counted apart. With --widen half of
+the constants stand in the record as another number of the same element, most of them beyond 32 bits.
 """
 import argparse
 import collections
@@ -18,13 +19,13 @@ import struct
 import sys
 
 from compare_source import BATCH, replay
-from source_records import answers, model, module_record
+from source_records import answers, model, module_record, widened
 from trees import ADD, C, D, DIV, DIVZ, EQ, EXP, I, IDIV, L, MOD, MUL, SUB, V
 
 P = 2147483647
 NEGATE, COPY = 9, 10
 INPUTS, NAMES = ("x", "y", "z", "w"), ("a", "b", "c", "d", "x", "y")
-CONSTANTS = (0, 1, -1, 2, 3, -2, 7, 512, 513, 1073741823, -1073741824, 2147483647, -2147483648)
+CONSTANTS = (0, 1, -1, 2, 3, -2, 7, 512, 513, 1073741823, -1073741824, 2147483647, -2147483648, 2147483648, -6442450941, 2**63 - 1, -(2**63))
 EXPONENTS = (0, 1, 2, 3, 4, 5, 7, 8, 16, 64, 65, 1000, -1, -2, -3, -7, -64, -65)
 INTRINSICS = 9  # ids that numbering draws for fresh, iter and fold
 
@@ -249,12 +250,13 @@ def main():
     p.add_argument("seed", type=int)
     p.add_argument("n", type=int)
     p.add_argument("--ops", type=lambda text: [int(n) for n in text.split(",")], default=[])
+    p.add_argument("--widen", action="store_true")
     p.add_argument("--jobs", type=int, default=2)
     a = p.parse_args()
     counts, failures, equalities = collections.Counter(), 0, 0
     for start in range(a.seed, a.seed + a.n, BATCH):
         made = modules(start, min(BATCH, a.seed + a.n - start), a.ops)
-        records = [record_of(m) for m in made]
+        records = [widened(record_of(m), m.rng, kept=True) if a.widen else record_of(m) for m in made]
         known = answers(a.twin, records, 5, a.jobs, "cons")
         for k, (m, answer) in enumerate(zip(made, known)):
             what, fails = judged(m, answer)

@@ -28,8 +28,8 @@ ADD, EQUAL = 3, 5
 LIMITS = (512, 64, 512, 512, 2048)
 # The words a, b, c of each kind. 0 unused, e expression, p pattern, v name, o operator, n any number, and a chain of links:
 # F of a function, M of a match, S of a sequence. A link's words are judged at its owner.
-EXPRESSIONS = {0: "000", 1: "000", 2: "ee0", 3: "ee0", 4: "eeo", 5: "e00", 6: "ee0", 7: "n00", 8: "v00", 9: "Fe0", 11: "pee", 12: "eM0", 13: "S00"}
-PATTERNS = {16: "000", 17: "000", 18: "pv0", 19: "pp0", 20: "pp0", 21: "v00", 22: "n00"}
+EXPRESSIONS = {0: "000", 1: "000", 2: "ee0", 3: "ee0", 4: "eeo", 5: "e00", 6: "ee0", 7: "nn0", 8: "v00", 9: "Fe0", 11: "pee", 12: "eM0", 13: "S00"}
+PATTERNS = {16: "000", 17: "000", 18: "pv0", 19: "pp0", 20: "pp0", 21: "v00", 22: "nn0"}
 # item and arm result of a link, by its owner
 LINKS = {"F": "p0", "M": "pe", "S": "e0"}
 
@@ -353,7 +353,7 @@ def grown(seed, size):
     def pattern(depth):
         kind = rng.choice([P_UNIT, P_NIL, P_CONSTANT, P_VARIABLE, P_VARIABLE] + ([AS, P_PRODUCT, P_CONS] if depth else []))
         if kind == P_CONSTANT:
-            return r.node(kind, rng.getrandbits(32))
+            return r.node(kind, rng.getrandbits(32), rng.getrandbits(32))
         if kind == P_VARIABLE:
             return r.bind(rng.choice(names))
         if kind == AS:
@@ -367,7 +367,7 @@ def grown(seed, size):
         inner = [PRODUCT, CONS, INFIX, NEGATE, APPLY, FUNCTION, LET, MATCH, SEQUENCE] * 2
         kind = rng.choice([UNIT, NIL, CONSTANT, VARIABLE, VARIABLE] + (inner if depth else []))
         if kind == CONSTANT:
-            return r.node(kind, rng.getrandbits(32))
+            return r.node(kind, rng.getrandbits(32), rng.getrandbits(32))
         if kind == VARIABLE:
             return r.use(rng.choice(names))
         if kind in (PRODUCT, CONS, APPLY):

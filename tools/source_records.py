@@ -21,6 +21,7 @@ The input of test_flatten is the same but for these: the expected record is the 
 length of the lent store, that of the lent output (at most 480,000), and the answer. The output is filled beforehand too; behind the record, and wholly at
 a refusal, it has to stay so.
 """
+import collections
 import os
 import random
 import re
@@ -70,8 +71,59 @@ def run(command, text):
     return subprocess.run(command, input=text, capture_output=True, text=True, check=True).stdout
 
 
-def generated(oracle, seed, count, kind, ops=()):
-    """The records of the seeds from `seed` on: by the oracle's generator, rich in the operators `ops`, or by the model's (too long ones left out)."""
+P = model.P
+# the ends of 32 and of 64 bits, and multiples of the prime, with their neighbours
+EDGES = [
+    n
+    for edge in (2**31, -(2**31), 2**32, -(2**32), 2**63 - 1, -(2**63), *(k * P for k in (1, -1, 2, -2, 3, 2**32, -(2**32), 2**32 + 2, -(2**32) - 2)))
+    for n in (edge - 1, edge, edge + 1)
+    if -(2**63) <= n < 2**63
+]
+
+
+def unreduced(n, rng):
+    """A signed 64-bit number of the same element: near, at either end, or anywhere."""
+    least, most = -((n + 2**63) // P), (2**63 - 1 - n) // P
+    return n + P * rng.choice((*(k for k in (1, -1, 2, -2, 3) if least <= k <= most), least, most, rng.randint(least, most)))
+
+
+def nodes_of(record):
+    """The nodes of a legal source record, and where they start."""
+    names, publics, definitions, expressions, nodes = struct.unpack_from("<5I", record)
+    at = 20 + 8 * names + 4 * publics + 8 * definitions + 4 * expressions
+    return at, [struct.unpack_from("<4I", record, at + 16 * k) for k in range(nodes)]
+
+
+def widened(record, rng, kept=False):
+    """The record with other numbers for half of its constants. Those of expressions have mostly the same element, so that a module stays accepted;
+    where elements are to be kept, all have."""
+    at, nodes = nodes_of(record)
+    out = bytearray(record)
+    for k, (kind, low, high, _) in enumerate(nodes):
+        if kind not in (7, 22) or rng.random() < 0.5:
+            continue
+        edge = not kept and rng.random() < (0.1 if kind == 7 else 0.4)
+        n = rng.choice(EDGES) if edge else unreduced(model.s64(low, high), rng)
+        struct.pack_into("<q", out, at + 16 * k + 4, n)
+    return bytes(out)
+
+
+def wide_constants(record):
+    """How many constants beyond 32 bits a legal record has, by their places."""
+    _, nodes = nodes_of(record)
+    names = model.parse_source(record).names
+    places = {b: "as an exponent" for kind, _, b, c in nodes if kind == 4 and c == trees.EXP}
+    places.update((b, "as an iter count") for kind, a, b, _ in nodes if kind == 6 and nodes[a][0] == 8 and names[nodes[a][1]] == b"iter")
+    wide = [k for k, (kind, a, b, _) in enumerate(nodes) if kind in (7, 22) and not -(2**31) <= model.s64(a, b) < 2**31]
+    return collections.Counter("in a pattern" if nodes[k][0] == 22 else places.get(k, "elsewhere in an expression") for k in wide)
+
+
+def generated(oracle, seed, count, kind, ops=(), widen=False):
+    """The records of the seeds from `seed` on: by the oracle's generator, rich in the operators `ops`, or by the model's (too long ones left out);
+    to widen them is to put other numbers for half of their constants."""
+    if widen:
+        rng = random.Random("wide %s %d" % (kind, seed))
+        return [widened(r, rng) for r in generated(oracle, seed, count, kind, ops)]
     if kind in ORACLE_KINDS:
         return [bytes.fromhex(line) for line in run([oracle, "gen-src", str(seed), str(count), kind, *ops], "").split()]
     records = (module_record(closure_modules.module(kind, random.Random(s))) for s in range(seed, seed + count))

@@ -3,6 +3,8 @@ import random
 from trees import *
 
 INT, UNIT_T = 'int', 'unit'
+# beyond 32 bits: the nearest, numbers whose low word or element is small, the ends of 64 bits
+WIDE = [2 ** 31, -2 ** 31 - 1, 2 ** 32, 2 ** 32 - 1, -2 ** 32, 3 * (2 ** 31 - 1), -3 * (2 ** 31 - 1) + 1, 2 ** 63 - 1, -2 ** 63]
 
 
 class G:
@@ -24,7 +26,7 @@ class G:
         return ('fun', self.typ(d - 1), self.typ(d - 1))
 
     def const(self):
-        return self.r.choice([0, 1, 2, 3, -1, -2, 5, 7, 0, 1, 127, 2147483647, -2147483648, 1073741824, self.r.randint(-50, 50)])
+        return self.r.choice([0, 1, 2, 3, -1, -2, 5, 7, 0, 1, 127, 2147483647, -2147483648, 1073741824, self.r.choice(WIDE), self.r.randint(-50, 50)])
 
     def pattern(self, t, env, d=2):
         """pattern for a value of type t that surely fits; extends env"""
@@ -240,7 +242,8 @@ class Plain:
         self.names = ['a%d' % i for i in range(names)]
 
     def const(self):
-        return self.r.choice([0, 1, -1, 2, 3, 0, 1, 5, -7, 2147483647, 2147483646, -2147483648, 1073741823, 1073741824, -1073741824, self.r.randint(-2 ** 31, 2 ** 31 - 1), self.r.randint(-9, 9)])
+        return self.r.choice([0, 1, -1, 2, 3, 0, 1, 5, -7, 2147483647, 2147483646, -2147483648, 1073741823, 1073741824, -1073741824, self.r.randint(-2 ** 31, 2 ** 31 - 1),
+                              self.r.choice(WIDE), self.r.randint(-2 ** 63, 2 ** 63 - 1), self.r.randint(-9, 9)])
 
     def cexpr(self, d):
         """constant expression"""

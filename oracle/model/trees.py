@@ -24,7 +24,7 @@ class Trees(Builder):
             a = p(e[2]); b = p(e[3])
             return self.node(4, a, b, e[1])
         if k == 'neg': return self.node(5, p(e[1]))
-        if k == 'const': return self.node(7, e[1])
+        if k == 'const': return self.constant(7, e[1])
         if k == 'var': return self.node(8, self.name(e[1]))
         if k == 'fun':
             it = [(p(x), 0) for x in e[1]]
@@ -49,7 +49,7 @@ class Trees(Builder):
             a = p(e[1]); b = p(e[2])
             return self.node({'pprod': 19, 'pcons': 20}[k], a, b)
         if k == 'pvar': return self.node(21, self.name(e[1]))
-        if k == 'pconst': return self.node(22, e[1])
+        if k == 'pconst': return self.constant(22, e[1])
         raise AssertionError(k)
 
 

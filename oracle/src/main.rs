@@ -36,7 +36,7 @@ const USAGE: &str = "usage: oracle COMMAND
   src [FILE]          source record (binary) -> result line
   flat [FILE]         lent flat record (binary) -> result line
   equalities [FILE]   flat record -> the text of program `equalities`
-  batch src|flat|flat-any [--wide] [--stop] [--timeout S] [--jobs N] [FILE]
+  batch src|flat|flat-any [--stop] [--timeout S] [--jobs N] [FILE]
                       one hex record per line -> one result line each; flat-any
                       takes flat records made by evaluation (no rules of lent ones);
                       --stop: the twin ends a record at its first refusal
@@ -126,14 +126,14 @@ fn explain(s: &Source) -> String {
     run::silence_panics();
     let mut out = String::new();
     let b = s.to_bytes();
-    if let Err(n) = Source::parse(&b, false) {
+    if let Err(n) = Source::parse(&b) {
         return format!("not a valid source record: {n}\n");
     }
     out += "-- source\n";
     out += &text::disassemble(s);
     out += "-- numbered\n";
-    out += &driver::numbered_text(s, false);
-    let line = run::src_line(&b, false, &mut |_| ());
+    out += &driver::numbered_text(s);
+    let line = run::src_line(&b, &mut |_| ());
     for w in line.split(' ') {
         if let Some(h) = w.strip_prefix("flat=") {
             if let Some(b) = record::from_hex(h) {
@@ -164,7 +164,7 @@ fn each_record(args: &[String], out: &mut dyn Write, f: impl Fn(&[u8]) -> String
 }
 
 fn numbers(b: &[u8]) -> String {
-    match Source::parse(b, false) {
+    match Source::parse(b) {
         Ok(s) => driver::numbers_line(&s),
         Err(n) => format!("refused {n}"),
     }
@@ -172,8 +172,8 @@ fn numbers(b: &[u8]) -> String {
 
 /* Numbering and evaluation alone; of records that the Rust accepts. */
 fn evaluate(b: &[u8]) -> String {
-    let s = Source::parse(b, false).unwrap();
-    record::to_hex(&driver::evaluate_source(&s, false).flat().unwrap().to_bytes())
+    let s = Source::parse(b).unwrap();
+    record::to_hex(&driver::evaluate_source(&s).flat().unwrap().to_bytes())
 }
 
 /* The operators of `--ops`, by their numbers. */
@@ -192,7 +192,7 @@ fn generate(args: &[String], out: &mut dyn Write, make: impl Fn(u64) -> Vec<u8>)
 
 fn made_source(seed: u64, kind: &str, asked: &[u32]) -> Vec<u8> {
     let b = gen::source(seed, kind, asked).to_bytes();
-    Source::parse(&b, false).unwrap_or_else(|e| panic!("generated record {seed} is refused {e}"));
+    Source::parse(&b).unwrap_or_else(|e| panic!("generated record {seed} is refused {e}"));
     b
 }
 
@@ -215,7 +215,7 @@ fn batch(mut args: Vec<String>) {
 fn repeat(args: &[String]) -> u32 {
     let record = &hex_lines(&args[..1])[0];
     let times: u32 = args[1].parse().unwrap();
-    (0..times).fold(0, |_, _| driver::next_id(&Source::parse(record, false).unwrap()))
+    (0..times).fold(0, |_, _| driver::next_id(&Source::parse(record).unwrap()))
 }
 
 /* Result lines of batch src, or flat records: compares the Rust's classify_defs
@@ -250,7 +250,7 @@ fn source_text(args: &[String]) -> Source {
 }
 
 fn command(cmd: &str, mut args: Vec<String>, out: &mut dyn Write) {
-    let source = |b: &[u8]| Source::parse(b, false).unwrap();
+    let source = |b: &[u8]| Source::parse(b).unwrap();
     match cmd {
         "src" | "flat" => writeln!(out, "{}", run::line(cmd, &bytes(&args))).unwrap(),
         "equalities" => write!(out, "{}", equalities(&bytes(&args))).unwrap(),

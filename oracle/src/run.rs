@@ -87,15 +87,15 @@ fn over(f: &Flat) -> String {
 }
 
 /* One source record through everything; the result line. */
-pub fn src_line(bytes: &[u8], wide: bool, stage: &mut dyn FnMut(&str)) -> String {
+pub fn src_line(bytes: &[u8], stage: &mut dyn FnMut(&str)) -> String {
     stage("read");
-    let s = match Source::parse(bytes, wide) {
+    let s = match Source::parse(bytes) {
         Ok(s) => s,
         Err(n) => return format!("refused {n}"),
     };
     take_discarded();
     stage("evaluate");
-    let ev = caught(|| driver::evaluate_source(&s, wide));
+    let ev = caught(|| driver::evaluate_source(&s));
     let tw = twin_counts();
     let ev = match ev {
         Ok(ev) => ev,
@@ -166,18 +166,20 @@ pub fn line(mode: &str, bytes: &[u8]) -> String {
     if mode == "flat" {
         flat_line(bytes, false, &mut |_| ())
     } else {
-        src_line(bytes, false, &mut |_| ())
+        src_line(bytes, &mut |_| ())
     }
 }
 
 /* Child side of the batch runner: hex lines in, "S stage" and "R result" out. */
 pub fn worker(mode: &str, flags: &[String]) {
     silence_panics();
-    let wide = flags.iter().any(|f| f == "--wide");
+    let stop = flags.iter().any(|f| f == "--stop");
     #[cfg(feature = "twin")]
-    if flags.iter().any(|f| f == "--stop") {
+    if stop {
         crate::twin::stop_at_first();
     }
+    #[cfg(not(feature = "twin"))]
+    let _ = stop;
     let stdin = std::io::stdin();
     let mut out = std::io::stdout();
     for line in stdin.lock().lines() {
@@ -191,7 +193,7 @@ pub fn worker(mode: &str, flags: &[String]) {
             None => "bad-hex".to_string(),
             Some(b) if mode == "flat" => flat_line(&b, false, &mut stage),
             Some(b) if mode == "flat-any" => flat_line(&b, true, &mut stage),
-            Some(b) => src_line(&b, wide, &mut stage),
+            Some(b) => src_line(&b, &mut stage),
         };
         writeln!(out, "R {r}").unwrap();
         out.flush().unwrap();

@@ -778,6 +778,24 @@ nested-match = cut (record { next = 13; publics = []; provers = []; equalities =
 abbrev unit-argument : Outcome
 unit-argument = cut (record { next = 15; publics = []; provers = []; equalities = v 11 becomes Side.copy (v 12) ∷ []; kept = [] })
 
+-- (def 2147483647 1)
+-- (def 2147483648 1)
+-- (def -2147483648 1)
+-- (def -9223372036854775808 1)
+abbrev wide-patterns : Outcome
+wide-patterns = cut (record {
+  next = 9;
+  publics = [];
+  provers = [];
+  equalities =
+      k (pos 2147483647) becomes Side.copy (k (pos 1)) ∷ k (negsuc 2147483647) becomes Side.copy (k (pos 1)) ∷ k (negsuc 1) becomes Side.copy (k (pos 1)) ∷ [];
+  kept = [];
+})
+
+-- (= (match 9223372036854775807 (9223372036854775807 5) (1 6)) 7)
+abbrev wide-arms : Outcome
+wide-arms = cut (record { next = 9; publics = []; provers = []; equalities = k (pos 6) becomes Side.copy (k (pos 7)) ∷ []; kept = [] })
+
 -- in the order of evaluation's cases; those that evaluation refuses are refused so
 abbrev pub answers : List Outcome
 answers =
@@ -788,7 +806,8 @@ answers =
     ∷ fresh-twice ∷ iter-0-and-1 ∷ iter-canonical ∷ fold-closures ∷ fold-pairs ∷ currying ∷ shadowing ∷ let-sees-outer ∷ as-patterns ∷ match-list ∷ match-arms
     ∷ match-function ∷ sequences ∷ equality-of-shapes ∷ constants ∷ operators ∷ more-simplifications ∷ higher-order ∷ closure-captures-let ∷ closure-in-pair
     ∷ parameter-pair ∷ parameter-expanded ∷ constant-parameter ∷ split-list-input ∷ refused 16 ∷ public-twice ∷ negative_power ∷ iter-as-value
-    ∷ let-value-doubled ∷ nested-match ∷ unit-argument ∷ refused 10 ∷ refused 10 ∷ refused 10 ∷ refused 11 ∷ refused 11 ∷ refused 12 ∷ refused 12 ∷ refused 12
+    ∷ let-value-doubled ∷ nested-match ∷ unit-argument ∷ wide-patterns ∷ wide-arms
+    ∷ refused 10 ∷ refused 10 ∷ refused 10 ∷ refused 11 ∷ refused 11 ∷ refused 12 ∷ refused 12 ∷ refused 12
     ∷ refused 12 ∷ refused 13 ∷ refused 13 ∷ refused 14 ∷ refused 14 ∷ refused 14 ∷ refused 15 ∷ refused 15 ∷ refused 16 ∷ refused 16 ∷ refused 16 ∷ refused 16
     ∷ refused 16 ∷ refused 16 ∷ refused 16 ∷ refused 17 ∷ refused 17 ∷ refused 17 ∷ refused 17 ∷ refused 17 ∷ refused 17 ∷ refused 17 ∷ refused 18 ∷ refused 18
     ∷ refused 18 ∷ refused 18 ∷ refused 18 ∷ refused 18 ∷ refused 18 ∷ refused 18 ∷ refused 19 ∷ []

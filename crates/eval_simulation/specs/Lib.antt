@@ -1,7 +1,6 @@
 pub mod Words
 pub mod Holds
 pub mod Represents
-pub mod Integer
 pub mod Bindings
 pub mod Captures
 pub mod Expanded

@@ -1,5 +1,6 @@
 // What writes the nodes of the flat lists, and the lists.
 ghost use Rattle.std.specs.Prelude.{◌≡◌, ◌-◌, ◌≤◌};
+ghost use Rattle.eval_write.specs.Written.{leaf_word};
 ghost use Rattle.flat.specs.Layout.{LAST-DEFINITIONS-AT, LAST-EQUATIONS-AT, LAST-NODES-AT};
 ghost use Rattle.records.specs.FlatRecord.{LISTED, NODES};
 ghost use Rattle.eval_memory.specs.Fall.{upto};
@@ -10,10 +11,24 @@ use eval_memory::columns::Row;
 use eval_memory::nodes::part;
 use eval_memory::numbers::FLAT_NODES;
 use flat::entries::{DEFINITION_WORDS, EQUATION_WORDS, put_definition, put_equation, put_node};
+use flat::narrow::narrow;
 use records::NODE_WORDS;
 use records::flat_record::NODES;
 use records::kinds::{INFIX, Kind, NEGATE};
 use records::nodes::NodeEntry;
+use words::integer;
+
+// The word of a leaf: a variable's id, or a constant's number as a flat list has it.
+#[tactic(auto, unfolding(crate::specs::Written::leaf_word))]
+fn leaf_word(memory: &Memory, n: u32) -> u32
+    ensures { result ≡ leaf_word memory.now.fixed memory.now.store.now n }
+{
+    let a = memory.node_word(n, 1);
+    if memory.kind(n) != Kind::Constant {
+        return a;
+    }
+    narrow(integer(a, memory.node_word(n, 2)))
+}
 
 // The nodes of a flat record as they are written: from word `at` on, so many of them.
 #[derive(Drop)]
@@ -84,7 +99,7 @@ impl Writer<'_, '_> {
                 self.below(n, b);
                 self.add(INFIX, left, self.last(), op);
             }
-            _ => self.add(kind.into(), a, 0, 0),
+            _ => self.add(kind.into(), leaf_word(self.memory, n), 0, 0),
         }
     }
 

@@ -16,7 +16,7 @@ a gives b = record { worked = a; answer = b }
 
 infix 70 ◌gives◌
 -- `negsuc n` is -(n + 1). The nine cases that the rules name, 0 | 0 beside 5 | 0; more of \ and %, rounded to the nearest whole number;
--- | where the prime stands for 0; then the operations without value beside them
+-- | where the prime stands for 0; then the operations without value beside them, then the ends of 64 bits
 abbrev pub cases : List Case
 cases =
     Some (elem P (pos 1073741824)) gives Some (negsuc 1073741822)
@@ -42,6 +42,8 @@ cases =
     ∷ infix_of P IntDivide (pos 7) (pos 0) gives None
     ∷ infix_of P Modulo (pos 7) (pos 0) gives None
     ∷ infix_of P Exponentiate (pos 0) (negsuc 0) gives None
+    ∷ Some (elem P (pos 9223372036854775807)) gives Some (pos 1)
+    ∷ Some (elem P (negsuc 9223372036854775807)) gives Some (negsuc 1)
     ∷ []
 
 abbrev pub worked-out : List Case → List Answer

@@ -6,3 +6,4 @@ pub mod Readable
 pub mod Marks
 pub mod Meaning
 pub mod Writer
+pub mod Narrow

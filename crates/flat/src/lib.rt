@@ -4,6 +4,7 @@
 pub mod entries;
 mod lists;
 mod measured;
+pub mod narrow;
 mod node_entry;
 mod ordering;
 mod uses;

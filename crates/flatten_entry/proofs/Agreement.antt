@@ -9,24 +9,19 @@ use lib.Seq.{take_at}
 use lib.Dec.{leb}
 use Rattle.source.specs.Trees.{Module}
 use Rattle.source.specs.Record.{Read, source_of}
-use Rattle.source.proofs.Accepted.{accepted-module}
-use Rattle.flat.specs.Trees.{Flat, FlatModule}
 use Rattle.flat.specs.Record.{pick}
 use Rattle.constraint.specs.Trees.{ConstraintModule}
 use Rattle.constraint.specs.Record.{constraint_bytes}
-use Rattle.constraint.specs.Reading.{constraint_of, SignedTree, Signed}
+use Rattle.constraint.specs.Reading.{constraint_of, Signed}
 use Rattle.constraint.proofs.ReadBack.{read_back}
 use Rattle.pass_trees.specs.Passes.{Outcome, cut, refused}
-use Rattle.pass_trees.specs.Statements.{SignedModule}
-use Rattle.pass_trees.proofs.Lists.{all_map}
 use Rattle.pass_trees.proofs.Agreement.{accepted}
 use Rattle.pass_trees.proofs.SignedConstants.{passes-keep-signed}
 use Rattle.std.specs.Prelude.{Result, Ok, Err}
 use Rattle.pass_entry.specs.Cut.{answer_for, output_for}
 use Rattle.numbering.specs.Numbering.{numbered}
 use Rattle.eval_trees.specs.Evaluation.{Evaluated, flat, refusal, evaluated}
-use Rattle.eval_trees.proofs.Narrow.{NarrowTree}
-use Rattle.eval_trees.proofs.NarrowModule.{NarrowModule, made-narrow, read-narrow}
+use Rattle.eval_trees.proofs.ShownModule.{made-signed}
 use Rattle.eval_entry.specs.Source.{capacity_of}
 use Rattle.agreement.specs.Flattened.{passed, flattened_of}
 use Rattle.agreement.proofs.Agreement.{agreement}
@@ -43,32 +38,17 @@ refused-written k n e = let o : ◌≡◌ {A = ℕ} 0 1 = cc in omega arith
 
 -- ---- constants fit 32 bits, so that the bytes can be read back
 
-tree-signed : (t : Flat) → NarrowTree t → SignedTree t
-tree-signed (Flat.infixed o a b) h = (tree-signed a h.1, tree-signed b h.2)
-tree-signed (Flat.negate a) h = tree-signed a h
-tree-signed (Flat.constant c) h = h
-tree-signed (Flat.variable v) h = tt
-
-evaluated-signed : (m : Module) → NarrowModule m → (capacity : ℕ) (f : FlatModule) → evaluated capacity (numbered m) ≡ flat f → SignedModule f
-evaluated-signed m narrow capacity f e =
-    let w = made-narrow m narrow capacity f e in (
-      all_map (λ d h. tree-signed d.right h) f.definitions w.definitions,
-      all_map (λ q h. (tree-signed q.left h.0, tree-signed q.right h.1)) f.equations w.equations,
-    )
-
 pub flattened-signed : (b : List ℕ) (len : ℕ) (c : ConstraintModule) → flattened b len ≡ cut c → Signed c
 unfolding flattened flattened_read flattened_of passed
-flattened-signed b len c e = go (source_of b) refl e
+flattened-signed b len c e = go (source_of b) e
   where
-    at : (m : Module) (v : Evaluated) → source_of b ≡ Read.module-of m → evaluated (capacity_of len) (numbered m) ≡ v → passed v ≡ cut c → Signed c
-    at m (flat f) r q k =
-        let narrow : NarrowModule m = subst NarrowModule (sym (accepted-module b m r)) (read-narrow b) in
-        subst Signed (accepted f c k).1 (passes-keep-signed f (evaluated-signed m narrow (capacity_of len) f q))
-    at m (refusal n) r q k = absurd (refused-cut n c k)
+    at : (m : Module) (v : Evaluated) → evaluated (capacity_of len) (numbered m) ≡ v → passed v ≡ cut c → Signed c
+    at m (flat f) q k = subst Signed (accepted f c k).1 (passes-keep-signed f (made-signed m (capacity_of len) f q))
+    at m (refusal n) q k = absurd (refused-cut n c k)
 
-    go : (r : Read) → source_of b ≡ r → flattened_read (capacity_of len) r ≡ cut c → Signed c
-    go (Read.module-of m) r q = at m (evaluated (capacity_of len) (numbered m)) r refl q
-    go (Read.refused n) r q = absurd (refused-cut _ c q)
+    go : (r : Read) → flattened_read (capacity_of len) r ≡ cut c → Signed c
+    go (Read.module-of m) q = at m (evaluated (capacity_of len) (numbered m)) refl q
+    go (Read.refused n) q = absurd (refused-cut _ c q)
 
 -- ---- what is written is the record of the outcome's equalities
 

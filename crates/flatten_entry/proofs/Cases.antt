@@ -3,7 +3,7 @@ use mathlib.Core.Path.{◌≡◌, refl}
 use mathlib.Core.List.{List, [], ◌∷◌, ◌++◌}
 use Prim.Native.Nat.{ℕ}
 use lib.IntN.{pos, negsuc}
-use Rattle.words.specs.Words.{word_at, bytes_of}
+use Rattle.words.specs.Words.{integer, word_at, bytes_of}
 use Rattle.std.specs.Prelude.{Some, None}
 use Rattle.field.specs.declared.InfixOp.TheVariants.{Divide, DivideZ, Multiply, Add, Exponentiate, IntDivide, Modulo}
 use Rattle.field.specs.Prime.{P}
@@ -141,5 +141,5 @@ unfolding answer_of flattened flattened_read flattened_of passed capacity_of upd
     offset_of length_of end_of printed name_fits names_fit same_bytes same_name name_new names_differ name_of operator_of infix_for entry_for entry_of
     is_expression is_pattern expression_fits pattern_fits item_fits result_fits link_fits chain_fits child_fits children_fit nodes_fit definitions_fit
     expressions_fit publics_fit same result_uses link_uses chain_uses child_uses children_use by_nodes by_definitions by_expressions expression_of
-    pattern_of link_of grown tree definition_at expression_at module_of shaped used_once Record.unless source_of
+    pattern_of link_of grown tree definition_at expression_at module_of shaped used_once Record.unless source_of integer
 cases-hold = refl

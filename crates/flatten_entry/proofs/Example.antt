@@ -15,7 +15,7 @@ use Rattle.field.specs.Element.{elem}
 use Rattle.field.proofs.Primality.{P-prime}
 use Rattle.field.proofs.Values.{not-zero-value, add-answer, multiply-answer, has-value-where}
 use Rattle.source.specs.Trees.{variable_p, binary, constant, variable, Module}
-use Rattle.words.specs.Words.{word_at, bytes_of}
+use Rattle.words.specs.Words.{integer, word_at, bytes_of}
 use Rattle.marks.specs.Indices.{every, total, rows, pick, same}
 use Rattle.source.specs.Layout.{listed, names}
 use Rattle.source.specs.Layout
@@ -61,7 +61,7 @@ unfolding word_at bytes_of every total rows pick Layout.counted listed offset_of
     names_differ name_of operator_of infix_for entry_for entry_of is_expression is_pattern expression_fits pattern_fits item_fits result_fits link_fits
     chain_fits child_fits children_fit nodes_fit definitions_fit expressions_fit publics_fit same result_uses link_uses chain_uses child_uses children_use
     by_nodes by_definitions by_expressions expression_of pattern_of link_of grown tree definition_at expression_at module_of shaped used_once Record.unless
-    source_of
+    source_of integer
 is_read = refl
 
 is-plain : is_plain module-text ≡ true

@@ -21,6 +21,7 @@ use Rattle.field.proofs.Units.{divide-z-one, zero-divide-z, int-divide-one, modu
 use Rattle.source.specs.Trees.{Pat, unit_p, nil_p, as_p, product_p, cons_p, variable_p, constant_p, Expr, unit, nil, sequence, product}
 use Rattle.source.specs.Trees.{cons, binary, negate, application, constant, variable, function, intrinsic, letting, matching}
 use Rattle.flat.specs.Trees.{Flat}
+use Rattle.flat.proofs.NarrowLaws.{narrow-element}
 use Rattle.flat.specs.Meaning.{update, Assignment, on_values, negated, value}
 use Rattle.eval_trees.specs.Forms.{on_constant, flat_of, joined, opposed}
 use Rattle.eval_trees.specs.Simplify.{is_pos, is_constant, infix_op}
@@ -151,7 +152,7 @@ opposed-value σ (some a) u f p e = sym (ap (value σ) (some-path _ f e)) ∙ ap
 
 pub flat-value : (σ : Assignment) (e : Expr) (f : Flat) → flat_of e ≡ some f → value σ f ≡ value_of (table σ) e
 unfolding flat_of value value_of
-flat-value σ (constant n) f h = sym (ap (value σ) (some-path _ f h))
+flat-value σ (constant n) f h = sym (ap (value σ) (some-path _ f h)) ∙ ap Some (narrow-element n)
 flat-value σ (variable x) f h = sym (ap (value σ) (some-path _ f h))
 flat-value σ (negate a) f h = opposed-value σ (flat_of a) (value_of (table σ) a) f (flat-value σ a) h
 flat-value σ (binary o a b) f h = joined-value σ o (flat_of a) (flat_of b) (value_of (table σ) a) (value_of (table σ) b) f (flat-value σ a) (flat-value σ b) h

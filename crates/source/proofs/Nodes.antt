@@ -1,14 +1,10 @@
 -- Nodes and their trees, by a falling node index: what `entry_of` says of a node's tree. Assumes nothing.
-use Prim.Native.Nat.{ℕ, zero, suc, ◌+◌, ◌^◌, ◌≤◌, ◌<◌}
+use Prim.Native.Nat.{ℕ, zero, suc, ◌+◌, ◌≤◌, ◌<◌}
 use mathlib.Core.Path.{◌≡◌, refl, ap, ◌∙◌}
 use mathlib.Core.List.{List}
 use mathlib.Core.Logic.{⊎_elim}
 use native.Mathlib.Numerals.{add-one}
 use native.Mathlib.Omega.{arith}
-use lib.IntN.{ℤ}
-use lib.Signed.{mag}
-use mir.Val.{SFits}
-use mir.Syntax.{w64}
 use borrow.Author.Tests.{eq-eqb, ne_eqb}
 use Rattle.std.specs.Prelude.{Some}
 use Rattle.source.specs.declared.Node.{Node}
@@ -21,10 +17,6 @@ use Rattle.source.specs.Record.{Tree, expression_of, pattern_of, link_of, grown,
 use Rattle.std.proofs.lemmas.Bool.{cases_lt}
 
 -- ---- the words of a node
-
--- a signed 32-bit number is a signed 64-bit number
-pub wider : (z : ℤ) → mag z < 2 ^ 31 → SFits w64 z
-wider z h = record { sfits = omega arith }
 
 pub entry-is : (b : List ℕ) (at k : ℕ) (n : NodeEntry) → n ≡ node_entry b at k → entry_for n.kind n.a n.b n.c ≡ entry_of b at k
 unfolding entry_of

@@ -7,8 +7,7 @@ use native.Mathlib.Omega.{arith}
 use lib.ListN.{length, length-append}
 use lib.Dec.{eqb}
 use borrow.Author.Tests.{ne_eqb, lt-ltb, le-leb}
-use mir.Syntax.{w32}
-use mir.ValLaws.{to_z-of_z}
+use Rattle.words.proofs.WideBits.{integer-back}
 use Rattle.field.specs.declared.InfixOp.{InfixOp}
 use Rattle.field.specs.Operators.{operator_number}
 use Rattle.std.specs.Prelude.{Option, Some}
@@ -156,7 +155,7 @@ module _ (b : List ℕ) (at names : ℕ) where
       (rw (pat-below x (s + m + n) (omega arith), pat-below y (s + m + n) (omega arith)))
   pat-at (Pat.variable_p v) s f h = pat-node s 0 s (omega arith) (span_none b at names s) (node-held b at s h) (rw (lt-ltb v names f)) (λ j. refl) refl
   pat-at (Pat.constant_p z) s f h =
-      pat-node s 0 s (omega arith) (span_none b at names s) (node-held b at s h) refl (λ j. refl) (ap Pat.constant_p (to_z-of_z w32 z f))
+      pat-node s 0 s (omega arith) (span_none b at names s) (node-held b at s h) refl (λ j. refl) (ap Pat.constant_p (integer-back z f))
 
 -- ---- chains: n nodes from s on, whose last is the first link
 
@@ -490,7 +489,7 @@ module _ (b : List ℕ) (at names : ℕ) where
         (node-held b at (s + m + n) (nodes-after b at (s + m) n (expr_nodes (s + m) y) _ (expr-length (s + m) y) h1)) refl
         (rw (expr-below b at names u (s + m + n) (omega arith), expr-below b at names v (s + m + n) (omega arith)))
     expr-at (Expr.constant z) s f few h =
-        expr-node b at names s 0 s (omega arith) (span_none b at names s) (node-held b at s h) refl (λ j. refl) (ap Expr.constant (to_z-of_z w32 z f))
+        expr-node b at names s 0 s (omega arith) (span_none b at names s) (node-held b at s h) refl (λ j. refl) (ap Expr.constant (integer-back z f))
     expr-at (Expr.variable v) s f few h =
         expr-node b at names s 0 s (omega arith) (span_none b at names s) (node-held b at s h) (rw (lt-ltb v names f)) (λ j. refl) refl
     expr-at (Expr.function ps x env) s f few h =

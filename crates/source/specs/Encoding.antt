@@ -1,9 +1,9 @@
 -- A module as a record, for a desk that writes one: nodes stand children first, each used once, a chain's links from the last to the first.
 -- That the record of a module which fits is read back as that module: `read_back` in proofs/Read_back.antt.
 use Rattle.std.specs.Prelude.{ℕ, zero, suc, ◌+◌, ◌-◌, ◌≤◌, ◌<◌, ◌≡◌, List, [], ◌∷◌, ◌++◌, length}
-use Rattle.std.proofs.Common.{of_z, SFits}
-use Rattle.std.specs.Int.{w32}
-use Rattle.words.specs.Words.{bytes_of}
+use Rattle.std.proofs.Common.{SFits}
+use Rattle.std.specs.Int.{w64}
+use Rattle.words.specs.Words.{low_word, high_word, bytes_of}
 use Rattle.field.specs.Operators.{operator_number}
 use Rattle.source.specs.Trees.{Pat, Expr, Items, Arms, Env, Text, Module}
 use Rattle.records.specs.Kinds.{APPLICATION, AS-PATTERN, CONS, CONS-PATTERN, CONSTANT, CONSTANT-PATTERN, FUNCTION, INFIX, LET, LINK, MATCH}
@@ -73,7 +73,7 @@ pat_nodes s (Pat.product_p p q) =
 pat_nodes s (Pat.cons_p p q) =
     pat_nodes s p ++ (pat_nodes (s + pat_count p) q ++ node CONS-PATTERN (root_of s (pat_count p)) (root_of (s + pat_count p) (pat_count q)) 0)
 pat_nodes s (Pat.variable_p v) = node VARIABLE-PATTERN v 0 0
-pat_nodes s (Pat.constant_p z) = node CONSTANT-PATTERN (of_z w32 z) 0 0
+pat_nodes s (Pat.constant_p z) = node CONSTANT-PATTERN (low_word z) (high_word z) 0
 
 unfoldable pub pats_nodes : ℕ → List Pat → List ℕ
 pats_nodes s [] = []
@@ -94,7 +94,7 @@ unfoldable mutual
   expr_nodes s (Expr.binary o x y) = expr_nodes s x ++ (expr_nodes (s + expr_count x) y ++ pair_of INFIX s (expr_count x) (expr_count y) (operator_number o))
   expr_nodes s (Expr.negate x) = expr_nodes s x ++ node NEGATE (root_of s (expr_count x)) 0 0
   expr_nodes s (Expr.application x y) = expr_nodes s x ++ (expr_nodes (s + expr_count x) y ++ pair_of APPLICATION s (expr_count x) (expr_count y) 0)
-  expr_nodes s (Expr.constant z) = node CONSTANT (of_z w32 z) 0 0
+  expr_nodes s (Expr.constant z) = node CONSTANT (low_word z) (high_word z) 0
   expr_nodes s (Expr.variable v) = node VARIABLE v 0 0
   expr_nodes s (Expr.function ps x env) = pats_nodes s ps ++ (expr_nodes (s + pats_count ps) x ++ pair_of FUNCTION s (pats_count ps) (expr_count x) 0)
   expr_nodes s (Expr.intrinsic w n ps env) = []
@@ -177,7 +177,7 @@ abbrev pub All : {A : Type 0} → (A → Type 0) → List A → Type 0
 All Q [] = Unit {0}
 All Q (a ∷ rest) = Q a × All Q rest
 
--- trees over n names: constants of 32 bits, at least one parameter, arm and item, no environments, no intrinsics
+-- trees over n names: constants of 64 bits, at least one parameter, arm and item, no environments, no intrinsics
 abbrev pub PatFits : ℕ → Pat → Type 0
 PatFits n Pat.unit_p = Unit {0}
 PatFits n Pat.nil_p = Unit {0}
@@ -185,7 +185,7 @@ PatFits n (Pat.as_p p v) = PatFits n p × (v < n)
 PatFits n (Pat.product_p p q) = PatFits n p × PatFits n q
 PatFits n (Pat.cons_p p q) = PatFits n p × PatFits n q
 PatFits n (Pat.variable_p v) = v < n
-PatFits n (Pat.constant_p z) = SFits w32 z
+PatFits n (Pat.constant_p z) = SFits w64 z
 
 abbrev mutual
   pub ExprFits : ℕ → Expr → Type 0
@@ -197,7 +197,7 @@ abbrev mutual
   ExprFits n (Expr.binary o x y) = ExprFits n x × ExprFits n y
   ExprFits n (Expr.negate x) = ExprFits n x
   ExprFits n (Expr.application x y) = ExprFits n x × ExprFits n y
-  ExprFits n (Expr.constant z) = SFits w32 z
+  ExprFits n (Expr.constant z) = SFits w64 z
   ExprFits n (Expr.variable v) = v < n
   ExprFits n (Expr.function ps x env) = ((1 ≤ length ps) × All (PatFits n) ps) × (ExprFits n x × (env ≡ Env.empty))
   ExprFits n (Expr.intrinsic w k ps env) = ⊥

@@ -1,8 +1,7 @@
 -- The nodes of a record with the bytes b, whose nodes start at word `at`: what each says, what its children are, and what 5 says of them.
 -- 5 is one number for all its rules, so their order says nothing.
 use Rattle.std.specs.Prelude.{ℕ, zero, suc, List, [], ◌∷◌, Bool, true, false, ◌&&◌, ◌||◌, leb, ltb, eqb}
-use Rattle.std.proofs.Common.{to_z}
-use Rattle.std.specs.Int.{w32}
+use Rattle.words.specs.Words.{integer}
 unfoldable pub use Rattle.field.specs.Operators.{operator_of}
 use Rattle.std.specs.Prelude.{Option, Some, None}
 use Rattle.source.specs.declared.Node.{Node}
@@ -40,7 +39,7 @@ entry_for kind x y z =
     (pick (eqb kind INFIX) (infix_for z x y)
     (pick (eqb kind NEGATE) (unused y (unused z (Some (Node.Expression (Form.Negate x)))))
     (pick (eqb kind APPLICATION) (unused z (Some (Node.Expression (Form.Application x y))))
-    (pick (eqb kind CONSTANT) (unused y (unused z (Some (Node.Expression (Form.Constant (to_z w32 x))))))
+    (pick (eqb kind CONSTANT) (unused z (Some (Node.Expression (Form.Constant (integer x y)))))
     (pick (eqb kind VARIABLE) (unused y (unused z (Some (Node.Expression (Form.Variable x)))))
     (pick (eqb kind FUNCTION) (unused z (Some (Node.Expression (Form.Function x y))))
     (pick (eqb kind LET) (Some (Node.Expression (Form.Let x y z)))
@@ -53,7 +52,7 @@ entry_for kind x y z =
     (pick (eqb kind PRODUCT-PATTERN) (unused z (Some (Node.Pattern (Shape.Product x y))))
     (pick (eqb kind CONS-PATTERN) (unused z (Some (Node.Pattern (Shape.Cons x y))))
     (pick (eqb kind VARIABLE-PATTERN) (unused y (unused z (Some (Node.Pattern (Shape.Variable x)))))
-    (pick (eqb kind CONSTANT-PATTERN) (unused y (unused z (Some (Node.Pattern (Shape.Constant (to_z w32 x))))))
+    (pick (eqb kind CONSTANT-PATTERN) (unused z (Some (Node.Pattern (Shape.Constant (integer x y)))))
     None))))))))))))))))))))
 
 -- node k

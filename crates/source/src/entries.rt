@@ -1,21 +1,13 @@
 // What the words of a node say.
 ghost use Rattle.std.specs.Prelude.{◌≡◌, eqb};
 ghost use Rattle.std.specs.List.{list_all};
-ghost use Rattle.std.proofs.Common.{to_z};
-ghost use Rattle.std.specs.Int.{w32};
 ghost use Rattle.source.specs.Nodes.{all_unused, infix_for, entry_for};
 
 use super::{Form, Node, Shape};
 use field::InfixOp;
 use records::kinds::Kind;
 use records::nodes::NodeEntry;
-
-// A constant's number.
-fn number(a: u32) -> i64
-    ensures { result ≡ to_z w32 a }
-{
-    i64::from(words::signed(a))
-}
+use words::integer;
 
 // Whether all words are 0.
 fn zeros(words: &[u32]) -> bool
@@ -56,7 +48,7 @@ pub fn entry(node: NodeEntry) -> Option<Node>
         Kind::Infix => operation(c, x, y),
         Kind::Negate => blank(&[b, c], Node::Expression(Form::Negate(x))),
         Kind::Application => blank(&[c], Node::Expression(Form::Application(x, y))),
-        Kind::Constant => blank(&[b, c], Node::Expression(Form::Constant(number(a)))),
+        Kind::Constant => blank(&[c], Node::Expression(Form::Constant(integer(a, b)))),
         Kind::Variable => blank(&[b, c], Node::Expression(Form::Variable(x))),
         Kind::Function => blank(&[c], Node::Expression(Form::Function(x, y))),
         Kind::Let => Some(Node::Expression(Form::Let(x, y, c as usize))),
@@ -69,7 +61,7 @@ pub fn entry(node: NodeEntry) -> Option<Node>
         Kind::ProductPattern => blank(&[c], Node::Pattern(Shape::Product(x, y))),
         Kind::ConsPattern => blank(&[c], Node::Pattern(Shape::Cons(x, y))),
         Kind::VariablePattern => blank(&[b, c], Node::Pattern(Shape::Variable(x))),
-        Kind::ConstantPattern => blank(&[b, c], Node::Pattern(Shape::Constant(number(a)))),
+        Kind::ConstantPattern => blank(&[c], Node::Pattern(Shape::Constant(integer(a, b)))),
         _ => None,
     }
 }

@@ -3,7 +3,7 @@
 use super::*;
 use crate::ast::Match;
 use crate::field::{canon, Field};
-use crate::record::{Cons, Flat, Node, Source, NONE};
+use crate::record::{integer, Cons, Flat, Node, Source, NONE};
 
 const OPS: [InfixOp; 9] = [
     InfixOp::Divide,
@@ -29,20 +29,11 @@ pub fn op_number(op: InfixOp) -> u32 {
 
 struct Reader<'a> {
     s: &'a Source,
-    wide: bool,
 }
 
 impl Reader<'_> {
     fn name(&self, n: u32) -> Variable {
         Variable { name: Some(self.s.names[n as usize].clone()), id: 0 }
-    }
-
-    fn constant(&self, a: u32, b: u32) -> BigInt {
-        if self.wide {
-            BigInt::from(((b as u64) << 32 | a as u64) as i64)
-        } else {
-            BigInt::from(a as i32)
-        }
     }
 
     fn links(&self, mut l: u32) -> Vec<(u32, u32)> {
@@ -64,7 +55,7 @@ impl Reader<'_> {
             19 => Pat::Product(Box::new(self.pat(a)), Box::new(self.pat(b))),
             20 => Pat::Cons(Box::new(self.pat(a)), Box::new(self.pat(b))),
             21 => Pat::Variable(self.name(a)),
-            22 => Pat::Constant(self.constant(a, b)),
+            22 => Pat::Constant(BigInt::from(integer(a, b))),
             _ => unreachable!("not a pattern"),
         };
         TPat { v, t: None }
@@ -80,7 +71,7 @@ impl Reader<'_> {
             4 => Expr::Infix(op_of(c), Box::new(self.expr(a)), Box::new(self.expr(b))),
             5 => Expr::Negate(Box::new(self.expr(a))),
             6 => Expr::Application(Box::new(self.expr(a)), Box::new(self.expr(b))),
-            7 => Expr::Constant(self.constant(a, b)),
+            7 => Expr::Constant(BigInt::from(integer(a, b))),
             8 => Expr::Variable(self.name(a)),
             9 => Expr::Function(Function {
                 params: self.links(a).iter().map(|(p, _)| self.pat(*p)).collect(),
@@ -106,8 +97,8 @@ impl Reader<'_> {
     }
 }
 
-pub fn module_of_source(s: &Source, wide: bool) -> Module {
-    let r = Reader { s, wide };
+pub fn module_of_source(s: &Source) -> Module {
+    let r = Reader { s };
     Module {
         pubs: s.pubs.iter().map(|p| r.name(*p)).collect(),
         defs: s
@@ -122,11 +113,32 @@ pub fn module_of_source(s: &Source, wide: bool) -> Module {
 /* ---- Module <-> flat record ---- */
 
 fn constant_word(c: &BigInt) -> u32 {
-    match c.to_i32() {
-        Some(n) => n as u32,
-        // Only with wide constants (request (i)): a pattern constant beyond
-        // 32 bits goes into a record as its element.
-        None => canon(c.to_i64().expect("constant beyond 64 bits")) as i32 as u32,
+    c.to_i32().expect("constant beyond 32 bits") as u32
+}
+
+/* A constant beyond 32 bits goes into a flat list as its element (document 02
+ * (i)); only a pattern's constant can be one. The Rust keeps it: this is where
+ * the oracle follows the port. */
+fn narrow(e: &mut TExpr) {
+    match &mut e.v {
+        Expr::Infix(_, a, b) => {
+            narrow(a);
+            narrow(b);
+        }
+        Expr::Negate(a) => narrow(a),
+        Expr::Constant(c) if c.to_i32().is_none() => {
+            *c = BigInt::from(canon(c.to_i64().expect("constant beyond 64 bits")));
+        }
+        _ => {}
+    }
+}
+
+fn narrow_lists(m: &mut Module) {
+    for Definition(LetBinding(_, e)) in &mut m.defs {
+        narrow(e);
+    }
+    for e in &mut m.exprs {
+        narrow(e);
     }
 }
 
@@ -312,8 +324,8 @@ struct Numbered {
 }
 
 /* Registers fresh, iter, fold; numbers the module. */
-fn numbered(s: &Source, wide: bool) -> Numbered {
-    let mut module = module_of_source(s, wide);
+fn numbered(s: &Source) -> Numbered {
+    let mut module = module_of_source(s);
     let mut gen = VarGen::new();
     let mut globals = HashMap::new();
     let mut bindings = HashMap::new();
@@ -325,9 +337,10 @@ fn numbered(s: &Source, wide: bool) -> Numbered {
     Numbered { module, bindings, gen }
 }
 
-/* Numbers the module and evaluates it. */
-pub fn evaluate_source(s: &Source, wide: bool) -> Evaluated {
-    let Numbered { module, mut bindings, mut gen } = numbered(s, wide);
+/* Numbers the module and evaluates it. Evaluation never reads the flat lists
+ * again, so that narrowing them behind it is narrowing what is pushed. */
+pub fn evaluate_source(s: &Source) -> Evaluated {
+    let Numbered { module, mut bindings, mut gen } = numbered(s);
     let mut prover_defs = HashSet::new();
     let mut flattened = Some(Module::default());
     #[cfg(feature = "twin")]
@@ -340,13 +353,15 @@ pub fn evaluate_source(s: &Source, wide: bool) -> Evaluated {
         &Field,
         &mut gen,
     );
-    Evaluated { module: flattened.unwrap(), prover_defs, gen }
+    let mut module = flattened.unwrap();
+    narrow_lists(&mut module);
+    Evaluated { module, prover_defs, gen }
 }
 
 /* The numbered module alone, printed by the Rust's own Display (for looking at
  * ids; document 01 has no record for it). */
-pub fn numbered_text(s: &Source, wide: bool) -> String {
-    let n = numbered(s, wide);
+pub fn numbered_text(s: &Source) -> String {
+    let n = numbered(s);
     format!("{}next id {}\n", n.module, n.gen.0)
 }
 
@@ -360,7 +375,7 @@ struct Ids<'a> {
 
 impl Ids<'_> {
     fn links(&self, l: u32) -> Vec<(u32, u32)> {
-        Reader { s: self.s, wide: false }.links(l)
+        Reader { s: self.s }.links(l)
     }
 
     fn pat(&mut self, n: u32, p: &TPat) {
@@ -417,12 +432,12 @@ impl Ids<'_> {
 }
 
 pub fn next_id(s: &Source) -> u32 {
-    numbered(s, false).gen.0
+    numbered(s).gen.0
 }
 
 /* `next N pubs I,I,.. ids I,-,..`: the ids at the nodes in record order, `-` at a node with no name. */
 pub fn numbers_line(s: &Source) -> String {
-    let n = numbered(s, false);
+    let n = numbered(s);
     let mut at = Ids { s, ids: vec![None; s.nodes.len()] };
     for ((p, v), def) in s.defs.iter().zip(&n.module.defs) {
         at.pat(*p, &def.0 .0);
