@@ -159,7 +159,7 @@ def copies_of(state):
     flat = model.flat_of(state)
     model.classify_defs(flat)
     model.copy_propagate(flat)
-    return {i: e for i, e in flat.defs if e[0] in ("var", "const") and i not in flat.prover}
+    return {i: e for i, e, _ in flat.defs if e[0] in ("var", "const") and i not in flat.prover}
 
 
 def lines(record, with_copies):

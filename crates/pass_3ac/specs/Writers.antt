@@ -17,6 +17,7 @@ RoomIn n w = Room n w.at w.next w.body.now
 pub record Placed (body : List ℕ) (cut : Cut) (term : Term) (old new : Writer) : Type 0 where
   pub body_is : new.body.now ≡ body
   pub cut_is : record { term = term; place = place_of new } ≡ cut
+  pub same_place : new.place ≡ old.place
   pub lent : new.body ≡ record old.body { now = new.body.now }
 
 -- a tree is cut
