@@ -95,7 +95,8 @@ module _ (n many : ℕ) where
         ∙ range-append (rows (d + k) 0 (calibration_from all n)) (rows m (0 + (d + k)) (calibration_from all n))
         ∙ ap (λ (t : Bool). t && all_in_range (rows m (0 + (d + k)) (calibration_from all n)))
         (ap all_in_range front ∙ range-append (rows d 0 (calibration_from bs n)) (rows k 0 (calibration_from ys n))) in
-        ap (λ (t : Bool). leb (4 * (n * many)) (length all) && t) (parts ∙ go (all_in_range (rows d 0 (calibration_from bs n))) (all_in_range (rows m (0 + (d + k)) (calibration_from all n))) h)
+        ap (λ (t : Bool). leb (4 * (n * many)) (length all) && t)
+        (parts ∙ go (all_in_range (rows d 0 (calibration_from bs n))) (all_in_range (rows m (0 + (d + k)) (calibration_from all n))) h)
         ∙ no (leb (4 * (n * many)) (length all))
       where
         go : (a c : Bool) {b : Bool} → b ≡ false → ((a && b) && c) ≡ false

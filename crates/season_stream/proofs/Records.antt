@@ -86,7 +86,8 @@ too-long h ys l m =
     (cases_lt (length b) (4 * size b))
 
 -- a record that ends early
-pub ends-early : (h ys : List ℕ) → 24 ≤ length h → length (h ++ ys) < 4 * size h → constraint_read (record_part (h ++ ys)) ≡ Read.refused Refusal.ConstraintRecord
+pub ends-early : (h ys : List ℕ) → 24 ≤ length h → length (h ++ ys) < 4 * size h
+    → constraint_read (record_part (h ++ ys)) ≡ Read.refused Refusal.ConstraintRecord
 ends-early h ys l m = cut-off (h ++ ys) (omega (arith, m, size-behind h ys l))
 
 -- a whole record that is refused, whatever follows it

@@ -49,7 +49,9 @@ add_all-requires-clause-laid c =
     rw (rest-is d, inputs-are d) room
 
 pub add_all-requires-clause-begun : goal.add_all-requires-clause-begun
-add_all-requires-clause-begun c = let f = rest-fits (goal.at.add_all-requires-clause-begun c).After-deref in (([], c.requires.fresh), omega (arith, f.few, c.requires.fresh.done_is))
+add_all-requires-clause-begun c =
+    let f = rest-fits (goal.at.add_all-requires-clause-begun c).After-deref in
+    (([], c.requires.fresh), omega (arith, f.few, c.requires.fresh.done_is))
 
 pub returns : goal.returns
 returns c =

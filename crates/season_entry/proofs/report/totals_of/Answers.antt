@@ -4,13 +4,17 @@ use Rattle.season_entry.proofs.Reporting.{within, three-are, equalities-few}
 use Rattle.season_entry.proofs.report.totals_of.Goals as goal
 
 pub offset_bounds-count-k : goal.offset_bounds-count-k
-offset_bounds-count-k c = let few = equalities-few c.args.r.now.bytes.now c.args.r.now.accepted in record { fits = omega (arith, few, c.requires.k_in_bounds) }
+offset_bounds-count-k c =
+    let few = equalities-few c.args.r.now.bytes.now c.args.r.now.accepted in
+    record { fits = omega (arith, few, c.requires.k_in_bounds) }
 
 pub bounds-count-k : goal.bounds-count-k
 bounds-count-k c = let few = equalities-few c.args.r.now.bytes.now c.args.r.now.accepted in omega (arith, few, c.requires.k_in_bounds)
 
 pub offset_bounds-count-k-2 : goal.offset_bounds-count-k-2
-offset_bounds-count-k-2 c = let few = equalities-few c.args.r.now.bytes.now c.args.r.now.accepted in record { fits = omega (arith, few, c.requires.k_in_bounds) }
+offset_bounds-count-k-2 c =
+    let few = equalities-few c.args.r.now.bytes.now c.args.r.now.accepted in
+    record { fits = omega (arith, few, c.requires.k_in_bounds) }
 
 pub bounds-count-k-2 : goal.bounds-count-k-2
 bounds-count-k-2 c = let few = equalities-few c.args.r.now.bytes.now c.args.r.now.accepted in omega (arith, few, c.requires.k_in_bounds)

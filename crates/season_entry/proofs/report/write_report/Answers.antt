@@ -26,7 +26,9 @@ overflow_mul-long-2 c =
     record { fits = omega (arith, equalities-laid r.bytes.now r.laid, few) }
 
 pub returns-then-out-long : goal.returns-then-out-long
-returns-then-out-long c = λ cs r. no-room c.args.r.now.bytes.now cs _ (omega (arith, c.if-out-long.true, equalities-laid c.args.r.now.bytes.now c.args.r.now.laid))
+returns-then-out-long c = λ cs r.
+    let many = equalities-laid c.args.r.now.bytes.now c.args.r.now.laid in
+    no-room c.args.r.now.bytes.now cs _ (omega (arith, c.if-out-long.true, many))
 
 pub put_totals-requires-clause-room : goal.put_totals-requires-clause-room
 put_totals-requires-clause-room c = omega (arith, c.if-out-long.false, equalities-laid c.args.r.now.bytes.now c.args.r.now.laid)
