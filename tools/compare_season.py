@@ -34,7 +34,7 @@ def expected(data):
     if isinstance(answer, bytes):
         return (answer, b""), ("".join(lines(data, answer)).encode(), b""), "reported"
     refusal = b"refused %d\n" % answer
-    return (b"", refusal), (refusal, b""), "refused %d" % answer
+    return (b"", refusal), (b"", refusal), "refused %d" % answer
 
 
 def changed(rng, data):

@@ -1,54 +1,66 @@
 // The report of a season for people, in ASCII: a line an equality with its place and totals, then the share.
 #![tactic(auto)]
 
-ghost use Rattle.std.specs.Prelude.{◌≡◌, ◌++◌, ◌+◌, ◌≤◌, length, get_or};
-ghost use Rattle.arrayvec.specs.ArrayString.{array_string_len};
-ghost use Rattle.season_text.specs.Text.{labelled, totals_text, share_text};
+mod line;
 
-use arrayvec::ArrayString;
-use itoa::Buffer;
+ghost use Rattle.std.specs.Prelude.{◌+◌, ◌<◌};
+ghost use Rattle.constraint.specs.Reading.{equalities};
+ghost use Rattle.streams.specs.Streams.{Whole};
+ghost use Rattle.season_entry.specs.Entry.{Counted};
+ghost use Rattle.season_text.specs.Printing.{LinePrinted, SharePrinted, ReportPrinted};
 
-// Room for every line.
-const LINE: usize = 160;
+pub use line::{Line, share_line, totals_line};
+use season_count::Count;
+use season_entry::report::{share_of, totals_of};
+use season_values::record::Record;
+use std::io::Write;
+use streams::{Failed, write_output};
 
-pub type Line = ArrayString<LINE>;
-
-// A label and a number behind it.
-fn push_labelled(line: &mut Line, label: &str, n: u64)
-    requires { array_string_len line.old + (length label.now + 20) ≤ LINE }
-    ensures value { line.new.bytes ≡ line.old.bytes ++ labelled label.now n }
-    ensures upper_bound { array_string_len line.new ≤ array_string_len line.old + (length label.now + 20) }
+// The line of equality k, counted from 0.
+fn print_totals<W: Write>(
+    rt: &impl Eprint,
+    to: &mut W,
+    r: &Record,
+    count: &Count,
+    k: usize,
+) -> Result<usize, Failed>
+    requires counted { Counted r.now.bytes.now count.now }
+    requires { k < equalities r.now.bytes.now }
+    ensures { LinePrinted r.now.bytes.now count.now k result (W.contents to.old) (W.contents to.new) }
 {
-    let mut digits = Buffer::new();
-    line.push_str(label);
-    line.push_str(digits.format(n));
+    let line = totals_line(k + 1, r.equality(k).place, totals_of(r, count, k));
+    write_output(rt, to, line.as_str().as_bytes())
 }
 
-// The line of equality k, counted from 1, that came from the statement at `place`: how often it held, failed, and had no value.
-pub fn totals_line(k: usize, place: u32, totals: [u32; 3]) -> Line
-    ensures { result.bytes ≡ totals_text k place (get_or totals 0 0) (get_or totals 1 0) (get_or totals 2 0) }
+// The line of the share.
+fn print_share<W: Write>(
+    rt: &impl Eprint,
+    to: &mut W,
+    r: &Record,
+    count: &Count,
+) -> Result<usize, Failed>
+    requires { Counted r.now.bytes.now count.now }
+    ensures { SharePrinted r.now.bytes.now count.now result (W.contents to.old) (W.contents to.new) }
 {
-    let [held, failed, valueless] = totals;
-    let mut line = Line::new();
-    // Kept as it is: `as`, since Rust has no `From` of a usize for u64.
-    push_labelled(&mut line, "equality ", k as u64);
-    push_labelled(&mut line, " of statement ", u64::from(place));
-    push_labelled(&mut line, ": held ", u64::from(held));
-    push_labelled(&mut line, ", failed ", u64::from(failed));
-    push_labelled(&mut line, ", no value ", u64::from(valueless));
-    line.push_str("\n");
-    line
+    let line = share_line(share_of(r, count));
+    write_output(rt, to, line.as_str().as_bytes())
 }
 
-// The line of the share, of the first place, how many fulfilled every equality, and how many there were.
-pub fn share_line(share: [u32; 3]) -> Line
-    ensures { result.bytes ≡ share_text (get_or share 1 0) (get_or share 2 0) (get_or share 0 0) }
+// The report of what was counted, line by line; the answer is how many lines there were.
+pub fn print_report<W: Write>(
+    rt: &impl Eprint,
+    to: &mut W,
+    r: &Record,
+    count: &Count,
+) -> Result<usize, Failed>
+    requires { Counted r.now.bytes.now count.now }
+    ensures whole { Whole result (equalities r.now.bytes.now + 1) }
+    ensures bytes { ReportPrinted r.now.bytes.now count.now result (W.contents to.old) (W.contents to.new) }
 {
-    let [first, fulfilled, count] = share;
-    let mut line = Line::new();
-    push_labelled(&mut line, "fulfilled ", u64::from(fulfilled));
-    push_labelled(&mut line, " of ", u64::from(count));
-    push_labelled(&mut line, ", first ", u64::from(first));
-    line.push_str("\n");
-    line
+    let n = r.layout.equalities;
+    for k in 0..n {
+        print_totals(rt, to, r, count, k)?;
+    }
+    print_share(rt, to, r, count)?;
+    Ok(n + 1)
 }

@@ -1,0 +1,26 @@
+use Rattle.std.proofs.Common.{◌≡◌, arith, subst, ◌∙◌}
+use Rattle.std.specs.Io.KnownBytes.{Appends}
+use Rattle.std.proofs.KnownBytes.{Appends-nil, Appends-trans}
+use Rattle.streams.proofs.Laws.{added-cut}
+use Rattle.constraint.specs.Reading.{equalities}
+use Rattle.season_values.proofs.Laid.{equalities-laid}
+use Rattle.season_text.specs.Text.{lines_of, report_text}
+use Rattle.season_text.proofs.Printing.{lines-more, line-cut, share-cut}
+use Rattle.season_text.proofs.print_report.Goals as goal
+
+pub loop-k-init : goal.loop-k-init
+unfolding lines_of
+loop-k-init g c = record { end = equalities-laid _ c.args.r.now.laid; bytes = λ cs r. Appends-nil _ }
+
+pub loop-k-preserved : goal.loop-k-preserved
+loop-k-preserved g c = record {
+  end = c.loop-k.invariant.end;
+  bytes = λ cs r.
+      subst (Appends _ _) (lines-more _ cs _) (Appends-trans _ _ _ _ _ (c.loop-k.invariant.bytes cs r) (c.in_ok-print_totals.ensures cs r));
+}
+
+pub returns-in_err-print_totals-clause-bytes : goal.returns-in_err-print_totals-clause-bytes
+returns-in_err-print_totals-clause-bytes g c = λ cs r.
+    let cut = c.in_err-print_totals.ensures cs r in
+    let front = line-cut c.args.r.now.bytes.now cs c.loop-k.k cut.0 (omega (arith, c.loop-k.invariant.end, c.loop-k-test.true)) in
+    added-cut _ _ _ _ front.0 c.from_residual.ensures.0 (subst (Appends _ _) front.1 (Appends-trans _ _ _ _ _ (c.loop-k.invariant.bytes cs r) cut.1))
