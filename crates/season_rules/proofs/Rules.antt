@@ -1,12 +1,12 @@
--- A calibration of a plain module's record fulfils just if it meets the rules. Assumes nothing.
-use mathlib.Core.Bool.{Bool, true, false, ◌&&◌, ◌||◌}
+-- A calibration of a plain module's record fulfils just if it meets the rules, and the count says how many do. Assumes nothing.
+use mathlib.Core.Bool.{Bool, true, false, ◌||◌}
 use mathlib.Core.List.{List, [], ◌∷◌}
-use mathlib.Core.Path.{◌≡◌, refl, sym, ap, ap₂, subst, ◌∙◌}
+use mathlib.Core.Path.{◌≡◌, refl, sym, ap, ap₂, ◌∙◌}
 use Prim.Native.Nat.{ℕ}
 use native.Mathlib.Omega.{arith}
 use lib.IntN.{ℤ}
 use borrow.Author.Tests.{eq-eqb}
-use Rattle.std.specs.Prelude.{Some, None}
+use Rattle.std.specs.Prelude.{Some, None, ◌↔◌}
 use Rattle.field.specs.declared.InfixOp.{InfixOp}
 use Rattle.field.specs.Operations.{Answer, HasValue}
 use Rattle.field.specs.Prime.{P}
@@ -27,12 +27,11 @@ use Rattle.numbering.specs.Statements.{Pointwise}
 use Rattle.plain.specs.Statements.{Gives}
 use Rattle.agreement.specs.Statement.{Solves}
 use Rattle.agreement.proofs.Agreement.{agreement, by-id, by-id-elements, by-id-gives}
-use Rattle.season_trees.specs.declared.Verdict.{Verdict}
-use Rattle.season_trees.specs.Values.{in_term, in_side, in_equalities, appears, Environment, values_of, term_in, side_in, same_number, compared, verdict}
-use Rattle.season_trees.specs.Count.{Calibration, is_held, all_held, fulfils}
+use Rattle.season_trees.specs.Values.{in_term, in_side, in_equalities, appears, Environment, values_of, term_in, side_in, compared, verdict}
+use Rattle.season_trees.specs.Count.{Calibration, number, is_held, all_held, fulfils}
 use Rattle.season_trees.specs.Statements.{assignment_of}
 use Rattle.season_trees.proofs.Solutions.{same_self, fulfils-is-solution}
-use Rattle.season_rules.specs.Statement.{HasValuesOf, GivesSeen, CountsTheRules}
+use Rattle.season_rules.specs.Statement.{HasValuesOf, GivesSeen, FitInputs, MeetsTheRules, CountsTheRules, CountIsOfTheRules}
 
 -- ---- what held has values
 
@@ -132,23 +131,23 @@ or_right : (a b : Bool) → b ≡ true → (a || b) ≡ true
 or_right true b h = refl
 or_right false b h = h
 
-term_in : (Q : ℕ → Type 0) (t : Term) → ((v : ℕ) → in_term v t ≡ true → Q v) → InTerm Q t
+each-term : (Q : ℕ → Type 0) (t : Term) → ((v : ℕ) → in_term v t ≡ true → Q v) → InTerm Q t
 unfolding in_term
-term_in Q (Term.Variable w) f = f w (eq-eqb w w refl)
-term_in Q (Term.Constant c) f = tt
+each-term Q (Term.Variable w) f = f w (eq-eqb w w refl)
+each-term Q (Term.Constant c) f = tt
 
 side-in : (Q : ℕ → Type 0) (s : Side) → ((v : ℕ) → in_side v s ≡ true → Q v) → InSide Q s
 unfolding in_side
-side-in Q (Side.infixed o x y) f = (term_in Q x (λ v h. f v (or_left (in_term v x) (in_term v y) h)), term_in Q y (λ v h. f v (or_right (in_term v x) (in_term v y) h)))
-side-in Q (Side.negate x) f = term_in Q x f
-side-in Q (Side.copy x) f = term_in Q x f
+side-in Q (Side.infixed o x y) f = (each-term Q x (λ v h. f v (or_left (in_term v x) (in_term v y) h)), each-term Q y (λ v h. f v (or_right (in_term v x) (in_term v y) h)))
+side-in Q (Side.negate x) f = each-term Q x f
+side-in Q (Side.copy x) f = each-term Q x f
 
 all_in : (Q : ℕ → Type 0) (qs : List Equality) → ((v : ℕ) → in_equalities v qs ≡ true → Q v) → All (InEquality Q) qs
 unfolding in_equalities
 all_in Q [] f = tt
 all_in Q (q ∷ qs) f = (
   (
-    term_in Q q.left (λ v h. f v (or_left _ (in_equalities v qs) (or_left (in_term v q.left) (in_side v q.right) h))),
+    each-term Q q.left (λ v h. f v (or_left _ (in_equalities v qs) (or_left (in_term v q.left) (in_side v q.right) h))),
     side-in Q q.right (λ v h. f v (or_left _ (in_equalities v qs) (or_right (in_term v q.left) (in_side v q.right) h))),
   ),
   all_in Q qs (λ v h. f v (or_right (in_term v q.left || in_side v q.right) (in_equalities v qs) h)),
@@ -212,18 +211,18 @@ module _ (m : Module) (c : ConstraintModule) (es : Calibration) (ρ : ℕ → �
 
 pub counts-the-rules : CountsTheRules
 unfolding fulfils
-counts-the-rules m plain capacity c e es r ρ elements no_zero g = (
+counts-the-rules m plain capacity c e es ρ fit = (
   λ k.
       let valued = all-valued (values_of c es) c.equalities k in
-      let s = (fulfils-is-solution c es r valued).0 k in
+      let s = (fulfils-is-solution c es fit.in-range valued).0 k in
       let σ = filled m c es ρ in
       let same = in-equalities _ _ (filled-seen m c es ρ) c.equalities (seen c) in
       let solves : Solves m c ρ σ = record {
-        elements = filled-elements m c es ρ s.elements elements;
-        given = filled-gives m c es ρ g;
+        elements = filled-elements m c es ρ s.elements fit.elements;
+        given = filled-gives m c es ρ fit.given;
         fulfils = all_same (assignment_of c es) σ c.equalities same s.fulfils;
       } in (
-        (agreement m plain capacity c e ρ elements no_zero).agrees.1 (σ, solves),
+        (agreement m plain capacity c e ρ fit.elements fit.no-zero).agrees.1 (σ, solves),
         (σ, (solves, values-are m c es ρ valued)),
       ),
   λ w. all-as (values_of c es) w.1.0 c.equalities w.1.1.1 w.1.1.0.fulfils,
@@ -251,3 +250,25 @@ counts-the-rules m plain capacity c e es r ρ elements no_zero g = (
             → All (InEquality (λ v. values_of c es v ≡ Some (filled m c es ρ v))) qs
         both [] h k = tt
         both (q ∷ qs) h k = ((term-both q.left h.0.0 k.0.0, side-both q.right h.0.1 k.0.1), both qs h.1 k.1)
+
+-- ---- the count
+
+same-answer : (a b : Bool) → (a ≡ true) ↔ (b ≡ true) → a ≡ b
+same-answer true b h = sym (h.0 refl)
+same-answer false true h = h.1 refl
+same-answer false false h = refl
+
+number-same : (f t : Calibration → Bool) (cs : List Calibration) → All (λ es. (f es ≡ true) ↔ (t es ≡ true)) cs → number f cs ≡ number t cs
+unfolding number
+number-same f t [] h = refl
+number-same f t (es ∷ cs) h = rw (same-answer (f es) (t es) h.0, number-same f t cs h.1) refl
+
+pub count-is-of-the-rules : CountIsOfTheRules
+count-is-of-the-rules m plain capacity c e cs ρ fit t says = number-same (fulfils c) t cs (go cs fit says)
+  where
+    go : (ds : List Calibration) → All (λ es. FitInputs m c es (ρ es)) ds → All (λ es. (t es ≡ true) ↔ MeetsTheRules m c es (ρ es)) ds
+        → All (λ es. (fulfils c es ≡ true) ↔ (t es ≡ true)) ds
+    go [] f s = tt
+    go (es ∷ ds) f s =
+        let one = counts-the-rules m plain capacity c e es (ρ es) f.0 in
+        ((λ k. s.0.1 (one.0 k), λ k. one.1 (s.0.0 k)), go ds f.1 s.1)
