@@ -32,8 +32,10 @@ fn record_length(input: &[u8]) -> Result<usize, Refusal>
         return Err(Refusal::ConstraintRecord);
     }
     let long = WORD_BYTES * layout_of(input).size;
-    let record = input.get(..long).ok_or(Refusal::ConstraintRecord)?;
-    check_constraint(record)?;
+    if input.len() < long {
+        return Err(Refusal::ConstraintRecord);
+    }
+    check_constraint(&input[..long])?;
     Ok(long)
 }
 

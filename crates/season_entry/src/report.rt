@@ -18,7 +18,7 @@ pub const SHARE: usize = 3;
 // How often equality k held, failed, and had no value.
 pub fn totals_of(r: &Record, count: &Count, k: usize) -> [u32; TOTALS]
     requires counted { Counted r.now.bytes.now count.now }
-    requires { k < equalities r.now.bytes.now }
+    requires k_in_bounds { k < equalities r.now.bytes.now }
     ensures { TotalsOf r.now.bytes.now count.now k result }
 {
     let held = count.state.totals.held[k];
@@ -37,7 +37,7 @@ pub fn share_of(r: &Record, count: &Count) -> [u32; SHARE]
 // The totals of every equality, at the front of the output.
 fn put_totals(r: &Record, count: &Count, out: &mut [u8])
     requires counted { Counted r.now.bytes.now count.now }
-    requires { 4 * (3 * equalities r.now.bytes.now) ≤ length out.old }
+    requires room { 4 * (3 * equalities r.now.bytes.now) ≤ length out.old }
     ensures { TotalsPut r.now.bytes.now count.now out.old out.new }
 {
     for k in 0..r.layout.equalities {

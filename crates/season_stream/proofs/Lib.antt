@@ -1,0 +1,3 @@
+pub mod Had
+pub mod Records
+pub mod Blocks
