@@ -4,7 +4,8 @@
     python3 tools/season_times.py [CALIBRATIONS [RUNS]]
 
 Run it at the top of the repository, after `tools/build.sh season`. The loop is tools/season_loop.c, compiled by cc -O2. A record has 100 equalities over at most 108 variables,
-its operations drawn from a few; a season 1,000,000 calibrations by default, 432 MB in a temporary file. Each program is run RUNS times in turn (3 by default), and the
+its operations drawn from a few; a season 1,000,000 calibrations by default, 432 MB in a temporary file, of which every second one fulfils all equalities that have a value, and the others have
+random elements. Each program is run RUNS times in turn (3 by default), and the
 least processor time of each counts. The reports have to be the same.
 """
 import array
@@ -16,7 +17,7 @@ import sys
 import tempfile
 
 from flat_records import ADD, DIVIDE, INT_DIVIDE, MODULO, MULTIPLY, SUBTRACT, pack
-from season_cases import HALF, read, record, v, variables
+from season_cases import HALF, infix, record, v
 
 EQUALITIES, INPUTS, BLOCK = 100, 8, 1000
 KINDS = (
@@ -25,21 +26,24 @@ KINDS = (
 )
 
 
-def some_record(rng, ops):
-    equalities = []
-    for k in range(INPUTS, INPUTS + EQUALITIES):
-        equalities.append((v(k), rng.choice(ops), v(rng.randrange(k)), v(rng.randrange(k))))
-    return record(INPUTS + EQUALITIES, equalities)
+def some_equalities(rng, ops):
+    return [(v(k), rng.choice(ops), v(rng.randrange(k)), v(rng.randrange(k))) for k in range(INPUTS, INPUTS + EQUALITIES)]
+
+
+def some_row(rng, equalities, fulfils):
+    row = [rng.randrange(-HALF, HALF + 1) for _ in range(INPUTS + EQUALITIES)]
+    for (_, left), op, (_, first), (_, second) in equalities if fulfils else ():
+        row[left] = infix(op, row[first], row[second]) or 0
+    return row
 
 
 def write_season(path, rng, ops, count):
-    data = some_record(rng, ops)
-    width = len(variables(read(data)))
-    block = array.array("i", [rng.randrange(-HALF, HALF + 1) for _ in range(width * BLOCK)]).tobytes()
+    equalities = some_equalities(rng, ops)
+    block = array.array("i", [n for k in range(BLOCK) for n in some_row(rng, equalities, k % 2 == 0)]).tobytes()
     with open(path, "wb") as f:
-        f.write(data + pack([count]))
+        f.write(record(INPUTS + EQUALITIES, equalities) + pack([count]))
         for done in range(0, count, BLOCK):
-            f.write(block[: 4 * width * min(BLOCK, count - done)])
+            f.write(block[: 4 * (INPUTS + EQUALITIES) * min(BLOCK, count - done)])
 
 
 def timed(program, path):

@@ -24,3 +24,18 @@ returns-in_err-print_totals-clause-bytes g c = λ cs r.
     let cut = c.in_err-print_totals.ensures cs r in
     let front = line-cut c.args.r.now.bytes.now cs c.loop-k.k cut.0 (omega (arith, c.loop-k.invariant.end, c.loop-k-test.true)) in
     added-cut _ _ _ _ front.0 c.from_residual.ensures.0 (subst (Appends _ _) front.1 (Appends-trans _ _ _ _ _ (c.loop-k.invariant.bytes cs r) cut.1))
+
+pub returns-in_err-print_share-clause-bytes : goal.returns-in_err-print_share-clause-bytes
+returns-in_err-print_share-clause-bytes g c = λ cs r.
+    let cut = c.in_err-print_share.ensures cs r in
+    let front = share-cut c.args.r.now.bytes.now cs cut.0 in
+    let end : c.loop-k.k ≡ equalities c.args.r.now.bytes.now = omega (arith, c.loop-k.invariant.end, c.loop-k-test.false, c.loop-k.auto.k-end) in
+    let lines = rw end at (c.loop-k.invariant.bytes cs r) in
+    added-cut _ _ _ _ front.0 c.from_residual.ensures.0 (subst (Appends _ _) front.1 (Appends-trans _ _ _ _ _ lines cut.1))
+
+pub returns-clause-bytes : goal.returns-clause-bytes
+unfolding report_text
+returns-clause-bytes g c = λ cs r.
+    let end : c.loop-k.k ≡ equalities c.args.r.now.bytes.now = omega (arith, c.loop-k.invariant.end, c.loop-k-test.false, c.loop-k.auto.k-end) in
+    let lines = rw end at (c.loop-k.invariant.bytes cs r) in
+    Appends-trans _ _ _ _ _ lines (c.in_ok-print_share.ensures cs r)
