@@ -1,11 +1,19 @@
 -- What a writer has of a report where a write failed. Assumes nothing.
-use Rattle.std.proofs.Common.{◌≡◌, ℕ, zero, suc, ◌+◌, ◌≤◌, ◌<◌, arith, refl, sym, ap, ◌∙◌, List, [], ◌++◌, length, take, append_assoc, append-nil}
+use Rattle.std.proofs.Common.{true, ◌≡◌, ℕ, zero, suc, ◌+◌, ◌≤◌, ◌<◌, arith, refl, sym, ap, ◌∙◌, List, [], ◌++◌, length, take, append_assoc, append-nil}
 use Rattle.std.proofs.lemmas.Bool.{cases_lt}
 use mathlib.Core.Logic.{⊎_elim}
+use borrow.Author.Tests.{leb-true}
 use Rattle.constraint.specs.Reading.{equalities}
+use Rattle.constraint_check.specs.Record.{EQUALITIES}
+use Rattle.constraint_check.specs.Tests.{tests}
+use Rattle.constraint_check.proofs.Accepted.{tested}
 use Rattle.constraint_text.proofs.Printing.{front-cut}
 use Rattle.season_trees.specs.Count.{Calibration}
 use Rattle.season_text.specs.Text.{line_of, lines_of, share_of, report_text}
+
+-- an accepted record has few equalities
+pub few-lines : (b : List ℕ) → tests b ≡ true → equalities b ≤ EQUALITIES
+few-lines b a = leb-true (equalities b) EQUALITIES (tested b a).equalities-few
 
 module _ (b : List ℕ) (cs : List Calibration) where
   -- line k stands behind the first k lines, with more behind it

@@ -9,6 +9,7 @@ ghost use Rattle.streams.specs.Streams.{Whole};
 ghost use Rattle.season_entry.specs.Entry.{Counted};
 ghost use Rattle.season_text.specs.Printing.{LinePrinted, SharePrinted, ReportPrinted};
 
+use constraint::reading::place_at;
 pub use line::{Line, share_line, totals_line};
 use season_count::Count;
 use season_entry::report::{share_of, totals_of};
@@ -25,10 +26,11 @@ fn print_totals<W: Write>(
     k: usize,
 ) -> Result<usize, Failed>
     requires counted { Counted r.now.bytes.now count.now }
-    requires { k < equalities r.now.bytes.now }
+    requires k_in_bounds { k < equalities r.now.bytes.now }
     ensures { LinePrinted r.now.bytes.now count.now k result (W.contents to.old) (W.contents to.new) }
 {
-    let line = totals_line(k + 1, r.equality(k).place, totals_of(r, count, k));
+    let place = place_at(r.bytes, r.layout.equalities_at, k);
+    let line = totals_line(k + 1, place, totals_of(r, count, k));
     write_output(rt, to, line.as_str().as_bytes())
 }
 

@@ -1,4 +1,4 @@
-use Rattle.std.proofs.Common.{◌≡◌, List, ℕ, ap, subst, ◌∙◌}
+use Rattle.std.proofs.Common.{ap, subst, ◌∙◌}
 use Rattle.streams.specs.Streams.{Added}
 use Rattle.season_text.specs.Text.{share_text, share_of}
 use Rattle.season_text.proofs.print_share.Goals as goal
