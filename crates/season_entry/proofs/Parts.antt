@@ -44,10 +44,6 @@ module _ (b : List ℕ) {l : Layout} (e : l ≡ layout_of b) where
         (word_at-fits b 5 bytes).fits,
       )
 
-  pub part-is : take (4 * l.size) b ≡ record_part b
-  unfolding record_part
-  part-is = ap (λ (n : ℕ). take (4 * n) b) size-is
-
 -- where the record ends
 module _ (b : List ℕ) {n : ℕ} (e : n ≡ 4 * size b) where
   pub front-is : {s : List ℕ} → s ≡ take n b → s ≡ record_part b
@@ -88,14 +84,17 @@ module _ (s : List ℕ) (bytes : Bytes s) where
   unfolding pick
   tested-module h = read-by s bytes ∙ ap by-tests h
 
-  -- what the check says
+-- what the check says
+module _ (s : List ℕ) where
   pub check-passed : {u : Unit {0}} → Ok u ≡ checked (constraint_read s) → tests s ≡ true
-  unfolding checked pick
-  check-passed {u} g = go (tests s) refl (g ∙ ap checked (read-by s bytes))
+  unfolding constraint_read checked pick
+  check-passed {u} g = go (legal (constraint_of s)) refl (same s (constraint_bytes (constraint_of s))) refl g
     where
-      go : (t : Bool) → tests s ≡ t → Ok u ≡ checked (by-tests t) → t ≡ true
-      go true k w = refl
-      go false k w = absurd cc
+      go : (l : Bool) → legal (constraint_of s) ≡ l → (t : Bool) → same s (constraint_bytes (constraint_of s)) ≡ t
+          → Ok u ≡ checked (pick (l && t) (Read.module-of (constraint_of s)) (Read.refused Refusal.ConstraintRecord)) → tests s ≡ true
+      go true e true f w = ap tests (same-is s (constraint_bytes (constraint_of s)) f) ∙ passes (constraint_of s) e
+      go true e false f w = absurd cc
+      go false e t f w = absurd cc
 
   pub check-refused : {e : Refusal} → Err e ≡ checked (constraint_read s) → constraint_read s ≡ Read.refused e
   unfolding checked

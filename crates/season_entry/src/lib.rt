@@ -3,7 +3,8 @@
 
 pub mod report;
 
-ghost use Rattle.std.specs.Prelude.{[], ◌≡◌, ◌≤◌, length};
+ghost use Rattle.std.specs.Prelude.{[], ◌≡◌, ◌*◌, ◌≤◌, length};
+ghost use Rattle.constraint.specs.Reading.{HEADER, size};
 ghost use Rattle.records.specs.FlatRecord.{IDS};
 ghost use Rattle.season_trees.specs.Season.{season_of, answer_for, output_for};
 ghost use Rattle.season_count.specs.Tally.{Running};
@@ -24,6 +25,14 @@ pub const MOST: usize = 1000000;
 
 pub const WORD_BYTES: usize = 4;
 
+// How many bytes the record has that a header says.
+pub fn record_bytes(header: &[u8]) -> usize
+    requires { 4 * HEADER ≤ length header.now }
+    ensures { result ≡ 4 * size header.now }
+{
+    WORD_BYTES * layout_of(header).size
+}
+
 // How many bytes the record at the front of the input has.
 fn record_length(input: &[u8]) -> Result<usize, Refusal>
     ensures { RecordLength input.now result }
@@ -31,7 +40,7 @@ fn record_length(input: &[u8]) -> Result<usize, Refusal>
     if input.len() < HEADER_BYTES {
         return Err(Refusal::ConstraintRecord);
     }
-    let long = WORD_BYTES * layout_of(input).size;
+    let long = record_bytes(input);
     if input.len() < long {
         return Err(Refusal::ConstraintRecord);
     }

@@ -25,7 +25,11 @@ unfolding left
 had-left None = tt
 had-left (Some xs) = refl
 
--- more was left, whatever it is
+-- some bytes, whatever they are
+pub had-any : (o : Option (List ℕ)) → (b : List ℕ) × Had o b
+had-any o = (left o, had-left o)
+
+-- more was left
 pub had-more : (old new : Option (List ℕ)) (xs : List ℕ) → Consumes old new xs → (ys : List ℕ) × Had old (xs ++ ys)
 had-more old new xs c = (left new, had-consumed old new xs (left new) c (had-left new))
 

@@ -46,10 +46,11 @@ fn count_blocks<R: Read>(
     ensures { BlocksCounted r.now.bytes.now many result (R.remaining input.old) (R.remaining input.new) count.new }
 {
     let inputs = inputs_of(r);
+    let n = inputs.len();
     let mut block = block_buffer();
     while count.done < many {
-        let k = fitting(inputs.len(), many - count.done);
-        let bytes = &mut block[..WORD_BYTES * (inputs.len() * k)];
+        let k = fitting(n, many - count.done);
+        let bytes = &mut block[..WORD_BYTES * (n * k)];
         fill(rt, input, bytes, Refusal::Calibrations)?;
         count.add_all(r, &inputs, bytes, k)?;
     }

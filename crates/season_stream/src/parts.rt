@@ -3,11 +3,10 @@ ghost use Rattle.season_stream.specs.Stream.{RecordTaken};
 ghost use Rattle.season_stream.specs.Parts.{Filled, CountTaken, Ended};
 
 use super::Stop;
-use constraint::reading::layout_of;
 use constraint_check::check_constraint;
 use records::flat_record::HEADER_BYTES;
 use records::refusals::Refusal;
-use season_entry::{MOST, WORD_BYTES};
+use season_entry::{MOST, WORD_BYTES, record_bytes};
 use std::io::Read;
 use streams::read_input;
 use words::count;
@@ -43,7 +42,7 @@ pub fn read_record<R: Read>(
     ensures { RecordTaken result (R.remaining input.old) (R.remaining input.new) buf.new }
 {
     fill(rt, input, &mut buf[..HEADER_BYTES], Refusal::ConstraintRecord)?;
-    let long = WORD_BYTES * layout_of(buf).size;
+    let long = record_bytes(buf);
     if long > RECORD_BYTES {
         return Err(Stop::Refused(Refusal::ConstraintRecord));
     }

@@ -54,11 +54,11 @@ fitting n rest k h l r m q e = record {
 range-append : (cs ds : List Calibration) → all_in_range (cs ++ ds) ≡ (all_in_range cs && all_in_range ds)
 unfolding all_in_range
 range-append [] ds = refl
-range-append (c ∷ cs) ds = ap (λ (t : Bool). in_range c && t) (range-append cs ds) ∙ go (in_range c) (all_in_range cs)
+range-append (c ∷ cs) ds = ap (λ (t : Bool). in_range c && t) (range-append cs ds) ∙ go (in_range c) (all_in_range cs) (all_in_range ds)
   where
-    go : (a b : Bool) {t : Bool} → (a && (b && t)) ≡ ((a && b) && t)
-    go true b = refl
-    go false b = refl
+    go : (a b t : Bool) → (a && (b && t)) ≡ ((a && b) && t)
+    go true b t = refl
+    go false b t = refl
 
 -- ---- blocks of calibrations of n elements
 
@@ -95,12 +95,12 @@ module _ (n many : ℕ) where
         ∙ range-append (rows (d + k) 0 (calibration_from all n)) (rows m (0 + (d + k)) (calibration_from all n))
         ∙ ap (λ (t : Bool). t && all_in_range (rows m (0 + (d + k)) (calibration_from all n)))
         (ap all_in_range front ∙ range-append (rows d 0 (calibration_from bs n)) (rows k 0 (calibration_from ys n))) in
-        ap (λ (t : Bool). leb (4 * (n * many)) (length all) && t) (parts ∙ go (all_in_range (rows d 0 (calibration_from bs n))) h)
+        ap (λ (t : Bool). leb (4 * (n * many)) (length all) && t) (parts ∙ go (all_in_range (rows d 0 (calibration_from bs n))) (all_in_range (rows m (0 + (d + k)) (calibration_from all n))) h)
         ∙ no (leb (4 * (n * many)) (length all))
       where
-        go : (a : Bool) {b c : Bool} → b ≡ false → ((a && b) && c) ≡ false
-        go true e = rw e
-        go false e = refl
+        go : (a c : Bool) {b : Bool} → b ≡ false → ((a && b) && c) ≡ false
+        go true c e = rw e
+        go false c e = refl
 
         no : (a : Bool) → (a && false) ≡ false
         no true = refl
@@ -118,6 +118,19 @@ module _ (w : List ℕ) (n many : ℕ) (four : length w ≡ 4) (word : many ≡ 
       ap (λ (j : ℕ). rows j 0 (calibration_at (w ++ r) n)) (word-is r)
       ∙ rows_same (calibration_at (w ++ r) n) (calibration_from r n) many 0 (λ k a b. counted-at w r n k four)
 
+  out-of-range : (r : List ℕ) → all_in_range (rows many 0 (calibration_from r n)) ≡ false → well_counted (w ++ r) n ≡ false
+  unfolding well_counted
+  out-of-range r k =
+      let e : all_in_range (calibrations_of (w ++ r) n) ≡ false = ap all_in_range (calibrations-are r) ∙ k in
+      ap (λ (t : Bool). leb 4 (length (w ++ r)) && (leb (word_at (w ++ r) 0) MOST && (eqb (length (w ++ r)) (4 * (1 + n * word_at (w ++ r) 0)) && t))) e
+      ∙ none (leb 4 (length (w ++ r))) (leb (word_at (w ++ r) 0) MOST) (eqb (length (w ++ r)) (4 * (1 + n * word_at (w ++ r) 0)))
+    where
+      none : (a b c : Bool) → (a && (b && (c && false))) ≡ false
+      none true true true = refl
+      none true true false = refl
+      none true false c = refl
+      none false b c = refl
+
   -- not enough bytes, or one out of range
   pub rest-refused : (r : List ℕ) → well_filled r n many ≡ false → well_counted (w ++ r) n ≡ false
   unfolding well_filled
@@ -132,19 +145,6 @@ module _ (w : List ℕ) (n many : ℕ) (four : length w ≡ 4) (word : many ≡ 
       go : (a : Bool) {b : Bool} → a ≡ true → (a && b) ≡ false → b ≡ false
       go true e k = k
       go false e k = absurd cc
-
-      out-of-range : (r : List ℕ) → all_in_range (rows many 0 (calibration_from r n)) ≡ false → well_counted (w ++ r) n ≡ false
-      unfolding well_counted
-      out-of-range r k =
-          let e : all_in_range (calibrations_of (w ++ r) n) ≡ false = ap all_in_range (calibrations-are r) ∙ k in
-          (ap (λ (t : Bool). leb 4 (length (w ++ r)) && (leb (word_at (w ++ r) 0) MOST && (eqb (length (w ++ r)) (4 * (1 + n * word_at (w ++ r) 0)) && t))) e)
-          ∙ none (leb 4 (length (w ++ r))) (leb (word_at (w ++ r) 0) MOST) (eqb (length (w ++ r)) (4 * (1 + n * word_at (w ++ r) 0)))
-
-      none : (a b c : Bool) → (a && (b && (c && false))) ≡ false
-      none true true true = refl
-      none true true false = refl
-      none true false c = refl
-      none false b c = refl
 
   -- bytes left over
   pub left-over : (r z : List ℕ) → length r ≡ 4 * (n * many) → 0 < length z → well_counted (w ++ (r ++ z)) n ≡ false
@@ -163,9 +163,17 @@ module _ (w : List ℕ) (n many : ℕ) (four : length w ≡ 4) (word : many ≡ 
 -- no count, or a larger one
 pub count-refused : (b : List ℕ) (n : ℕ) → (leb 4 (length b) && leb (word_at b 0) MOST) ≡ false → well_counted b n ≡ false
 unfolding well_counted
-count-refused b n h = go (leb 4 (length b)) (leb (word_at b 0) MOST) h
+count-refused b n h =
+    go (leb 4 (length b)) (leb (word_at b 0) MOST) (eqb (length b) (4 * (1 + n * word_at b 0)) && all_in_range (calibrations_of b n)) h
   where
-    go : (s t : Bool) {u : Bool} → (s && t) ≡ false → (s && (t && u)) ≡ false
-    go true true e = absurd cc
-    go true false e = refl
-    go false t e = refl
+    go : (s t u : Bool) → (s && t) ≡ false → (s && (t && u)) ≡ false
+    go true true u e = absurd cc
+    go true false u e = refl
+    go false t u e = refl
+
+pub larger : (w ys : List ℕ) → length w ≡ 4 → 1000000 < word_at w 0 → (leb 4 (length (w ++ ys)) && leb (word_at (w ++ ys) 0) MOST) ≡ false
+larger w ys e h = go (leb 4 (length (w ++ ys))) (lt-leb (word_at (w ++ ys) 0) 1000000 (omega (arith, word-front w ys 0 (omega (arith, e)), h)))
+  where
+    go : (a : Bool) {b : Bool} → b ≡ false → (a && b) ≡ false
+    go true e = e
+    go false e = refl
