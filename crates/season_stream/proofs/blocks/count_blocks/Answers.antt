@@ -43,7 +43,7 @@ loop-count-smaller g c =
     let n = c.len-n.ensures.value ∙ ap length c.inputs_of-inputs.ensures in
     let long = block-long _ (elements b) c.fitting-k.result _ c.loop-count.block c.fill.auto.buf c.fitting-k.array_long c.fitting-k.ensures.within n in
     let m = ap length (c.deref.ensures.0 ∙ c.inputs_of-inputs.ensures) in
-    let new = added b c.fitting-k.result _ (elements b) c.fill.new.buf _ _ _ m c.in_ok-add_all.ensures in
+    let new = added b c.fitting-k.result _ (elements b) c.fill.new.buf c.loop-count.count c.add_all.new.self (Ok tt) m c.in_ok-add_all.ensures in
     let done = more-done b c.args.many _ _ _ c.loop-count.count c.loop-count.invariant c.fitting-k.result c.fitting-k.ensures.no_more c.fill.new.buf
     c.in_ok-fill.ensures long c.add_all.new.self new in
     let less : c.args.many - c.add_all.new.self.done < c.args.many - c.loop-count.count.done =
@@ -56,7 +56,7 @@ loop-count-preserved g c =
     let n = c.len-n.ensures.value ∙ ap length c.inputs_of-inputs.ensures in
     let long = block-long _ (elements b) c.fitting-k.result _ c.loop-count.block c.fill.auto.buf c.fitting-k.array_long c.fitting-k.ensures.within n in
     let m = ap length (c.deref.ensures.0 ∙ c.inputs_of-inputs.ensures) in
-    let new = added b c.fitting-k.result _ (elements b) c.fill.new.buf _ _ _ m c.in_ok-add_all.ensures in
+    let new = added b c.fitting-k.result _ (elements b) c.fill.new.buf c.loop-count.count c.add_all.new.self (Ok tt) m c.in_ok-add_all.ensures in
     more-read b c.args.many _ _ _ c.loop-count.count c.loop-count.invariant c.fitting-k.result c.fitting-k.ensures.no_more c.fill.new.buf
     c.in_ok-fill.ensures long c.add_all.new.self new
 
@@ -67,7 +67,7 @@ returns-in_err-add_all g c =
     let n = c.len-n.ensures.value ∙ ap length c.inputs_of-inputs.ensures in
     let long = block-long _ (elements b) c.fitting-k.result _ c.loop-count.block c.fill.auto.buf c.fitting-k.array_long c.fitting-k.ensures.within n in
     let m = ap length (c.deref.ensures.0 ∙ c.inputs_of-inputs.ensures) in
-    let new = added b c.fitting-k.result _ (elements b) c.fill.new.buf _ _ _ m c.in_err-add_all.ensures in
+    let new = added b c.fitting-k.result _ (elements b) c.fill.new.buf c.loop-count.count c.add_all.new.self (Err c.in_err-add_all.field-0.0) m c.in_err-add_all.ensures in
     rw (p.1, p.2)
     (out-of-range b c.args.many _ _ _ c.loop-count.count c.loop-count.invariant c.fitting-k.result c.fitting-k.ensures.no_more c.fill.new.buf
     c.in_ok-fill.ensures long c.add_all.new.self new)
