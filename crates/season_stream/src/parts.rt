@@ -3,16 +3,24 @@ ghost use Rattle.season_stream.specs.Stream.{RecordTaken};
 ghost use Rattle.season_stream.specs.Parts.{Filled, CountTaken, Ended};
 
 use super::Stop;
-use constraint_check::check_constraint;
-use records::flat_record::HEADER_BYTES;
+use constraint::{EQUALITY_WORDS, KEPT_WORDS};
+use constraint_check::{EQUALITIES, PROVERS, check_constraint};
+use records::NODE_WORDS;
+use records::flat_record::{HEADER, HEADER_BYTES, LISTED, NODES, PUBLICS};
 use records::refusals::Refusal;
 use season_entry::{MOST, WORD_BYTES, record_bytes};
 use std::io::Read;
 use streams::read_input;
 use words::count;
 
-// The longest record that is accepted.
-pub const RECORD_BYTES: usize = 868632;
+// The longest record that is accepted has every list at its limit.
+pub const RECORD_BYTES: usize = WORD_BYTES
+    * (HEADER
+        + PUBLICS
+        + PROVERS
+        + EQUALITY_WORDS * EQUALITIES
+        + KEPT_WORDS * LISTED
+        + NODE_WORDS * NODES);
 
 pub fn record_buffer() -> [u8; RECORD_BYTES] {
     [0u8; RECORD_BYTES]
