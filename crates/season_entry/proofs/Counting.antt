@@ -1,7 +1,7 @@
 -- The count of a rest, and its calibrations. Assumes nothing.
 use mathlib.Core.Bool.{Bool, true, false, ◌&&◌}
 use mathlib.Core.List.{List, [], ◌++◌}
-use mathlib.Core.Path.{◌≡◌, refl, sym, ap, ap₂, subst, ◌∙◌}
+use mathlib.Core.Path.{◌≡◌, refl, sym, ap, subst, ◌∙◌}
 use Prim.Native.Nat.{ℕ, ◌+◌, ◌*◌, ◌≤◌, ◌<◌}
 use native.Mathlib.Omega.{arith}
 use lib.Dec.{eqb, leb}
@@ -14,7 +14,7 @@ use Rattle.flat.specs.Record.{pick, rows}
 use Rattle.flat.proofs.Rows.{rows_same, length-rows}
 use Rattle.marks.proofs.Indices.{and_left, and_right}
 use Rattle.records.specs.declared.refusals.Refusal.{Refusal}
-use Rattle.season_trees.specs.Season.{MOST, calibration_at, calibrations_of, all_in_range, well_counted}
+use Rattle.season_trees.specs.Season.{calibration_at, calibrations_of, all_in_range, well_counted}
 use Rattle.season_trees.specs.Count.{Calibration}
 use Rattle.season_count.specs.declared.Count.{Count}
 use Rattle.season_count.specs.Tally.{calibration_from, Running, Answered}

@@ -1,11 +1,11 @@
 -- The record at the front of the bytes, and the answers by it. Assumes nothing.
 use mathlib.Core.Bool.{Bool, true, false, ◌&&◌}
 use mathlib.Core.List.{List, [], ◌∷◌}
-use mathlib.Core.Path.{◌≡◌, refl, sym, ap, subst, ◌∙◌}
-use Prim.Native.Nat.{ℕ, zero, suc, ◌*◌, ◌≤◌, ◌<◌}
+use mathlib.Core.Path.{◌≡◌, refl, sym, ap, ◌∙◌}
+use Prim.Native.Nat.{ℕ, zero, suc, ◌*◌, ◌<◌}
 use native.Mathlib.Omega.{arith}
 use lib.Dec.{leb}
-use lib.ListN.{length, get_or, take, drop, length-take}
+use lib.ListN.{length, take, drop, length-take}
 use lib.Seq.{take_all}
 use borrow.Author.Tests.{lt-leb, ne_eqb}
 use Rattle.std.specs.Prelude.{Result, Ok, Err}

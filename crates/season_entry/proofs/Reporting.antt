@@ -1,12 +1,12 @@
 -- The report, total by total. Assumes nothing.
 use mathlib.Core.List.{List, [], ◌∷◌, ◌++◌, append_assoc, append-nil}
-use mathlib.Core.Path.{◌≡◌, refl, sym, ap, ap₂, subst, ◌∙◌}
-use Prim.Native.Nat.{ℕ, zero, suc, ◌+◌, ◌-◌, ◌*◌, ◌≤◌, ◌<◌}
+use mathlib.Core.Path.{◌≡◌, refl, sym, ap, ◌∙◌}
+use Prim.Native.Nat.{ℕ, ◌+◌, ◌-◌, ◌*◌, ◌≤◌, ◌<◌}
 use native.Mathlib.Omega.{arith}
 use lib.ListN.{length, get_or, drop, length-append}
 use mathlib.Core.Bool.{true}
 use borrow.Author.Tests.{le-leb, lt-leb, leb-true}
-use Rattle.std.specs.Prelude.{Result, Ok, Err}
+use Rattle.std.specs.Prelude.{Ok, Err}
 use Rattle.words.specs.Words.{set_words, bytes_of}
 use Rattle.words.proofs.Laws.{set_words-append, set_words-bytes, length-bytes_of}
 use Rattle.flat.specs.Record.{pick, rows}
@@ -17,7 +17,7 @@ use Rattle.constraint.specs.Reading.{equalities, equalities_offset, equality_at,
 use Rattle.constraint_check.specs.Tests.{tests}
 use Rattle.constraint_check.proofs.Accepted.{tested}
 use Rattle.season_trees.specs.Values.{values_of, verdict}
-use Rattle.season_trees.specs.Count.{Calibration, number, is_held, is_failed, is_valueless, totals, all_totals, fulfils, first_from, report}
+use Rattle.season_trees.specs.Count.{Calibration, number, is_valueless, totals, all_totals, fulfils, first_from, report}
 use Rattle.season_trees.specs.Season.{Season, report_bytes, answer_for, output_for}
 use Rattle.season_trees.proofs.Laws.{totals-add-up}
 use Rattle.season_count.specs.declared.Count.{Count}

@@ -31,7 +31,11 @@ pub fn share_of(r: &Record, count: &Count) -> [u32; SHARE]
     requires { Counted r.now.bytes.now count.now }
     ensures { ShareOf r.now.bytes.now count.now result }
 {
-    [count.first as u32, count.fulfilled as u32, count.done as u32]
+    [
+        count.first as u32,
+        count.fulfilled as u32,
+        count.done as u32,
+    ]
 }
 
 // The totals of every equality, at the front of the output.

@@ -1,16 +1,14 @@
 -- From what a run over a stream counted to the entry's answer. Assumes nothing.
 use mathlib.Core.Bool.{true}
 use mathlib.Core.List.{List, ◌++◌}
-use mathlib.Core.Path.{◌≡◌, refl, sym, ap, subst, ◌∙◌}
+use mathlib.Core.Path.{◌≡◌, refl, sym, subst}
 use Prim.Native.Nat.{ℕ}
 use Rattle.std.specs.Prelude.{Option, Result, Ok, Err}
 use Rattle.std.specs.Io.KnownBytes.{Consumes}
-use lib.ListN.{length}
 use Rattle.records.specs.declared.refusals.Refusal.{Refusal}
-use Rattle.constraint.specs.Reading.{constraint_of}
 use Rattle.constraint_check.specs.Tests.{tests}
 use Rattle.season_values.specs.Record.{Bytes}
-use Rattle.season_trees.specs.Season.{calibrations_of, well_counted, season_of, answer_for, output_for}
+use Rattle.season_trees.specs.Season.{calibrations_of}
 use Rattle.season_count.specs.declared.Count.{Count}
 use Rattle.season_entry.specs.Entry.{elements, Reported}
 use Rattle.season_entry.proofs.Parts.{Answered, record-refused, rest-refused, reported}

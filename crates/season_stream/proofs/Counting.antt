@@ -1,27 +1,25 @@
 -- The calibrations that were read and counted, and what a read says that fell short. Assumes nothing.
-use mathlib.Core.Bool.{Bool, true, false}
+use mathlib.Core.Bool.{false}
 use mathlib.Core.List.{List, [], ◌++◌, append-nil}
-use mathlib.Core.Path.{◌≡◌, refl, sym, ap, subst, ◌∙◌}
-use Prim.Native.Nat.{ℕ, ◌+◌, ◌-◌, ◌*◌, ◌≤◌, ◌<◌}
+use mathlib.Core.Path.{◌≡◌, sym, ap, subst, ◌∙◌}
+use Prim.Native.Nat.{ℕ, ◌+◌, ◌-◌, ◌*◌, ◌≤◌}
 use native.Mathlib.Nat.{mul-zero, mul-add}
 use native.Mathlib.Omega.{arith}
 use lib.ListN.{length, length-append}
 use Rattle.std.specs.Prelude.{Option, Result, Ok, Err}
 use Rattle.std.specs.Io.KnownBytes.{Consumes}
 use Rattle.std.proofs.KnownBytes.{Consumes-nil, Consumes-trans}
-use Rattle.words.specs.Words.{word_at}
 use Rattle.flat.specs.Record.{rows}
 use Rattle.flat.proofs.Rows.{length-rows}
 use Rattle.records.specs.declared.refusals.Refusal.{Refusal}
 use Rattle.season_trees.specs.Count.{Calibration}
-use Rattle.season_trees.specs.Season.{MOST, calibrations_of, well_counted}
 use Rattle.season_count.specs.declared.Count.{Count}
 use Rattle.season_count.specs.Tally.{calibration_from, Running, AllAdded}
 use Rattle.season_entry.specs.Entry.{elements}
 use Rattle.season_entry.proofs.Behind.{calibrations-joined}
 use Rattle.season_stream.specs.declared.Stop.{Stop}
 use Rattle.season_stream.specs.Stream.{Had, StreamCounted}
-use Rattle.season_stream.specs.Parts.{Filled, CountTaken, Ended, Fitting, well_filled, BlocksCounted}
+use Rattle.season_stream.specs.Parts.{Filled, CountTaken, Ended, well_filled, BlocksCounted}
 use Rattle.season_stream.proofs.Had.{had-consumed, had-more}
 use Rattle.season_stream.proofs.Filling.{block-short, block-out, rest-refused, rest-counted, left-over, count-refused}
 
@@ -39,8 +37,7 @@ module _ (b : List ℕ) (many : ℕ) where
   unfolding rows
   none-read o s r =
       let d : s.done ≡ 0 = r.done_is in
-      let z : elements b * s.done ≡ 0 = ap (λ (k : ℕ). elements b * k) d ∙ mul-zero (elements b) in
-      (
+      let z : elements b * s.done ≡ 0 = ap (λ (k : ℕ). elements b * k) d ∙ mul-zero (elements b) in (
         [],
         Consumes-nil o,
         omega (arith, z),
@@ -67,13 +64,12 @@ module _ (b : List ℕ) (many : ℕ) where
 
         pub more-read : ReadSoFar b many old new s'
         more-read =
-            let bs = so-far.0 in
-            (
+            let bs = so-far.0 in (
               bs ++ ys,
               Consumes-trans old mid new bs ys so-far.1 c,
               omega (arith, length-append bs ys, so-far.2, e, mul-add n s.done k, ap (λ (j : ℕ). n * j) more-done),
               subst (λ (j : ℕ). Running b (rows j 0 (calibration_from (bs ++ ys) n)) s') (sym more-done)
-              (subst (λ (cs : List Calibration). Running b cs s') (calibrations-joined bs ys n s.done k so-far.2) more-running),
+                  (subst (λ (cs : List Calibration). Running b cs s') (calibrations-joined bs ys n s.done k so-far.2) more-running),
               omega (arith, more-done, l, so-far.4),
             )
 
@@ -83,8 +79,7 @@ module _ (b : List ℕ) (many : ℕ) where
       out-of-range a =
           let bs = so-far.0 in
           let w = a (rows s.done 0 (calibration_from bs n)) so-far.3 in
-          let more = had-more mid new ys c in
-          (
+          let more = had-more mid new ys c in (
             w.0,
             (
               bs ++ (ys ++ more.0),
@@ -98,8 +93,7 @@ module _ (b : List ℕ) (many : ℕ) where
         → Filled (Err x) Refusal.Calibrations mid new buf → BlocksCounted b many (Err x) old new' s'
     fell-short (Stop.Refused x) buf new' s' e w =
         let bs = so-far.0 in
-        let ys = w.1.0 in
-        (
+        let ys = w.1.0 in (
           w.0,
           (
             bs ++ ys,
@@ -121,13 +115,12 @@ module _ (b : List ℕ) where
     word = t.1.0
 
     pub blocks-missing : (x : Stop) (new : Option (List ℕ)) (s : Count) → BlocksCounted b many (Err x) mid new s → StreamCounted b (Err x) old s
-    blocks-missing (Stop.Refused x) new s w =
-        (
-          word ++ w.1.0,
-          had-consumed old mid word w.1.0 t.1.1 w.1.1,
-          w.0,
-          rest-refused word (elements b) many t.1.2 t.1.3 t.0 w.1.0 w.1.2,
-        )
+    blocks-missing (Stop.Refused x) new s w = (
+      word ++ w.1.0,
+      had-consumed old mid word w.1.0 t.1.1 w.1.1,
+      w.0,
+      rest-refused word (elements b) many t.1.2 t.1.3 t.0 w.1.0 w.1.2,
+    )
     blocks-missing Stop.Failed new s w = tt
 
     pub at-end : (a : Result (Unit {0}) Stop) (new : Option (List ℕ)) (s : Count) → BlocksCounted b many (Ok tt) mid new s → Ended a new
@@ -135,8 +128,7 @@ module _ (b : List ℕ) where
     at-end (Ok u) new s w h =
         let r = w.0 in
         let whole = subst (Had mid) (append-nil r) (had-consumed mid new r [] w.1 h) in
-        let counted = rest-counted word (elements b) many t.1.2 t.1.3 t.0 r w.2 w.3.range in
-        (
+        let counted = rest-counted word (elements b) many t.1.2 t.1.3 t.0 r w.2 w.3.range in (
           word ++ r,
           had-consumed old mid word r t.1.1 whole,
           counted.0,
@@ -144,8 +136,7 @@ module _ (b : List ℕ) where
         )
     at-end (Err (Stop.Refused x)) new s w h =
         let r = w.0 in
-        let z = h.1.0 in
-        (
+        let z = h.1.0 in (
           word ++ (r ++ z),
           had-consumed old mid word (r ++ z) t.1.1 (had-consumed mid new r z w.1 h.1.1),
           h.0,

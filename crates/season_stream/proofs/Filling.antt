@@ -1,7 +1,7 @@
 -- Calibrations by blocks. Assumes nothing.
 use mathlib.Core.Bool.{Bool, true, false, ◌&&◌}
-use mathlib.Core.List.{List, [], ◌∷◌, ◌++◌, append_assoc, append-nil}
-use mathlib.Core.Path.{◌≡◌, refl, sym, ap, ap₂, subst, ◌∙◌}
+use mathlib.Core.List.{List, [], ◌∷◌, ◌++◌, append_assoc}
+use mathlib.Core.Path.{◌≡◌, refl, sym, ap, subst, ◌∙◌}
 use Prim.Native.Nat.{ℕ, zero, suc, ◌+◌, ◌-◌, ◌*◌, ◌/◌, ◌%◌, ◌≤◌, ◌<◌}
 use native.Mathlib.Nat.{mod-add-div, mod-lt, mul_assoc, mul-le-mul_left, zero-mul, mul-add}
 use native.Mathlib.Omega.{arith}
@@ -11,7 +11,7 @@ use Rattle.std.proofs.lemmas.Bool.{cases_lt}
 use lib.ListN.{length, length-append}
 use borrow.Author.Tests.{lt-leb, le-leb}
 use Rattle.words.specs.Words.{word_at}
-use Rattle.flat.specs.Record.{pick, rows}
+use Rattle.flat.specs.Record.{rows}
 use Rattle.flat.proofs.Rows.{rows_append, rows_same}
 use Rattle.season_trees.specs.Count.{Calibration}
 use Rattle.season_trees.specs.Season.{MOST, calibration_at, calibrations_of, in_range, all_in_range, well_counted}

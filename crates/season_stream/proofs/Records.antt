@@ -1,17 +1,16 @@
 -- The record at the front of a stream. Assumes nothing.
-use mathlib.Core.Bool.{Bool, true, false, ◌&&◌}
-use mathlib.Core.List.{List, [], ◌++◌}
+use mathlib.Core.Bool.{Bool, true, false}
+use mathlib.Core.List.{List, ◌++◌}
 use mathlib.Core.Path.{◌≡◌, refl, sym, ap, subst, ◌∙◌}
-use Prim.Native.Nat.{ℕ, ◌+◌, ◌-◌, ◌*◌, ◌≤◌, ◌<◌}
+use Prim.Native.Nat.{ℕ, ◌-◌, ◌*◌, ◌≤◌, ◌<◌}
 use native.Mathlib.Omega.{arith}
 use lib.ListN.{length, take, drop, length-append, length-take}
-use lib.Seq.{take_all, take_at, drop_at, length-take-le}
+use lib.Seq.{take_at, drop_at, length-take-le}
 use mathlib.Core.Logic.{⊎_elim}
 use borrow.Author.Tests.{leb-true}
 use Rattle.std.proofs.lemmas.Bool.{cases_lt}
-use Rattle.words.specs.Words.{word_at}
 use Rattle.records.specs.declared.refusals.Refusal.{Refusal}
-use Rattle.constraint.specs.Reading.{size, layout_of}
+use Rattle.constraint.specs.Reading.{size}
 use Rattle.constraint_check.specs.Record.{Read, constraint_read}
 use Rattle.constraint_check.specs.Tests.{tests}
 use Rattle.constraint_check.proofs.Accepted.{tested}
@@ -110,8 +109,7 @@ head-missing Stop.Failed old new new' h buf l w = tt
 pub rest-missing : (s : Stop) (old mid new new' : Option (List ℕ)) (h part buf : List ℕ) → length h ≡ 24 → length part ≡ 4 * size h - 24 → Consumes old mid h
     → Filled (Err s) Refusal.ConstraintRecord mid new part → RecordTaken (Err s) old new' buf
 rest-missing (Stop.Refused e) old mid new new' h part buf l k c w =
-    let b = w.1.0 in
-    (
+    let b = w.1.0 in (
       h ++ b,
       had-consumed old mid h b c w.1.1,
       ends-early h b (omega (arith, l)) (omega (arith, length-append h b, l, w.1.2, k)) ∙ ap Read.refused (sym w.0),
@@ -141,10 +139,9 @@ module _ (h t m : List ℕ) (n : ℕ) (head : length h ≡ 24) (rest : length m 
   pub parts-refused : (old mid new : Option (List ℕ)) {e : Refusal} → Consumes old mid h → Consumes mid new m → n ≡ 4 * size h
       → constraint_read (take n buffer) ≡ Read.refused e → (b : List ℕ) × Had old b × (constraint_read (record_part b) ≡ Read.refused e)
   parts-refused old mid new p q k w =
-      let more = had-more old new (h ++ m) (Consumes-trans old mid new h m p q) in
-      (
+      let more = had-more old new (h ++ m) (Consumes-trans old mid new h m p q) in (
         _,
         more.1,
         whole-refused (h ++ m) more.0 (omega (arith, whole-long, l)) (omega (arith, whole-long, k, size-behind h m (omega (arith, head))))
-        (ap constraint_read (sym two-parts) ∙ w),
+            (ap constraint_read (sym two-parts) ∙ w),
       )

@@ -1,5 +1,5 @@
 -- What the parts of a run over a stream answer. A reader's bytes may be known or not: all is said of some bytes, which are those it had left where these are known.
-use Rattle.std.specs.Prelude.{true, false, List, ◌≡◌, ℕ, ◌+◌, ◌*◌, ◌≤◌, length, take, Option, Some, None, Result, Ok, Err}
+use Rattle.std.specs.Prelude.{true, false, List, ◌≡◌, ℕ, ◌≤◌, length, take, Option, Some, None, Result, Ok, Err}
 use Rattle.std.specs.Io.KnownBytes.{Consumes}
 use Rattle.records.specs.declared.refusals.Refusal.{Refusal}
 use Rattle.constraint_check.specs.Record.{Read, constraint_read}

@@ -41,7 +41,12 @@ pub fn read_record<R: Read>(
 ) -> Result<usize, Stop>
     ensures { RecordTaken result (R.remaining input.old) (R.remaining input.new) buf.new }
 {
-    fill(rt, input, &mut buf[..HEADER_BYTES], Refusal::ConstraintRecord)?;
+    fill(
+        rt,
+        input,
+        &mut buf[..HEADER_BYTES],
+        Refusal::ConstraintRecord,
+    )?;
     let long = record_bytes(buf);
     if long > RECORD_BYTES {
         return Err(Stop::Refused(Refusal::ConstraintRecord));

@@ -1,10 +1,8 @@
 -- `season_entry::count_in` meets its contract. Assumes nothing.
 use native.Mathlib.Omega.{arith}
-use mathlib.Core.Path.{◌≡◌, sym, ap, subst, ◌∙◌}
-use Prim.Native.Nat.{ℕ, ◌+◌, ◌*◌, ◌≤◌, ◌<◌}
-use lib.ListN.{length}
+use mathlib.Core.Path.{sym, ap, ◌∙◌}
+use Prim.Native.Nat.{ℕ, ◌+◌, ◌*◌}
 use Rattle.std.specs.Prelude.{Ok}
-use Rattle.season_entry.specs.Entry.{count_in}
 use Rattle.season_entry.proofs.Counting.{no-count, larger-count, other-length, just-counted}
 use Rattle.season_entry.proofs.count_in.Goals as goal
 use Rattle.season_entry.proofs.count_in.Goals.{then-many-gt-MOST-via-then-many-gt-MOST, then-many-gt-MOST-via-else-many-gt-MOST+then-rest-n}

@@ -1,15 +1,11 @@
 -- `season_entry::season` meets its contract. Assumes nothing.
 use native.Mathlib.Omega.{arith}
-use mathlib.Core.Bool.{true}
-use mathlib.Core.List.{List}
-use mathlib.Core.Path.{◌≡◌, refl, sym, ap, ◌∙◌}
-use Prim.Native.Nat.{ℕ, ◌*◌, ◌≤◌}
-use lib.ListN.{length}
+use mathlib.Core.Path.{◌≡◌, ap, ◌∙◌}
 use Rattle.std.proofs.lemmas.Result.{err_from_is_err_and}
 use Rattle.constraint_check.specs.Tests.{tests}
-use Rattle.season_trees.specs.Season.{record_part, rest_part, calibrations_of}
+use Rattle.season_trees.specs.Season.{record_part, rest_part}
 use Rattle.season_entry.specs.Entry.{elements}
-use Rattle.season_entry.proofs.Parts.{Answered, front-is, back-is, record-refused, rest-refused, reported}
+use Rattle.season_entry.proofs.Parts.{front-is, back-is, record-refused, rest-refused, reported}
 use Rattle.season_entry.proofs.Counting.{few-counted}
 use Rattle.season_entry.proofs.season.Goals as goal
 use Rattle.season_entry.proofs.season.Goals.{After-new-r}

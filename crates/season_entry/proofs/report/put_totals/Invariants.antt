@@ -1,6 +1,5 @@
 use mathlib.Core.List.{List}
 use mathlib.Core.Path.{◌≡◌}
-use Prim.Native.Nat.{ℕ}
 use lib.ListN.{length}
 use Rattle.words.specs.Words.{set_words}
 use Rattle.flat.specs.Record.{rows}
@@ -13,6 +12,6 @@ abbrev pub invariant-loop-k : goal.invariant-loop-k
 invariant-loop-k l = record {
   so-far : (cs : List Calibration) → Running l.r.bytes.now cs l.count
       → l.out ≡ set_words l.initial.out 0 (all_totals (constraint_of l.r.bytes.now) cs
-          (rows l.k 0 (equality_at l.r.bytes.now (equalities_offset l.r.bytes.now))));
+      (rows l.k 0 (equality_at l.r.bytes.now (equalities_offset l.r.bytes.now))));
   long : length l.out ≡ length l.initial.out;
 }

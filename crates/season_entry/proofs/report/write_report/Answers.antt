@@ -1,8 +1,7 @@
 -- `season_entry::report::write_report` meets its contract. Assumes nothing.
 use native.Mathlib.Omega.{arith}
-use mathlib.Core.List.{List}
-use mathlib.Core.Path.{◌≡◌, ap, ◌∙◌}
-use Prim.Native.Nat.{ℕ, ◌+◌, ◌*◌, ◌≤◌}
+use mathlib.Core.Path.{ap, ◌∙◌}
+use Prim.Native.Nat.{ℕ, ◌+◌, ◌*◌}
 use Rattle.words.specs.Words.{set_words}
 use Rattle.season_values.proofs.Laid.{equalities-laid}
 use Rattle.season_entry.proofs.Reporting.{equalities-few, no-room, report-put}

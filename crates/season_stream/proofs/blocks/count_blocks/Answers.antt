@@ -1,7 +1,7 @@
 -- `season_stream::blocks::count_blocks` meets its contract. Assumes nothing.
 use native.Mathlib.Omega.{arith}
 use mathlib.Core.List.{List}
-use mathlib.Core.Path.{◌≡◌, sym, ap, subst, ◌∙◌}
+use mathlib.Core.Path.{◌≡◌, ap, subst, ◌∙◌}
 use Prim.Native.Nat.{ℕ, ◌-◌, ◌*◌, ◌≤◌, ◌<◌}
 use lib.ListN.{length, take, length-take}
 use Rattle.std.specs.Prelude.{Result, Ok, Err}

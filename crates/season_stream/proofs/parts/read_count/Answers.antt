@@ -1,7 +1,6 @@
 -- `season_stream::parts::read_count` meets its contract. Assumes nothing.
 use native.Mathlib.Omega.{arith}
 use mathlib.Core.Path.{◌≡◌, refl}
-use Prim.Native.Nat.{ℕ}
 use lib.ListN.{length}
 use Rattle.season_stream.proofs.Had.{had-more}
 use Rattle.season_stream.proofs.Filling.{larger}

@@ -1,10 +1,10 @@
 -- `season_stream::parts::read_record` meets its contract. Assumes nothing.
 use native.Mathlib.Omega.{arith}
 use mathlib.Core.List.{List, ◌++◌}
-use mathlib.Core.Path.{◌≡◌, refl, sym, ap, subst, ◌∙◌}
-use Prim.Native.Nat.{ℕ, ◌-◌, ◌*◌, ◌≤◌, ◌<◌}
+use mathlib.Core.Path.{◌≡◌, ap, ◌∙◌}
+use Prim.Native.Nat.{ℕ, ◌-◌, ◌*◌, ◌≤◌}
 use borrow.Rule.Slice.PartMut.{post_of}
-use lib.ListN.{length, take}
+use lib.ListN.{length}
 use Rattle.std.proofs.lemmas.Result.{err_from_is_err_and}
 use Rattle.constraint.specs.Reading.{size}
 use Rattle.season_entry.proofs.Parts.{check-passed, check-refused}
@@ -60,8 +60,7 @@ returns g c =
     let n = c.record_bytes-long.result in
     let long = said h t head c.record_bytes-long.ensures in
     let rest : length c.fill-2.new.buf ≡ n - 24 = omega (arith, c.fill-2.auto.buf) in
-    let room : 24 ≤ n = omega (arith, long) in
-    (
+    let room : 24 ≤ n = omega (arith, long) in (
       within-buffer h t c.fill-2.new.buf n head rest room,
       check-passed _ c.in_ok-check_constraint.ensures,
       parts-consumed h t c.fill-2.new.buf n head rest room _ _ _ c.in_ok-fill.ensures c.in_ok-fill-2.ensures,
