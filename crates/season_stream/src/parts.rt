@@ -14,10 +14,6 @@ use words::count;
 // The longest record that is accepted.
 pub const RECORD_BYTES: usize = 868632;
 
-pub fn record_buffer() -> [u8; RECORD_BYTES] {
-    [0u8; RECORD_BYTES]
-}
-
 // Fills the buffer, or `missing` where the input ends before.
 pub fn fill<R: Read>(
     rt: &impl Eprint,
