@@ -1,6 +1,6 @@
 /* A plain loop over a season's calibrations, for tools/season_times.py: the time of program season is held against it. It trusts its input: a legal
    constraint record without kept definitions, operations 0 to 4, 7, 8, and as many calibrations as the count says. The field's arithmetic is the
-   port's: residues by %, the centred element, the same inverse. Writes the report's words. */
+   port's: residues by %, the centred element, the same inverse; without branches on signs, as the port's are compiled. Writes the report's words. */
 #include <stdint.h>
 #include <stdio.h>
 #include <stdlib.h>
@@ -10,8 +10,11 @@
 #define NONE INT64_MIN
 #define BLOCK 262144
 
-static uint64_t residue(int64_t x) { return x < 0 ? P - 1 - (uint64_t)(-(x + 1)) % P : (uint64_t)x % P; }
-static int64_t centred(uint64_t r) { return r <= HALF ? (int64_t)r : -(int64_t)(P - r); }
+static uint64_t residue(int64_t x) {
+    uint64_t sign = (uint64_t)(x >> 63), r = ((uint64_t)x ^ sign) % P;
+    return (r ^ sign) + (sign & P);
+}
+static int64_t centred(uint64_t r) { return (int64_t)r - (-(int64_t)(r > HALF) & (int64_t)P); }
 static uint64_t small[513];
 static uint64_t inverse(uint64_t b) {
     uint64_t factor = 1;

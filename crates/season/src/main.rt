@@ -13,6 +13,7 @@ use streams::{Failed, open_standard};
 // Three totals of each equality, the first place, the share.
 const REPORT_BYTES: usize = 4 * (3 * EQUALITIES + 3);
 
+// Kept as it is: where a literal stands in the body that uses it, its proof computes the array place by place.
 fn report_buffer() -> [u8; REPORT_BYTES] {
     [0u8; REPORT_BYTES]
 }

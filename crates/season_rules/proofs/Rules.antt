@@ -138,7 +138,10 @@ each-term Q (Term.Constant c) f = tt
 
 side-in : (Q : ℕ → Type 0) (s : Side) → ((v : ℕ) → in_side v s ≡ true → Q v) → InSide Q s
 unfolding in_side
-side-in Q (Side.infixed o x y) f = (each-term Q x (λ v h. f v (or_left (in_term v x) (in_term v y) h)), each-term Q y (λ v h. f v (or_right (in_term v x) (in_term v y) h)))
+side-in Q (Side.infixed o x y) f = (
+  each-term Q x (λ v h. f v (or_left (in_term v x) (in_term v y) h)),
+  each-term Q y (λ v h. f v (or_right (in_term v x) (in_term v y) h)),
+)
 side-in Q (Side.negate x) f = each-term Q x f
 side-in Q (Side.copy x) f = each-term Q x f
 

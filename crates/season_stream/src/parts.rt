@@ -22,10 +22,6 @@ pub const RECORD_BYTES: usize = WORD_BYTES
         + KEPT_WORDS * LISTED
         + NODE_WORDS * NODES);
 
-pub fn record_buffer() -> [u8; RECORD_BYTES] {
-    [0u8; RECORD_BYTES]
-}
-
 // Fills the buffer, or `missing` where the input ends before.
 pub fn fill<R: Read>(
     rt: &impl Eprint,
