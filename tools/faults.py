@@ -4,8 +4,8 @@
     python3 tools/faults.py [FOLDER [PROGRAM..]]
 
 FOLDER has the built programs, target/bin by default, after
-`tools/build.sh cut_flat equalities flatten flatten_equalities test_eval test_field test_flat test_flatten test_numbering test_source`; all ten are tried, or
-those named. Every fault has to leave a line on standard error, or end the program by a signal, and to leave on standard output nothing but a front of the
+`tools/build.sh cut_flat equalities flatten flatten_equalities season season_lines test_eval test_field test_flat test_flatten test_numbering test_season
+test_source`; all thirteen are tried, or those named. Every fault has to leave a line on standard error, or end the program by a signal, and to leave on standard output nothing but a front of the
 right bytes: none is taken for success. A test program is tried on the first cases of its input and on many that differ from what they expect, each of
 which it tells by a line; without a fault on all of its input too. Printed is a line for each fault that was not handled so, then how many were tried
 on each program and the counts; the exit status is 1 if there is one.
@@ -54,6 +54,11 @@ def many_flat(n):
     return words(1, 0, 0, 0, n, len(nodes), *sides, *(w for x in nodes for w in x))
 
 
+def many_equalities(n):
+    """A season whose report has n totals and more: the equality v0 = v1 + 1, n times, and two calibrations."""
+    return words(2, 0, 0, n, 0, 0, *((0, 0, 3, 0, 1, 1, 1, 0) * n), 2, 2, 1, 5, 5)
+
+
 # The inputs of the test programs are parts, one after the other. Of a part: how many words say its length, how many bytes it has by these, and which word
 # says what to expect.
 BASE, REFUSED = 0xFFFFFFFF, 0xFFFF0000
@@ -61,6 +66,7 @@ PARTS = {
     "test_eval": (3, lambda length, runs, size: 12 + 8 * runs + length + size, 4),
     "test_flat": (4, lambda length, room, store, answer: 16 + length + (answer if answer < REFUSED else 0), 3),
     "test_flatten": (3, lambda length, runs, size: 12 + 12 * runs + length + size, 5),
+    "test_season": (3, lambda length, room, answer: 12 + length + (answer if answer < REFUSED else 0), 2),
     "test_numbering": (4, lambda length, answer, ids, publics: 16 + length + 4 * (ids + publics), 1),
     "test_source": (2, lambda length, size: 24 + (size if length == BASE else 0), 1),
 }
@@ -91,9 +97,12 @@ def many_different(name):
     for part in parts(name):
         if name == "test_source" and word(part, 0) == BASE:
             before = part
-        elif name != "test_flat" or word(part, k) > REFUSED:
+        elif name not in ("test_flat", "test_season") or word(part, k) > REFUSED:
             return before + 400 * (part[:4 * k] + words(word(part, k) + 1) + part[4 * k + 4:])
 
+
+# programs that take no arguments
+NONE = ("season", "season_lines")
 
 # programs that take numbers as arguments: some that change nothing
 NUMBERS = {"flatten": ("0" * 3000 + "1048560", "0" * 4000 + "786712"), "cut_flat": ("0" * 4000 + "786712",)}
@@ -103,6 +112,8 @@ PROGRAMS = {
     "equalities": lambda: (read("crates", "equalities", "stdin"), many_flat(400)),
     "flatten": lambda: (read("crates", "flatten", "stdin"), many_equations(400)),
     "flatten_equalities": lambda: (read("crates", "flatten_equalities", "stdin"), many_equations(400)),
+    "season": lambda: (read("crates", "season", "stdin"), many_equalities(400)),
+    "season_lines": lambda: (read("crates", "season_lines", "stdin"), many_equalities(400)),
     "test_field": lambda: (b"", b""),
     **{name: lambda name=name: (front(name), many_different(name)) for name in PARTS},
 }
@@ -215,12 +226,12 @@ def slow_reader(name, record, whole):
 def arguments(name, record, whole):
     usage = b"usage: " + name.encode()
     wrong = [("--help",), ("-x",), ("1", "2", "3", "4"), ("9" * 5000,) if name not in NUMBERS else ("x" * 5000,)]
-    if name.startswith("test_"):
+    if name.startswith("test_") or name in NONE:
         wrong += [("1",), ("",)]
     for args in wrong:
         status, out, err = run(name, record, args)
         expect("%s %s" % (name, " ".join(a[:12] for a in args)), out == b"" and said(err, usage))
-    if name.startswith("test_"):
+    if name.startswith("test_") or name in NONE:
         return
     if name in NUMBERS:
         status, out, err = run(name, record, NUMBERS[name])

@@ -90,10 +90,10 @@ named-or : (ℕ → ℤ) → Option ℕ → ℤ
 named-or ρ none = pos 0
 named-or ρ (some x) = ρ x
 
-by-id : Module → (ℕ → ℤ) → Assignment
+pub by-id : Module → (ℕ → ℤ) → Assignment
 by-id m ρ i = named-or ρ (name_of i (names_of m).globals)
 
-by-id-elements : (m : Module) (ρ : ℕ → ℤ) → ((x : ℕ) → elem P (ρ x) ≡ ρ x) → Elements (by-id m ρ)
+pub by-id-elements : (m : Module) (ρ : ℕ → ℤ) → ((x : ℕ) → elem P (ρ x) ≡ ρ x) → Elements (by-id m ρ)
 unfolding by-id named-or
 by-id-elements m ρ c i = go (name_of i (names_of m).globals)
   where
@@ -101,7 +101,7 @@ by-id-elements m ρ c i = go (name_of i (names_of m).globals)
     go none = zero-element
     go (some x) = c x
 
-by-id-gives : (m : Module) (ρ : ℕ → ℤ) → Gives m ρ (by-id m ρ)
+pub by-id-gives : (m : Module) (ρ : ℕ → ℤ) → Gives m ρ (by-id m ρ)
 unfolding by-id named-or
 by-id-gives m ρ =
     let s = (module-step m).rest in

@@ -48,7 +48,8 @@ pub fn lent_bytes(rt: &impl Env, argument: usize) -> Option<usize>
     }
 }
 
-fn print_record<W: Write>(rt: &impl Eprint, to: &mut W, bytes: &[u8]) -> Result<usize, Failed>
+// Bytes on standard output, which is closed behind them.
+pub fn print_record<W: Write>(rt: &impl Eprint, to: &mut W, bytes: &[u8]) -> Result<usize, Failed>
     ensures whole { Whole result (length bytes.now) }
     ensures bytes { Added result (W.contents to.old) (W.contents to.new) bytes.now }
 {
@@ -57,7 +58,7 @@ fn print_record<W: Write>(rt: &impl Eprint, to: &mut W, bytes: &[u8]) -> Result<
 }
 
 // "refused" with the number on standard error, and nothing on standard output.
-fn print_refused(rt: &impl Eprint, refusal: Refusal) -> Result<usize, Failed>
+pub fn print_refused(rt: &impl Eprint, refusal: Refusal) -> Result<usize, Failed>
     ensures { Whole result 0 }
 {
     let number = refusal.number();

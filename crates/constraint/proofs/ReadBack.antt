@@ -132,11 +132,11 @@ module _ (m : ConstraintModule) where
   unfolding header_words H
   next-read = header 0 (omega arith)
 
-  publics-count : publics b ≡ length m.publics
+  pub publics-count : publics b ≡ length m.publics
   unfolding header_words H
   publics-count = header 1 (omega arith)
 
-  provers-count : provers b ≡ length m.provers
+  pub provers-count : provers b ≡ length m.provers
   unfolding header_words H
   provers-count = header 2 (omega arith)
 
@@ -144,11 +144,11 @@ module _ (m : ConstraintModule) where
   unfolding header_words H
   equalities-count = header 3 (omega arith)
 
-  kept-count : kept b ≡ length m.kept
+  pub kept-count : kept b ≡ length m.kept
   unfolding header_words H
   kept-count = header 4 (omega arith)
 
-  nodes-count : nodes b ≡ definitions_nodes m.kept
+  pub nodes-count : nodes b ≡ definitions_nodes m.kept
   unfolding header_words H
   nodes-count = header 5 (omega arith)
 
@@ -186,34 +186,50 @@ module _ (m : ConstraintModule) where
   unfolding K
   nodes-stand = stands-right b K N (kept_offset b) (nodes_offset b + 4 * 0) (omega (arith, length-definitions m.kept 0, kept-count)) kept-stand
 
+  pub publics-placed : Stands b HEADER m.publics
+  unfolding P
+  publics-placed = stands-left b P (Q ++ (E ++ (K ++ N))) HEADER publics-stand
+
+  pub provers-placed : Stands b (provers_offset b) m.provers
+  unfolding Q
+  provers-placed = stands-left b Q (E ++ (K ++ N)) (provers_offset b) provers-stand
+
+  pub equalities-placed : Stands b (equalities_offset b) (equalities_words m.equalities)
+  unfolding E
+  equalities-placed = stands-left b E (K ++ N) (equalities_offset b) equalities-stand
+
+  pub kept-placed : Stands b (kept_offset b) (definitions_words 0 m.kept)
+  unfolding K
+  kept-placed = stands-left b K N (kept_offset b) kept-stand
+
+  pub nodes-placed : Stands b (nodes_offset b + 4 * 0) (definitions_trees 0 m.kept)
+  unfolding N
+  nodes-placed = nodes-stand
+
   -- and are read
   publics-read : rows (publics b) 0 (public_at b) ≡ m.publics
-  unfolding P
   publics-read =
-      let h = moved b P HEADER (HEADER + 0) (omega arith) (stands-left b P (Q ++ (E ++ (K ++ N))) HEADER publics-stand) in
-      ap (λ (n : ℕ). rows n 0 (public_at b)) publics-count ∙ ids-read b P HEADER 0 h
+      let h = moved b m.publics HEADER (HEADER + 0) (omega arith) publics-placed in
+      ap (λ (n : ℕ). rows n 0 (public_at b)) publics-count ∙ ids-read b m.publics HEADER 0 h
 
   provers-read : rows (provers b) 0 (prover_at b (provers_offset b)) ≡ m.provers
-  unfolding Q
   provers-read =
       let at = provers_offset b in
-      let h = moved b Q at (at + 0) (omega arith) (stands-left b Q (E ++ (K ++ N)) at provers-stand) in
-      ap (λ (n : ℕ). rows n 0 (prover_at b at)) provers-count ∙ ids-read b Q at 0 h
+      let h = moved b m.provers at (at + 0) (omega arith) provers-placed in
+      ap (λ (n : ℕ). rows n 0 (prover_at b at)) provers-count ∙ ids-read b m.provers at 0 h
 
   pub equalities-back : All SignedEquality m.equalities → rows (equalities b) 0 (equality_at b (equalities_offset b)) ≡ m.equalities
-  unfolding E
   equalities-back signed =
       let at = equalities_offset b in
-      let h = moved b E at (at + EQUALITY-WORDS * 0) (omega arith) (stands-left b E (K ++ N) at equalities-stand) in
+      let h = moved b (equalities_words m.equalities) at (at + EQUALITY-WORDS * 0) (omega arith) equalities-placed in
       ap (λ (n : ℕ). rows n 0 (equality_at b at)) equalities-count ∙ equalities-read b m.equalities at 0 signed h
 
   kept_back : All (λ d. SignedTree d.right) m.kept → rows (kept b) 0 (definition_at b (kept_offset b) (nodes_offset b) (nodes b)) ≡ m.kept
-  unfolding K N
   kept_back signed =
       let at = kept_offset b in
-      let h = moved b K at (at + KEPT-WORDS * 0) (omega arith) (stands-left b K N at kept-stand) in
+      let h = moved b (definitions_words 0 m.kept) at (at + KEPT-WORDS * 0) (omega arith) kept-placed in
       ap (λ (n : ℕ). rows n 0 (definition_at b at (nodes_offset b) (nodes b))) kept-count
-      ∙ definitions-back b m.kept at 0 (nodes_offset b) 0 (nodes b) signed h nodes-stand (omega (arith, nodes-count))
+      ∙ definitions-back b m.kept at 0 (nodes_offset b) 0 (nodes b) signed h nodes-placed (omega (arith, nodes-count))
 
 pub read_back : ReadBack
 unfolding constraint_of

@@ -38,7 +38,7 @@ lines-all b k e =
     ap (λ t. lines_text b 0 k ++ t) (sym (line-behind b k (lines b) refl (omega arith))) ∙ append-nil (lines_text b 0 k) ∙ ap (lines_text b 0) e
 
 -- some lines and a front of the next are a front of all
-front-cut : (xs ys zs : List ℕ) (j : ℕ) → xs ++ take j ys ≡ take (length (xs ++ take j ys)) (xs ++ (ys ++ zs))
+pub front-cut : (xs ys zs : List ℕ) (j : ℕ) → xs ++ take j ys ≡ take (length (xs ++ take j ys)) (xs ++ (ys ++ zs))
 front-cut xs ys zs j =
     let split : xs ++ (ys ++ zs) ≡ (xs ++ take j ys) ++ (drop j ys ++ zs) =
     ap (λ l. xs ++ (l ++ zs)) (sym (take-append-drop j ys)) ∙ ap (λ l. xs ++ l) (append_assoc (take j ys) (drop j ys) zs)

@@ -2,10 +2,10 @@
 #![tactic(auto)]
 
 pub mod entries;
-mod lists;
+pub mod lists;
 mod measured;
 pub mod narrow;
-mod node_entry;
+pub mod node_entry;
 mod ordering;
 mod uses;
 

@@ -264,7 +264,7 @@ module _ (b : List ℕ) (bytes : (k : ℕ) → get_or b k 0 < 256) where
   rows_all Q f h zero at = tt
   rows_all Q f h (suc n) at = (h at, rows_all Q f h n (suc at))
 
-  lent_signed : SignedModule (module_of b)
+  pub lent_signed : SignedModule (module_of b)
   unfolding module_of definition_at equation_at
   lent_signed = (
     rows_all (λ d. SignedTree d.right) _ (λ k. tree-signed _ _ _) _ 0,

@@ -1,0 +1,11 @@
+pub mod OneToOne
+pub mod Lists
+pub mod Starts
+pub mod Whole
+pub mod Following
+pub mod EqualityWords
+pub mod KeptTrees
+pub mod Accepted
+pub mod Decides
+pub mod Loops
+pub mod Answers

@@ -1,0 +1,4 @@
+pub mod Record
+pub mod Tests
+pub mod Arrays
+pub mod Statements

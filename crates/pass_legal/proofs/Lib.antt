@@ -1,0 +1,3 @@
+pub mod Cuts
+pub mod Legal
+pub mod Returned

@@ -1,0 +1,4 @@
+pub mod Behind
+pub mod Parts
+pub mod Counting
+pub mod Reporting

@@ -1,0 +1,4 @@
+pub mod Rows
+pub mod Marks
+pub mod Lists
+pub mod Reading

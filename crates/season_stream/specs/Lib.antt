@@ -1,0 +1,3 @@
+pub mod Stream
+pub mod Parts
+pub mod Statement

@@ -1,0 +1,4 @@
+pub mod Values
+pub mod Count
+pub mod Season
+pub mod Statements
