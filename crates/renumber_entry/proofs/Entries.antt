@@ -9,7 +9,7 @@ use lib.ListN.{length, get_or, drop}
 use borrow.Author.Tests.{leb-true, le-leb, lt-leb}
 use Rattle.words.specs.Words.{word_at, set_words, bytes_of}
 use Rattle.words.proofs.Laws.{length-bytes_of, set_words-bytes}
-use Rattle.std.specs.Prelude.{Result, Ok, Err}
+use Rattle.std.specs.Prelude.{Result, Ok, Err, IfOk}
 use Rattle.flat.specs.Record.{pick}
 use Rattle.flat.specs.Rules.{All}
 use Rattle.flat.proofs.Rows.{length-rows, rows_at}
@@ -28,7 +28,7 @@ use Rattle.constraint_check.proofs.Decides.{read-by}
 use Rattle.renumber_trees.specs.declared.Lengths.{Lengths}
 use Rattle.renumber_trees.specs.Ids.{appearing, order, place_in}
 use Rattle.renumber_trees.specs.Renumber.{relabelled, renumbered, table_of, expanded, Carries}
-use Rattle.renumber_trees.specs.Bytes.{renumbered_for, renumber_of, room_for, lengths, renumber_answer, record_after, table_after}
+use Rattle.renumber_trees.specs.Bytes.{Renumbered, renumbered_for, renumber_of, room_for, lengths, renumber_answer, record_after, table_after}
 use Rattle.renumber_trees.specs.Bytes.{table_ids, table_fits, expanded_for, expand_of, expand_answer, output_after}
 use Rattle.renumber_trees.proofs.Lists.{In, all_in, in_all, and_both}
 use Rattle.renumber_trees.proofs.Relabelling.{relabelled-same}
@@ -299,6 +299,34 @@ module _ (b : List ℕ) (bytes : (k : ℕ) → get_or b k 0 < 256) where
     pub expand-is : (w : List ℕ) → expanded_for w (Read.module-of (constraint_of b)) ≡ expand_of b w
     unfolding expand_of
     expand-is w = ap (expanded_for w) (sym (read_of b bytes ok))
+
+-- what was written had room
+abbrev Both : ℕ → ℕ → Result Lengths Refusal → Type 0
+Both room table_room r = IfOk r (λ l. (l.record_bytes ≤ room) × (l.table_bytes ≤ table_room))
+
+abbrev One : ℕ → Result ℕ Refusal → Type 0
+One room r = IfOk r (λ n. n ≤ room)
+
+pub renumber-within : (room table_room : ℕ) (x : Renumbered) {r : Result Lengths Refusal} → r ≡ renumber_answer room table_room x
+    → IfOk r (λ l. (l.record_bytes ≤ room) × (l.table_bytes ≤ table_room))
+unfolding renumber_answer lengths room_for pick
+renumber-within room table_room (Renumbered.refused k) e = rw e tt
+renumber-within room table_room (Renumbered.made c ws) {r} e = go (leb (length (constraint_bytes c)) room) refl (leb (length (bytes_of ws)) table_room) refl e
+  where
+    go : (s : Bool) → leb (length (constraint_bytes c)) room ≡ s → (t : Bool) → leb (length (bytes_of ws)) table_room ≡ t
+        → r ≡ pick (s && t) (Ok (lengths c ws)) (Err Refusal.Output) → Both room table_room r
+    go true f true g h = subst (Both room table_room) (sym h) (leb-true _ _ f, leb-true _ _ g)
+    go true f false g h = subst (Both room table_room) (sym h) tt
+    go false f t g h = subst (Both room table_room) (sym h) tt
+
+pub expand-within : (room : ℕ) (x : Read) {r : Result ℕ Refusal} → r ≡ expand_answer room x → IfOk r (λ n. n ≤ room)
+unfolding expand_answer pick
+expand-within room (Read.refused k) e = rw e tt
+expand-within room (Read.module-of c) {r} e = go (leb (length (constraint_bytes c)) room) refl e
+  where
+    go : (s : Bool) → leb (length (constraint_bytes c)) room ≡ s → r ≡ pick s (Ok (length (constraint_bytes c))) (Err Refusal.Output) → One room r
+    go true f h = subst (One room) (sym h) (leb-true _ _ f)
+    go false f h = subst (One room) (sym h) tt
 
 -- the layout's size
 pub size-laid : (b : List ℕ) {l : Layout} → l ≡ layout_of b → l.size ≡ size b

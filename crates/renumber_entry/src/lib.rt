@@ -3,7 +3,7 @@
 
 mod table;
 
-ghost use Rattle.std.specs.Prelude.{◌≡◌, length};
+ghost use Rattle.std.specs.Prelude.{◌≡◌, ◌≤◌, length, IfOk};
 ghost use Rattle.constraint.specs.Reading.{constraint_of};
 ghost use Rattle.constraint_check.specs.Record.{Read};
 ghost use Rattle.renumber_trees.specs.Bytes.{renumbered_for, renumber_of, renumber_answer, record_after, table_after};
@@ -56,6 +56,7 @@ pub fn renumber(s: &[u8], out: &mut [u8], table: &mut [u8]) -> Result<Lengths, R
     ensures value { result ≡ renumber_answer (length out.old) (length table.old) (renumber_of s.now) }
     ensures out_after { out.new ≡ record_after out.old (length table.old) (renumber_of s.now) }
     ensures table_after { table.new ≡ table_after (length out.old) table.old (renumber_of s.now) }
+    ensures within { IfOk result (λ l. (l.record_bytes ≤ length out.old) × (l.table_bytes ≤ length table.old)) }
 {
     check_constraint(s)?;
     renumber_accepted(&Record::new(s), out, table)
@@ -80,6 +81,7 @@ fn expand_accepted(r: &Record, table: &[u8], out: &mut [u8]) -> Result<usize, Re
 pub fn expand(s: &[u8], table: &[u8], out: &mut [u8]) -> Result<usize, Refusal>
     ensures value { result ≡ expand_answer (length out.old) (expand_of s.now table.now) }
     ensures out_after { out.new ≡ output_after out.old (expand_of s.now table.now) }
+    ensures within { IfOk result (λ n. n ≤ length out.old) }
 {
     check_constraint(s)?;
     expand_accepted(&Record::new(s), table, out)

@@ -4,7 +4,7 @@ use Rattle.std.proofs.lemmas.Result.{err_from_is_err_and}
 use lib.ListN.{length}
 use Rattle.constraint_check.specs.Record.{Read}
 use Rattle.renumber_trees.specs.Bytes.{expand_answer, output_after}
-use Rattle.renumber_entry.proofs.Entries.{accepted-tests, expand-denied, expand-is}
+use Rattle.renumber_entry.proofs.Entries.{accepted-tests, expand-denied, expand-is, expand-within}
 use Rattle.renumber_entry.proofs.expand.Goals as goal
 
 pub returns-in_err-check_constraint-clause-value : goal.returns-in_err-check_constraint-clause-value
@@ -29,3 +29,11 @@ returns-clause-out_after c =
     let r = c.new.result in
     rw c.new.ensures at
     (c.expand_accepted.ensures.out_after ∙ ap (λ (x : Read). output_after c.args.out.now x) (expand-is _ r.fit r.accepted c.args.table.now))
+
+pub returns-in_err-check_constraint-clause-within : goal.returns-in_err-check_constraint-clause-within
+returns-in_err-check_constraint-clause-within c =
+    let p = err_from_is_err_and c.from_residual.result c.from_residual.ensures.1 in
+    rw p.1 tt
+
+pub returns-clause-within : goal.returns-clause-within
+returns-clause-within c = expand-within _ _ c.expand_accepted.ensures.value
