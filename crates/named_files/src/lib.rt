@@ -1,7 +1,8 @@
 // A file that the only argument names, read or written whole. What fails is said on standard error, in words.
 #![tactic(auto)]
 
-ghost use Rattle.streams.specs.Streams.{Within};
+ghost use Rattle.std.specs.Prelude.{IfOk, ◌≢◌, get_or, length};
+ghost use Rattle.streams.specs.Streams.{Within, Whole};
 
 use arrayvec::ArrayString;
 use std::fs::OpenFile;
@@ -17,7 +18,9 @@ const NAME: usize = 4096;
 pub type Name = ArrayString<NAME>;
 
 // A name in UTF-8. An option is answered by the line of usage.
-fn name_of(rt: &impl Eprint, argument: &[u8], usage: &str) -> Result<Name, Failed> {
+fn name_of(rt: &impl Eprint, argument: &[u8], usage: &str) -> Result<Name, Failed>
+    ensures { IfOk result (λ name. get_or name.bytes 0 0 ≢ 45) }
+{
     if argument.starts_with(b"-") {
         return Err(say_usage(rt, usage));
     }
@@ -29,7 +32,9 @@ fn name_of(rt: &impl Eprint, argument: &[u8], usage: &str) -> Result<Name, Faile
 }
 
 // The name that the only argument gives. None, an option and further arguments are answered by the line of usage.
-pub fn only_name(rt: &(impl Env + Eprint), usage: &str) -> Result<Name, Failed> {
+pub fn only_name(rt: &(impl Env + Eprint), usage: &str) -> Result<Name, Failed>
+    ensures { IfOk result (λ name. get_or name.bytes 0 0 ≢ 45) }
+{
     let mut room = [0u8; NAME];
     match rt.arg(1, &mut room) {
         Ok(n) if !has_argument(rt, 2) => name_of(rt, &room[..n], usage),
@@ -53,10 +58,13 @@ fn finish<F: OpenFile>(rt: &impl Eprint, name: &str, file: &F) -> Result<(), Fai
     }
 }
 
-// Writes all of the bytes to the file, over what it held.
-pub fn write_named<R: Files + Eprint>(rt: &R, name: &str, bytes: &[u8]) -> Result<(), Failed> {
+// Writes all of the bytes to the file, over what it held: how many they are.
+pub fn write_named<R: Files + Eprint>(rt: &R, name: &str, bytes: &[u8]) -> Result<usize, Failed>
+    ensures { Whole result (length bytes.now) }
+{
     let mut file = fs::create(rt, name).map_err(|error| say_failed(rt, name, error))?;
     file.write_all(bytes)
         .map_err(|error| say_failed(rt, name, error))?;
-    finish(rt, name, &file)
+    finish(rt, name, &file)?;
+    Ok(bytes.len())
 }
