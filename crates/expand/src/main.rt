@@ -26,11 +26,7 @@ fn table_buffer() -> [u8; TABLE_INPUT] {
     [0u8; TABLE_INPUT]
 }
 
-fn expand_record(
-    rt: &(impl Print + Eprint),
-    record: &[u8],
-    table: &[u8],
-) -> Result<usize, Failed> {
+fn expand_record(rt: &(impl Print + Eprint), record: &[u8], table: &[u8]) -> Result<usize, Failed> {
     let mut out = output_buffer();
     let answer = expand(record, table, &mut out);
     print_answer(rt, &mut io::writer(rt), answer, &out)

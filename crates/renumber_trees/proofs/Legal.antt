@@ -13,7 +13,8 @@ use Rattle.marks.proofs.Indices.{and_left, and_right}
 use Rattle.records.specs.FlatRecord.{IDS}
 use Rattle.constraint.specs.declared.Term.{Term}
 use Rattle.constraint.specs.Trees.{Side, Equality, ConstraintModule}
-use Rattle.constraint_check.specs.Record.{every, among, rising, is_operation, term_known, side_fits, equality_fits, kept_fits, within_limits, well_formed, legal}
+use Rattle.constraint_check.specs.Record.{every, among, rising, is_operation, term_known, side_fits, equality_fits, kept_fits}
+use Rattle.constraint_check.specs.Record.{within_limits, well_formed, legal}
 use Rattle.season_trees.specs.Values.{ids_from}
 use Rattle.renumber_trees.specs.Ids.{term_ids, side_ids, equalities_ids, leaves, kept_ids, used, appearing}
 use Rattle.renumber_trees.specs.Renumber.{relabel_term, relabel_side, relabel_equality, relabel_tree, relabel_definition, relabelled, Carries}

@@ -76,7 +76,8 @@ joined-append g (x ∷ xs) ys = ap (λ (l : List ℕ). g x ++ l) (joined-append 
 module _ (f : ℕ → ℕ) (b : List ℕ) (at : ℕ) where
   nodes-append : (from m n : ℕ) → nodes_with f b at from (m + n) ≡ nodes_with f b at from m ++ nodes_with f b at (from + m) n
   nodes-append from m n =
-      ap (joined (new_entry f)) (rows_append (node_entry b at) m n from) ∙ joined-append (new_entry f) (rows m from (node_entry b at)) (rows n (from + m) (node_entry b at))
+      ap (joined (new_entry f)) (rows_append (node_entry b at) m n from)
+      ∙ joined-append (new_entry f) (rows m from (node_entry b at)) (rows n (from + m) (node_entry b at))
 
   -- one node, by the words that stand there
   one-node : (r kind x y z : ℕ) → Stands b (at + 4 * r) (node_words kind x y z)

@@ -164,7 +164,8 @@ module _ (b : List ℕ) (bytes : Bytes b) (accepted : tests b ≡ true) where
         let E = equalities_words (map (relabel_equality f) m.equalities) in
         let K = definitions_words 0 (map (relabel_definition f) m.kept) in
         let N = definitions_trees 0 (map (relabel_definition f) m.kept) in
-        six-parts o0 o1 o2 o3 o4 o5 o6 (header_words limit p q x y z) P new.provers E K N 6 (provers_offset b) (equalities_offset b) (kept_offset b) (nodes_offset b)
+        six-parts o0 o1 o2 o3 o4 o5 o6 (header_words limit p q x y z) P new.provers E K N 6
+        (provers_offset b) (equalities_offset b) (kept_offset b) (nodes_offset b)
         h1 h2 h3 h4 h5 h6
         (header-long p q x y z)
         (omega (arith, publics-many))

@@ -7,7 +7,8 @@ use Rattle.std.specs.Prelude.{Err}
 use Rattle.records.specs.declared.refusals.Refusal.{Refusal}
 use Rattle.season_values.proofs.Laid.{next-laid}
 use Rattle.renumber_entry.proofs.Entries.{Answers, next_small, size_small, size-laid, few-ids, carries, no-record-room, no-table-room, both-written}
-use Rattle.renumber_entry.proofs.renumber_accepted.Goals.{then-out-record_bytes-via-then-out-record_bytes, then-out-record_bytes-via-else-out-record_bytes+then-table-table_bytes}
+use Rattle.renumber_entry.proofs.renumber_accepted.Goals.{then-out-record_bytes-via-then-out-record_bytes}
+use Rattle.renumber_entry.proofs.renumber_accepted.Goals.{then-out-record_bytes-via-else-out-record_bytes+then-table-table_bytes}
 use Rattle.renumber_entry.proofs.renumber_accepted.Goals as goal
 
 pub overflow_mul-record_bytes : goal.overflow_mul-record_bytes
@@ -23,7 +24,8 @@ returns-then-out-record_bytes c =
           no-record-room _ r.fit r.accepted _ _ o.order o.numbered c.args.out.now c.args.table.now _ (ap (λ (n : ℕ). 4 * n) (size-laid _ r.laid))
           w.if-out-record_bytes.true
       | then-out-record_bytes-via-else-out-record_bytes+then-table-table_bytes w ↦
-          no-table-room _ r.fit r.accepted _ _ o.order o.numbered c.args.out.now c.args.table.now (omega (arith, w.if-table-table_bytes.true, c.len.ensures.value))
+          no-table-room _ r.fit r.accepted _ _ o.order o.numbered c.args.out.now c.args.table.now
+          (omega (arith, w.if-table-table_bytes.true, c.len.ensures.value))
     ] in
     record { value = p.0; out_after = p.1; table_after = p.2 }
 

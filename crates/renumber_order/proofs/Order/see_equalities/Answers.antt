@@ -17,10 +17,8 @@ pub loop-k-preserved : goal.loop-k-preserved
 unfolding written_at
 loop-k-preserved c =
     let i = c.loop-k.invariant in
-    record {
-      end = i.end;
-      so-far = walk-turn _ _ _ _ _ walk-equalities _ _ (omega (arith, i.end, c.loop-k-test.true)) (c.see_equality.ensures ∙ ap (λ (q : Written). firsts c.loop-k.self.ids.items (written_ids q)) c.equality.ensures.value) i.so-far;
-    }
+    let seen = c.see_equality.ensures ∙ ap (λ (q : Written). firsts c.loop-k.self.ids.items (written_ids q)) c.equality.ensures.value in
+    record { end = i.end; so-far = walk-turn _ _ _ _ _ walk-equalities _ _ (omega (arith, i.end, c.loop-k-test.true)) seen i.so-far }
 
 pub returns : goal.returns
 unfolding constraint_of

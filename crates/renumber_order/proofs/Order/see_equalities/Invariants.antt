@@ -7,5 +7,6 @@ use Rattle.renumber_order.proofs.Order.see_equalities.Given as goal
 abbrev pub invariant-loop-k : goal.invariant-loop-k
 invariant-loop-k l = record {
   end : l.k-end ≡ equalities l.r.bytes.now;
-  so-far : LeftOf equalities_ids (equalities l.r.bytes.now) (equality_at l.r.bytes.now (equalities_offset l.r.bytes.now)) l.initial.self.ids.items l.self.ids.items l.k;
+  so-far : LeftOf equalities_ids (equalities l.r.bytes.now) (equality_at l.r.bytes.now (equalities_offset l.r.bytes.now))
+      l.initial.self.ids.items l.self.ids.items l.k;
 }

@@ -16,11 +16,10 @@ loop-k-init c = record { end = kept-laid _ c.args.r.now.laid; so-far = walk-star
 pub loop-k-preserved : goal.loop-k-preserved
 loop-k-preserved c =
     let i = c.loop-k.invariant in
-    record {
-      end = i.end;
-      so-far = walk-turn _ _ _ _ _ walk-kept _ _ (omega (arith, i.end, c.loop-k-test.true)) (sees-both _ (_ ∷ []) _ c.see.ensures c.see_tree.ensures
-          ∙ ap (λ (d : Definition). firsts c.loop-k.self.ids.items (d.id ∷ leaves d.right)) (sym (entry-is _ _ c.kept-d.ensures.value c.kept-d.ensures.within.1))) i.so-far;
-    }
+    let d = entry-is _ _ c.kept-d.ensures.value c.kept-d.ensures.within.1 in
+    let seen = sees-both _ (_ ∷ []) _ c.see.ensures c.see_tree.ensures
+    ∙ ap (λ (e : Definition). firsts c.loop-k.self.ids.items (e.id ∷ leaves e.right)) (sym d) in
+    record { end = i.end; so-far = walk-turn _ _ _ _ _ walk-kept _ _ (omega (arith, i.end, c.loop-k-test.true)) seen i.so-far }
 
 pub returns : goal.returns
 unfolding constraint_of

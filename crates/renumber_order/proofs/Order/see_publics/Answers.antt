@@ -15,10 +15,8 @@ loop-k-init c = record { end = publics-laid _ c.args.r.now.laid; so-far = walk-s
 pub loop-k-preserved : goal.loop-k-preserved
 loop-k-preserved c =
     let i = c.loop-k.invariant in
-    record {
-      end = i.end;
-      so-far = walk-turn _ _ _ _ _ walk-ids _ _ (omega (arith, i.end, c.loop-k-test.true)) (c.see.ensures ∙ ap (λ (v : ℕ). firsts c.loop-k.self.ids.items (v ∷ [])) c.public.ensures.value) i.so-far;
-    }
+    let seen = c.see.ensures ∙ ap (λ (v : ℕ). firsts c.loop-k.self.ids.items (v ∷ [])) c.public.ensures.value in
+    record { end = i.end; so-far = walk-turn _ _ _ _ _ walk-ids _ _ (omega (arith, i.end, c.loop-k-test.true)) seen i.so-far }
 
 pub returns : goal.returns
 unfolding constraint_of

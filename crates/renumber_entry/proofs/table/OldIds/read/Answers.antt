@@ -4,7 +4,7 @@ use Rattle.renumber_entry.proofs.Tables.{wrong-length, wrong-next, right-ids}
 use Rattle.renumber_entry.proofs.table.OldIds.read.Goals as goal
 
 pub returns-then-t-n : goal.returns-then-t-n
-returns-then-t-n c = (refl, sym (wrong-length _ _ c.if-t-n.true))
+returns-then-t-n c = (refl, sym (wrong-length c.args.t.now c.args.n c.if-t-n.true))
 
 pub returns-then-next-gt-ID_COUNT : goal.returns-then-next-gt-ID_COUNT
 returns-then-next-gt-ID_COUNT c =
