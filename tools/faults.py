@@ -4,8 +4,8 @@
     python3 tools/faults.py [FOLDER [PROGRAM..]]
 
 FOLDER has the built programs, target/bin by default, after
-`tools/build.sh cut_flat equalities flatten flatten_equalities season season_lines test_eval test_field test_flat test_flatten test_numbering test_season
-test_source`; all thirteen are tried, or those named. Every fault has to leave a line on standard error, or end the program by a signal, and to leave on standard output nothing but a front of the
+`tools/build.sh cut_flat equalities expand flatten flatten_equalities renumber season season_lines test_eval test_field test_flat test_flatten test_numbering test_renumber test_season
+test_source`; all of these are tried, or those named. Every fault has to leave a line on standard error, or end the program by a signal, and to leave on standard output nothing but a front of the
 right bytes: none is taken for success. A test program is tried on the first cases of its input and on many that differ from what they expect, each of
 which it tells by a line; without a fault on all of its input too. Printed is a line for each fault that was not handled so, then how many were tried
 on each program and the counts; the exit status is 1 if there is one.
@@ -14,6 +14,7 @@ import fcntl
 import itertools
 import os
 import resource
+import shutil
 import signal
 import subprocess
 import sys
@@ -59,6 +60,11 @@ def many_equalities(n):
     return words(2, 0, 0, n, 0, 0, *((0, 0, 3, 0, 1, 1, 1, 0) * n), 2, 2, 1, 5, 5)
 
 
+def many_terms(n):
+    """A constraint record with the equality v0 = v1 + v2, n times: much longer than its side table."""
+    return words(3, 0, 0, n, 0, 0, *(n * (0, 0, 3, 0, 1, 0, 2, 0)))
+
+
 # The inputs of the test programs are parts, one after the other. Of a part: how many words say its length, how many bytes it has by these, and which word
 # says what to expect.
 BASE, REFUSED = 0xFFFFFFFF, 0xFFFF0000
@@ -67,6 +73,7 @@ PARTS = {
     "test_flat": (4, lambda length, room, store, answer: 16 + length + (answer if answer < REFUSED else 0), 3),
     "test_flatten": (3, lambda length, runs, size: 12 + 12 * runs + length + size, 5),
     "test_season": (3, lambda length, room, answer: 12 + length + (answer if answer < REFUSED else 0), 2),
+    "test_renumber": (6, lambda kind, length, side, room, answer, table: 24 + length + kind * side + table + (answer if answer < REFUSED else 0), 4),
     "test_numbering": (4, lambda length, answer, ids, publics: 16 + length + 4 * (ids + publics), 1),
     "test_source": (2, lambda length, size: 24 + (size if length == BASE else 0), 1),
 }
@@ -97,7 +104,7 @@ def many_different(name):
     for part in parts(name):
         if name == "test_source" and word(part, 0) == BASE:
             before = part
-        elif name not in ("test_flat", "test_season") or word(part, k) > REFUSED:
+        elif name not in ("test_flat", "test_renumber", "test_season") or word(part, k) > REFUSED:
             return before + 400 * (part[:4 * k] + words(word(part, k) + 1) + part[4 * k + 4:])
 
 
@@ -107,6 +114,12 @@ NONE = ("season", "season_lines")
 # programs that take numbers as arguments: some that change nothing
 NUMBERS = {"flatten": ("0" * 3000 + "1048560", "0" * 4000 + "786712"), "cut_flat": ("0" * 4000 + "786712",)}
 
+# programs that take the name of a side table: one that is written, and one that fits the records below
+SCRATCH = tempfile.mkdtemp()
+TABLES = {"renumber": os.path.join(SCRATCH, "written"), "expand": os.path.join(SCRATCH, "read")}
+with open(TABLES["expand"], "wb") as table:
+    table.write(words(3, 0, 1, 2))
+
 PROGRAMS = {
     "cut_flat": lambda: (read("crates", "cut_flat", "stdin"), many_flat(400)),
     "equalities": lambda: (read("crates", "equalities", "stdin"), many_flat(400)),
@@ -114,14 +127,21 @@ PROGRAMS = {
     "flatten_equalities": lambda: (read("crates", "flatten_equalities", "stdin"), many_equations(400)),
     "season": lambda: (read("crates", "season", "stdin"), many_equalities(400)),
     "season_lines": lambda: (read("crates", "season_lines", "stdin"), many_equalities(400)),
+    "renumber": lambda: (many_terms(4), many_terms(400)),
+    "expand": lambda: (many_terms(4), many_terms(400)),
     "test_field": lambda: (b"", b""),
     **{name: lambda name=name: (front(name), many_different(name)) for name in PARTS},
 }
 
 
-def run(name, record=b"", args=(), stdin=None, stdout=subprocess.PIPE, before=None, env=None):
+def called(name, args=None):
+    """The words of a call, with the side table where nothing else is said."""
+    return [os.path.join(BIN, name), *([TABLES[name]] if args is None and name in TABLES else args or ())]
+
+
+def run(name, record=b"", args=None, stdin=None, stdout=subprocess.PIPE, before=None, env=None):
     """(exit status, standard output, standard error) of one run."""
-    p = subprocess.Popen([os.path.join(BIN, name), *args], stdin=subprocess.PIPE if stdin is None else stdin, stdout=stdout,
+    p = subprocess.Popen(called(name, args), stdin=subprocess.PIPE if stdin is None else stdin, stdout=stdout,
                          stderr=subprocess.PIPE, preexec_fn=before, env=env, restore_signals=before is None)
     out, err = p.communicate(record if stdin is None else None, timeout=60)
     return p.returncode, out or b"", err
@@ -183,7 +203,7 @@ def writes(name, record, whole):
 
 def reads(name, record, whole):
     """Single bytes with pauses, slow readers, and reads that fail: nothing is answered then."""
-    p = subprocess.Popen([os.path.join(BIN, name)], stdin=subprocess.PIPE, stdout=subprocess.PIPE, stderr=subprocess.PIPE)
+    p = subprocess.Popen(called(name), stdin=subprocess.PIPE, stdout=subprocess.PIPE, stderr=subprocess.PIPE)
     for k in range(len(record)):
         p.stdin.write(record[k:k + 1])
         p.stdin.flush()
@@ -209,7 +229,7 @@ def reads(name, record, whole):
 
 
 def slow_reader(name, record, whole):
-    p = subprocess.Popen([os.path.join(BIN, name)], stdin=subprocess.PIPE, stdout=subprocess.PIPE, stderr=subprocess.PIPE)
+    p = subprocess.Popen(called(name), stdin=subprocess.PIPE, stdout=subprocess.PIPE, stderr=subprocess.PIPE)
     if record:
         p.stdin.write(record)
     p.stdin.close()
@@ -228,10 +248,15 @@ def arguments(name, record, whole):
     wrong = [("--help",), ("-x",), ("1", "2", "3", "4"), ("9" * 5000,) if name not in NUMBERS else ("x" * 5000,)]
     if name.startswith("test_") or name in NONE:
         wrong += [("1",), ("",)]
+    if name in TABLES:
+        wrong += [(), ("1", "2")]
     for args in wrong:
         status, out, err = run(name, record, args)
         expect("%s %s" % (name, " ".join(a[:12] for a in args)), out == b"" and said(err, usage))
     if name.startswith("test_") or name in NONE:
+        return
+    if name in TABLES:
+        tables(name, record, whole)
         return
     if name in NUMBERS:
         status, out, err = run(name, record, NUMBERS[name])
@@ -243,6 +268,28 @@ def arguments(name, record, whole):
         expect(name + " FILE", run(name, b"", (f.name,), stdin=subprocess.DEVNULL)[1:] == (whole, b""))
     status, out, err = run(name, b"", ("no such file",))
     expect(name + ", a file that is missing", out == b"" and said(err, b"no such file: No such file or directory"))
+
+
+def tables(name, record, whole):
+    """Side tables that cannot be opened, read or written: nothing is on standard output then."""
+    for table, told in ((SCRATCH, b"Is a directory"), (os.path.join(SCRATCH, "no folder", "t"), b"No such file or directory"), ("", b"No such file or directory")):
+        status, out, err = run(name, record, (table,))
+        expect("%s, the table %s" % (name, table), out == b"" and said(err, told))
+    status, out, err = run(name, record, (b"\xff",))
+    expect(name + ", a table's name that is not UTF-8", out == b"" and said(err, b"not UTF-8"))
+    if name == "expand":
+        status, out, err = run(name, record, ("/dev/null",))
+        expect(name + ", an empty table", out == b"" and said(err, b"refused 47"))
+        return
+    status, out, err = run(name, record, ("/dev/full",))
+    expect(name + ", a table on a full device", out == b"" and said(err, b"No space left on device"))
+    for ignore in (True, False):
+        status, out, err = run(name, record, before=limited(8, ignore))
+        expect("%s, a table over the file-size limit, signal %s" % (name, "ignored" if ignore else "not ignored"),
+               out == b"" and (said(err, b"File too large") or status == -signal.SIGXFSZ))
+    table = os.path.join(SCRATCH, "none")
+    status, out, err = run(name, record[:-1], (table,))
+    expect(name + ", a record that is refused", out == b"" and said(err, b"refused 42") and not os.path.exists(table))
 
 
 def crowded(name, record):
@@ -268,7 +315,7 @@ def all_cases(name):
     record, whole = read("crates", name, "stdin"), read("crates", name, "stdout")
     expect(name + ", all of its input", run(name, record) == (0, whole, b""))
     expect(name + ", all of its input, 1 MB of environment", crowded(name, record) in ((0, whole, b""), (-signal.SIGSEGV, b"", b"")))
-    p = subprocess.Popen([os.path.join(BIN, name)], stdin=subprocess.PIPE, stdout=subprocess.PIPE, stderr=subprocess.PIPE)
+    p = subprocess.Popen(called(name), stdin=subprocess.PIPE, stdout=subprocess.PIPE, stderr=subprocess.PIPE)
     for at in range(0, len(record), 50001):
         p.stdin.write(record[at:at + 50001])
         p.stdin.flush()
@@ -298,5 +345,6 @@ for name in sys.argv[2:] or sorted(PROGRAMS):
     count = passed + len(failed)
     tried(name)
     print("%s: %d tried" % (name, passed + len(failed) - count))
+shutil.rmtree(SCRATCH)
 print("%d faults handled, %d not" % (passed, len(failed)))
 sys.exit(1 if failed else 0)

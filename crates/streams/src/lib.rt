@@ -36,7 +36,9 @@ fn words_of(text: &str) -> &str {
 
 // A line on standard error: what failed, and why.
 // Kept as it is: a slice takes the front of words that are too long; an `ArrayString` takes a piece whole or not at all.
-fn say_failed(rt: &impl Eprint, what: &str, error: Error) -> Failed {
+pub fn say_failed(rt: &impl Eprint, what: &str, error: Error) -> Failed
+    ensures { result ≡ record {} }
+{
     let mut room = [0u8; WORDS];
     let mut rest = &mut room[..];
     let _ = write!(rest, "{error}");
@@ -134,7 +136,10 @@ pub fn close_output<W: Write>(
         .map_err(|error| say_failed(rt, "standard output", error))
 }
 
-fn say_usage(rt: &impl Eprint, usage: &str) -> Failed {
+// The line of usage on standard error.
+pub fn say_usage(rt: &impl Eprint, usage: &str) -> Failed
+    ensures { result ≡ record {} }
+{
     let _ = rt.eprint(usage);
     Failed
 }

@@ -1,0 +1,9 @@
+pub mod Lists
+pub mod RisingIds
+pub mod Firsts
+pub mod Relabelling
+pub mod Legal
+pub mod Order
+pub mod Calibrated
+pub mod Counterparts
+pub mod Records

@@ -1,0 +1,4 @@
+pub mod Ids
+pub mod Renumber
+pub mod Bytes
+pub mod Statements
