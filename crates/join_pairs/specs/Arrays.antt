@@ -1,9 +1,11 @@
 -- The arrays by id that the code of a join uses, and what they stand for: the first's ids that pairs have with the second's.
-use Rattle.std.specs.Prelude.{◌≡◌, ℕ, ◌+◌, ◌*◌, ◌≤◌, ◌<◌, List, Bool, true, false, not, ◌&&◌, length, get_or, eqb, ltb, Option, Some, None}
+use Rattle.std.specs.Prelude.{◌≡◌, ℕ, ◌+◌, ◌*◌, ◌/◌, ◌≤◌, ◌<◌, List, Bool, true, false, not, ◌&&◌, length, get_or, eqb, ltb, Option, Some, None}
 use Rattle.std.specs.Coded.{le_prop}
+use Rattle.std.proofs.Math.Nat.{ℕ_set}
 use Rattle.marks.specs.Indices.{every}
 use Rattle.pass_classify.specs.Arrays.{marked}
-use Rattle.join_trees.specs.Pairs.{Pair, PAIR-BYTES, pair_at, agrees}
+use Rattle.join_trees.specs.declared.Pair.{Pair}
+use Rattle.join_trees.specs.Pairs.{PAIR-BYTES, pair_at, agrees}
 use Rattle.records.specs.FlatRecord.{IDS}
 
 -- the ids of two records
@@ -29,12 +31,12 @@ id_by None w = w
 unfoldable pub renamed_by : List (Option ℕ) → ℕ → ℕ → ℕ
 renamed_by firsts n v = id_by (first_of firsts v) (n + v)
 
--- an array that has ids below the limit, with ids that move up by so few. At most one proof says so
+-- an array of 65,536 that has ids below the limit, with ids that move up by so few. At most one proof says so
 abbrev pub Small : List (Option ℕ) → ℕ → Type 0
-Small firsts n = (n ≤ IDS) × ((v u : ℕ) → first_of firsts v ≡ Some u → u < IDS)
+Small firsts n = (length firsts ≡ IDS) × (n ≤ IDS) × ((v u : ℕ) → first_of firsts v ≡ Some u → u < IDS)
 
-pub small-prop : {firsts : List (Option ℕ)} {n : ℕ} → IsProp (Small firsts n)
-small-prop = hlevel le_prop
+pub small-prop : (firsts : List (Option ℕ)) (n : ℕ) → IsProp (Small firsts n)
+small-prop firsts n = hlevel (le_prop, ℕ_set)
 
 -- a pair that is in range and not used before
 unfoldable pub pair_fits : (ℕ → Bool) → (ℕ → Bool) → ℕ → ℕ → Pair → Bool

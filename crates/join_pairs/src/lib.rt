@@ -2,6 +2,7 @@
 #![tactic(auto)]
 
 mod pairs;
+mod reading;
 pub mod renaming;
 
 ghost use Rattle.std.specs.Prelude.{◌≡◌, ◌||◌};
