@@ -55,7 +55,7 @@ seen_same : (s t : ℕ → Bool) → ((w : ℕ) → s w ≡ t w) → s ≡ t
 seen_same s t h = λ i w. h w i
 
 -- an id that was seen already adds nothing
-update-seen : (s : ℕ → Bool) (v : ℕ) → s v ≡ true → update s v true ≡ s
+pub update-seen : (s : ℕ → Bool) (v : ℕ) → s v ≡ true → update s v true ≡ s
 update-seen s v e =
     seen_same (update s v true) s
     (λ w. ⊎_elim
