@@ -252,6 +252,11 @@ module _ (a b : List ℕ) (r : ℕ → ℕ) where
         nodes-few = leb-true _ NODES (and_right (leb (equations a + equations b) LISTED) (leb (nodes a + nodes b) NODES) h3);
       }
 
+  pub words-fit : has_few (layout_by (joined_header a b r)) ≡ true → 4 * length (joined_words a b r) ≤ BYTES
+  words-fit h =
+      let m = room h in
+      omega (arith, length-words, m.publics-few, m.provers-few, m.definitions-few, m.equations-few, m.nodes-few)
+
   module _ {header : Header} {layout : Layout} (eh : header ≡ joined_header a b r) (el : layout ≡ layout_by header) where
     laid : layout ≡ layout_by (joined_header a b r)
     laid = el ∙ ap layout_by eh
