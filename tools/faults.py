@@ -4,8 +4,8 @@
     python3 tools/faults.py [FOLDER [PROGRAM..]]
 
 FOLDER has the built programs, target/bin by default, after
-`tools/build.sh cut_flat equalities flatten flatten_equalities test_eval test_field test_flat test_flatten test_numbering test_source`; all ten are tried, or
-those named. Every fault has to leave a line on standard error, or end the program by a signal, and to leave on standard output nothing but a front of the
+`tools/build.sh cut_flat equalities flatten flatten_equalities join test_eval test_field test_flat test_flatten test_join test_numbering test_source`; all twelve
+are tried, or those named. Every fault has to leave a line on standard error, or end the program by a signal, and to leave on standard output nothing but a front of the
 right bytes: none is taken for success. A test program is tried on the first cases of its input and on many that differ from what they expect, each of
 which it tells by a line; without a fault on all of its input too. Printed is a line for each fault that was not handled so, then how many were tried
 on each program and the counts; the exit status is 1 if there is one.
@@ -61,6 +61,7 @@ PARTS = {
     "test_eval": (3, lambda length, runs, size: 12 + 8 * runs + length + size, 4),
     "test_flat": (4, lambda length, room, store, answer: 16 + length + (answer if answer < REFUSED else 0), 3),
     "test_flatten": (3, lambda length, runs, size: 12 + 12 * runs + length + size, 5),
+    "test_join": (5, lambda first, second, pairs, room, answer: 20 + first + second + pairs + (answer if answer < REFUSED else 0), 4),
     "test_numbering": (4, lambda length, answer, ids, publics: 16 + length + 4 * (ids + publics), 1),
     "test_source": (2, lambda length, size: 24 + (size if length == BASE else 0), 1),
 }
@@ -98,18 +99,23 @@ def many_different(name):
 # programs that take numbers as arguments: some that change nothing
 NUMBERS = {"flatten": ("0" * 3000 + "1048560", "0" * 4000 + "786712"), "cut_flat": ("0" * 4000 + "786712",)}
 
+# programs that read files alone, and what they are given
+FILES = {"join": [os.path.join(TOP, "crates", "join", "data", name) for name in ("first.record", "second.record", "pairs")]}
+
 PROGRAMS = {
     "cut_flat": lambda: (read("crates", "cut_flat", "stdin"), many_flat(400)),
     "equalities": lambda: (read("crates", "equalities", "stdin"), many_flat(400)),
     "flatten": lambda: (read("crates", "flatten", "stdin"), many_equations(400)),
     "flatten_equalities": lambda: (read("crates", "flatten_equalities", "stdin"), many_equations(400)),
+    "join": lambda: (b"", b""),
     "test_field": lambda: (b"", b""),
     **{name: lambda name=name: (front(name), many_different(name)) for name in PARTS},
 }
 
 
-def run(name, record=b"", args=(), stdin=None, stdout=subprocess.PIPE, before=None, env=None):
+def run(name, record=b"", args=None, stdin=None, stdout=subprocess.PIPE, before=None, env=None):
     """(exit status, standard output, standard error) of one run."""
+    args = FILES.get(name, ()) if args is None else args
     p = subprocess.Popen([os.path.join(BIN, name), *args], stdin=subprocess.PIPE if stdin is None else stdin, stdout=stdout,
                          stderr=subprocess.PIPE, preexec_fn=before, env=env, restore_signals=before is None)
     out, err = p.communicate(record if stdin is None else None, timeout=60)
@@ -198,7 +204,7 @@ def reads(name, record, whole):
 
 
 def slow_reader(name, record, whole):
-    p = subprocess.Popen([os.path.join(BIN, name)], stdin=subprocess.PIPE, stdout=subprocess.PIPE, stderr=subprocess.PIPE)
+    p = subprocess.Popen([os.path.join(BIN, name), *FILES.get(name, ())], stdin=subprocess.PIPE, stdout=subprocess.PIPE, stderr=subprocess.PIPE)
     if record:
         p.stdin.write(record)
     p.stdin.close()
@@ -221,6 +227,12 @@ def arguments(name, record, whole):
         status, out, err = run(name, record, args)
         expect("%s %s" % (name, " ".join(a[:12] for a in args)), out == b"" and said(err, usage))
     if name.startswith("test_"):
+        return
+    if name in FILES:
+        for k in range(len(FILES[name])):
+            for other, words_ in (("no such file", b"no such file: No such file or directory"), (TOP, b"input: Is a directory"), ("-x", usage), ("", b"")):
+                status, out, err = run(name, b"", FILES[name][:k] + [other] + FILES[name][k + 1:])
+                expect("%s, file %d is %r" % (name, k, other), out == b"" and said(err, words_))
         return
     if name in NUMBERS:
         status, out, err = run(name, record, NUMBERS[name])
@@ -276,7 +288,7 @@ def tried(name):
     slow_reader(name, large, whole)
     status, whole, err = run(name, small)
     arguments(name, small, whole)
-    if name != "test_field":
+    if name != "test_field" and name not in FILES:
         reads(name, small, whole)
     if name in PARTS:
         some_cases(name, small, large)

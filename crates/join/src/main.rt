@@ -74,7 +74,7 @@ fn run<R: Env + Files + Input + Print + Eprint>(rt: &R) -> Result<usize, Failed>
 }
 
 fn main(rt: HostRuntime) {
-    if has_argument(&rt, ARGUMENTS) {
+    if !has_argument(&rt, PAIRS) || has_argument(&rt, ARGUMENTS) {
         let _ = rt.eprint(USAGE);
         return;
     }
