@@ -3,12 +3,11 @@ use Prim.Native.Nat.{ℕ}
 use mathlib.Core.Path.{◌≡◌, refl, sym, ap, subst, ◌∙◌}
 use mathlib.Core.List.{List, ◌++◌}
 use mathlib.Core.Bool.{Bool, true, false, ◌&&◌}
-use native.Mathlib.Omega.{arith}
 use lib.Dec.{leb}
 use lib.ListN.{length, take, drop}
 use lib.Seq.{take_at}
 use Rattle.flat.specs.Trees.{FlatModule}
-use Rattle.flat.specs.Record.{Read, pick, flat_of, module_of}
+use Rattle.flat.specs.Record.{Read, pick, flat_of}
 use Rattle.marks.proofs.Indices.{and_right}
 use Rattle.flat.proofs.Reading.{accepted-module}
 use Rattle.flat.proofs.Wellformed.{accepted-well-formed}
@@ -16,7 +15,7 @@ use Rattle.join_trees.specs.Pairs.{pairs_of, whole, fit, none_defined, provers_a
 use Rattle.join_trees.specs.Joined.{joined}
 use Rattle.join_trees.specs.Record.{joined_bytes}
 use Rattle.records.specs.declared.refusals.Refusal.{Refusal}
-use Rattle.std.specs.Prelude.{Result, Ok, Err}
+use Rattle.std.specs.Prelude.{Ok, Err}
 use Rattle.join_trees.specs.Join.{Joining, unless, lent_of, result_of, join_modules, join_read, join_of}
 use Rattle.join_trees.proofs.Lent.{lent-read}
 use Rattle.join_trees.proofs.Bytes.{joined-reads}

@@ -1,19 +1,18 @@
 -- The answers by their case: what each refusal leaves, and when the joined record is written. Assumes nothing.
 use Prim.Native.Nat.{ℕ, ◌+◌, ◌*◌, ◌≤◌, ◌<◌}
 use mathlib.Core.Path.{◌≡◌, refl, sym, ap, ap₂, ◌∙◌}
-use mathlib.Core.List.{List, [], ◌++◌}
+use mathlib.Core.List.{List, ◌++◌}
 use mathlib.Core.Bool.{Bool, true, false, ◌&&◌}
 use native.Mathlib.Omega.{arith}
-use lib.Dec.{leb}
 use lib.ListN.{length, drop, take, replicate, length-replicate}
-use lib.Seq.{take_at, take-length}
+use lib.Seq.{take_at}
 use borrow.Author.Tests.{le-leb, lt-leb, eq-eqb}
-use Rattle.std.specs.Prelude.{Result, Ok, Err}
+use Rattle.std.specs.Prelude.{Ok, Err}
 use Rattle.words.specs.Words.{set_words, bytes_of}
 use Rattle.words.proofs.Laws.{length-set_words, set_words-bytes, length-bytes_of}
 use Rattle.flat.specs.declared.Layout.{Layout}
 use Rattle.flat.specs.Trees.{FlatModule}
-use Rattle.flat.specs.Layout.{next, definitions, equations, nodes, layout_of, layout_by, size, BYTES}
+use Rattle.flat.specs.Layout.{layout_of, layout_by, size, BYTES}
 use Rattle.flat.specs.Record.{Read, pick, flat_of, checked, has_few, measured, module_of}
 use Rattle.flat.proofs.Reading.{checked-accepted, checked_refused}
 use Rattle.pass_classify.proofs.Laid.{next-laid}
@@ -21,7 +20,7 @@ use Rattle.pass_trees.specs.Passes.{counted, cuttable_defs, cuttable_equations}
 use Rattle.records.specs.declared.refusals.Refusal.{Refusal}
 use Rattle.join_trees.specs.Pairs.{pairs_of, whole, fit, none_defined, provers_alike}
 use Rattle.join_trees.specs.Joined.{renamed}
-use Rattle.join_trees.specs.Record.{joined_publics, joined_provers, joined_words, joined_bytes}
+use Rattle.join_trees.specs.Record.{joined_words, joined_bytes}
 use Rattle.join_trees.specs.Join.{Joining, unless, lent_read, lent_of, result_of, join_modules, join_read, join_of}
 use Rattle.join_trees.proofs.Parts.{header, record-long}
 use Rattle.join_write.specs.Written.{joined_header, fit_of, written_of}

@@ -65,12 +65,7 @@ fn put_joined(
 }
 
 // Any bytes: the joined record at the front of the output, and how many bytes it has; or the first refusal that applies.
-pub fn join(
-    first: &[u8],
-    second: &[u8],
-    pairs: &[u8],
-    out: &mut [u8],
-) -> Result<usize, Refusal>
+pub fn join(first: &[u8], second: &[u8], pairs: &[u8], out: &mut [u8]) -> Result<usize, Refusal>
     ensures value { result ≡ answer_for (length out.old) (join_of first.now second.now pairs.now) }
     ensures out_after { out.new ≡ output_for out.old (join_of first.now second.now pairs.now) }
 {

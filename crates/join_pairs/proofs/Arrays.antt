@@ -2,11 +2,11 @@
 use Prim.Native.Nat.{ℕ, ◌+◌, ◌≤◌, ◌<◌}
 use mathlib.Core.Path.{◌≡◌, refl, sym, ap, ◌∙◌, fun_ext}
 use mathlib.Core.List.{List}
-use mathlib.Core.Bool.{Bool, true, false, not, ◌&&◌}
+use mathlib.Core.Bool.{Bool, true, false}
 use mathlib.Core.Logic.{⊎_elim}
 use native.Mathlib.Omega.{arith}
 use lib.Dec.{ltb}
-use lib.ListN.{length, get_or, set, length-set, replicate, length-replicate, get_or-replicate, get_or-eq_default}
+use lib.ListN.{length, set, length-set, replicate, length-replicate, get_or-replicate, get_or-eq_default}
 use lib.Seq.{get_or-set_same, get_or-set_other}
 use borrow.Author.Tests.{ltb-true}
 use Rattle.std.specs.Prelude.{Option, Some, None}
@@ -66,12 +66,15 @@ some-same u w e = cc
 
 pub small-set : (firsts : List (Option ℕ)) (n v u : ℕ) → v < 65536 → u < 65536 → Small firsts n → Small (set firsts v (Some u)) n
 small-set firsts n v u m k s =
-    let l : v < length firsts = omega (arith, s.0) in
-    (length-set firsts v (Some u) ∙ s.0, s.1, λ w x e. ⊎_elim
-    (λ (q : w ≡ v).
-    let z : u ≡ x = some-same u x (sym (get_or-set_same firsts v (Some u) None l) ∙ (rw q at e)) in omega arith)
-    (λ (q : w ≡ v → ⊥). s.2 w x (sym (get_or-set_other firsts v w (Some u) None q) ∙ e))
-    (cases_eq w v))
+    let l : v < length firsts = omega (arith, s.0) in (
+      length-set firsts v (Some u) ∙ s.0,
+      s.1,
+      λ w x e. ⊎_elim
+          (λ (q : w ≡ v).
+          let z : u ≡ x = some-same u x (sym (get_or-set_same firsts v (Some u) None l) ∙ (rw q at e)) in omega arith)
+          (λ (q : w ≡ v → ⊥). s.2 w x (sym (get_or-set_other firsts v w (Some u) None q) ∙ e))
+          (cases_eq w v),
+    )
 
 -- ---- a new id is one of two records'
 

@@ -1,7 +1,7 @@
 -- Marking the ids that a record defines: the turns of the loop. Assumes nothing.
 use Prim.Native.Nat.{ℕ, ◌+◌, ◌≤◌, ◌<◌}
 use mathlib.Core.Path.{◌≡◌, refl, sym, ap, ◌∙◌, fun_ext}
-use mathlib.Core.List.{List, [], ◌∷◌}
+use mathlib.Core.List.{List}
 use mathlib.Core.Bool.{Bool, true, false, ◌||◌, or-false}
 use lib.Dec.{eqb}
 use lib.ListN.{length, set}

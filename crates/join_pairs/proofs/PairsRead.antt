@@ -1,12 +1,12 @@
 -- Reading the pairs: what is left to read is always what the whole list asks for. Assumes nothing.
-use Prim.Native.Nat.{ℕ, ◌+◌, ◌-◌, ◌*◌, ◌/◌, ◌%◌, ◌≤◌, ◌<◌}
+use Prim.Native.Nat.{ℕ, ◌+◌, ◌-◌, ◌/◌, ◌%◌, ◌≤◌, ◌<◌}
 use mathlib.Core.Path.{◌≡◌, refl, sym, ap, ap₂, ◌∙◌, fun_ext}
-use mathlib.Core.List.{List, [], ◌∷◌}
+use mathlib.Core.List.{List, ◌∷◌}
 use mathlib.Core.Bool.{Bool, true, false, not, ◌&&◌}
 use mathlib.Core.Logic.{⊎_elim}
 use native.Mathlib.Omega.{arith}
-use lib.Dec.{eqb, ltb}
-use lib.ListN.{length, get_or, set, replicate, length-replicate, length-set}
+use lib.Dec.{ltb}
+use lib.ListN.{length, set, replicate, length-replicate, length-set}
 use lib.Seq.{get_or-set_same, get_or-set_other}
 use borrow.Author.Tests.{eq-eqb, ne_eqb}
 use Rattle.std.specs.Prelude.{Option, Some, None}
@@ -137,12 +137,12 @@ module _ {b : List ℕ} {n m total k : ℕ} {firsts : List (Option ℕ)} {taken 
       record {
         total-is = h.total-is;
         fits =
-          ap₂ (λ (x y : ℕ → Bool). fit_after x y n m after) (marked-set taken p.first true low) (shared-set firsts p.second p.first inside)
-          ∙ sym (fits-here true l e);
+            ap₂ (λ (x y : ℕ → Bool). fit_after x y n m after) (marked-set taken p.first true low) (shared-set firsts p.second p.first inside)
+            ∙ sym (fits-here true l e);
         names = λ v.
-          pair-noted firsts n p after v inside new
-          ∙ ap (λ (ps : List Pair). id_by (first_of firsts v) (renamed ps n v)) (sym (left-more l))
-          ∙ h.names v;
+            pair-noted firsts n p after v inside new
+            ∙ ap (λ (ps : List Pair). id_by (first_of firsts v) (renamed ps n v)) (sym (left-more l))
+            ∙ h.names v;
         firsts-long = length-set firsts p.second (Some p.first) ∙ h.firsts-long;
         taken-long = length-set taken p.first true ∙ h.taken-long;
       }
@@ -162,8 +162,7 @@ module _ {b : List ℕ} {n m total k : ℕ} {firsts : List (Option ℕ)} {taken 
   pub reading-end : total ≤ k → (fit n m (pairs_of b) ≡ true) × (renamed_by firsts n ≡ renamed (pairs_of b) n)
   unfolding fit_after renamed_by renamed
   reading-end l =
-      let e = rows_none total k (pair_at b) l in
-      (
+      let e = rows_none total k (pair_at b) l in (
         sym h.fits ∙ ap (fit_after (marked taken) (shared firsts) n m) e,
         fun_ext (λ v. ap (λ (ps : List Pair). id_by (first_of firsts v) (renamed ps n v)) (sym e) ∙ h.names v),
       )

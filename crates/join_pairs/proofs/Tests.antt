@@ -1,13 +1,12 @@
 -- 45 and 46, as the code tests them by arrays. Assumes nothing.
-use Prim.Native.Nat.{ℕ, ◌+◌, ◌-◌, ◌/◌, ◌≤◌, ◌<◌}
-use mathlib.Core.Path.{◌≡◌, refl, sym, ap, ap₂, ◌∙◌}
-use mathlib.Core.List.{List, [], ◌∷◌}
-use mathlib.Core.Bool.{Bool, true, false, not, ◌&&◌, ◌||◌}
+use Prim.Native.Nat.{ℕ, ◌+◌, ◌-◌, ◌/◌}
+use mathlib.Core.Path.{◌≡◌, sym, ap, ap₂, ◌∙◌}
+use mathlib.Core.List.{List}
+use mathlib.Core.Bool.{Bool, false, not, ◌&&◌, ◌||◌}
 use native.Mathlib.Omega.{arith}
 use lib.ListN.{length, replicate}
 use Rattle.flat.specs.Trees.{Definition, defines}
 use Rattle.flat.specs.Record.{rows}
-use Rattle.marks.specs.Indices.{every}
 use Rattle.pass_trees.specs.Passes.{member}
 use Rattle.pass_classify.specs.Arrays.{marked}
 use Rattle.pass_classify.proofs.Arrays.{none-marked}

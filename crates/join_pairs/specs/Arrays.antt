@@ -1,5 +1,5 @@
 -- The arrays by id that the code of a join uses, and what they stand for: the first's ids that pairs have with the second's.
-use Rattle.std.specs.Prelude.{◌≡◌, ℕ, ◌+◌, ◌*◌, ◌/◌, ◌≤◌, ◌<◌, List, Bool, true, false, not, ◌&&◌, length, get_or, eqb, ltb, Option, Some, None}
+use Rattle.std.specs.Prelude.{◌≡◌, ℕ, ◌+◌, ◌*◌, ◌/◌, ◌≤◌, ◌<◌, List, Bool, true, false, not, ◌&&◌, length, get_or, ltb, Option, Some, None}
 use Rattle.std.specs.Coded.{le_prop}
 use Rattle.std.proofs.Math.Nat.{ℕ_set}
 use Rattle.marks.specs.Indices.{every}

@@ -1,5 +1,5 @@
 -- What a renaming makes of ids, and what reading the pairs answers.
-use Rattle.std.specs.Prelude.{◌≡◌, ℕ, List, Bool, true, false, ◌&&◌, Result, Ok, Err}
+use Rattle.std.specs.Prelude.{◌≡◌, ℕ, List, true, false, ◌&&◌, Result, Ok, Err}
 use Rattle.join_trees.specs.Pairs.{pairs_of, whole, fit}
 use Rattle.join_trees.specs.Joined.{renamed}
 use Rattle.join_pairs.specs.Arrays.{renamed_by}

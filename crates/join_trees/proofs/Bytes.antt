@@ -3,23 +3,22 @@ use Prim.Native.Nat.{ℕ, zero, suc, ◌+◌, ◌*◌, ◌≤◌, ◌<◌}
 use mathlib.Core.Path.{◌≡◌, refl, sym, ap, ap₂, ◌∙◌}
 use mathlib.Core.List.{List, [], ◌∷◌, ◌++◌}
 use native.Mathlib.Omega.{arith}
-use lib.Dec.{eqb}
 use lib.ListN.{length}
 use borrow.Author.Tests.{eq-eqb, ne_eqb}
-use Rattle.words.specs.Words.{word_at, bytes_of}
+use Rattle.words.specs.Words.{word_at}
 use Rattle.flat.specs.Trees.{Flat, Definition, Equation, FlatModule}
 use Rattle.flat.specs.Layout.{next, publics, provers, definitions, equations, nodes, provers_offset, definitions_offset, equations_offset, nodes_offset}
-use Rattle.flat.specs.Layout.{public_at, prover_at, definition_entry, equation_entry, node_at}
-use Rattle.flat.specs.Record.{Read, flat_of, rows, pick, operator_of, node_for, node_of, tree, definition_at, equation_at, module_of}
+use Rattle.flat.specs.Layout.{public_at, prover_at, node_at}
+use Rattle.flat.specs.Record.{rows, pick, operator_of, node_for, node_of, tree, definition_at, equation_at, module_of}
 use Rattle.flat.specs.Readable.{Readable}
 use Rattle.flat.specs.declared.Node.{Node}
-use Rattle.flat.proofs.Rows.{rows_append, rows_same}
+use Rattle.flat.proofs.Rows.{rows_append}
 use Rattle.flat.proofs.Nodes.{for-4, for-5, for-7, for-8, by_kind, at-infix, at-negate, tree-infix, tree-negate, tree-constant, tree-variable, settled}
 use Rattle.flat.proofs.Reading.{accepted-readable, accepted-module, definition-below, equation-below}
 use Rattle.flat.proofs.WriteBack.{ids-read}
 use Rattle.join_trees.specs.Pairs.{Pair}
-use Rattle.join_trees.specs.Joined.{renamed, renamed_ids, renamed_tree, renamed_definition}
-use Rattle.join_trees.specs.Joined.{renamed_equation, renamed_definitions, renamed_equations, once, joined}
+use Rattle.join_trees.specs.Joined.{renamed, renamed_tree, renamed_definition}
+use Rattle.join_trees.specs.Joined.{renamed_equation, renamed_definitions, renamed_equations, joined}
 use Rattle.join_trees.specs.Record.{first_moved, second_moved, joined_publics, joined_provers, joined_bytes}
 use Rattle.join_trees.specs.Statements.{JoinedReads}
 use Rattle.join_trees.proofs.Parts.{Part, record-bytes, Header, header, Places, places}

@@ -1,13 +1,10 @@
 -- EACH NODE OF THE JOINED RECORD IS USED ONCE: the uses of a node are those by its own record's lists. Assumes nothing.
-use Prim.Native.Nat.{ℕ, zero, suc, ◌+◌, ◌*◌, ◌≤◌, ◌<◌}
-use mathlib.Core.Path.{◌≡◌, refl, sym, ap, ap₂, ◌∙◌}
+use Prim.Native.Nat.{ℕ, zero, suc, ◌+◌, ◌<◌}
+use mathlib.Core.Path.{◌≡◌, refl, ap, ap₂, ◌∙◌}
 use mathlib.Core.List.{List}
-use mathlib.Core.Bool.{true}
 use mathlib.Core.Logic.{⊎_elim}
 use native.Mathlib.Omega.{arith}
-use lib.Dec.{eqb}
 use borrow.Author.Tests.{eq-eqb, ne_eqb}
-use Rattle.words.specs.Words.{word_at}
 use Rattle.flat.specs.Layout.{next, definitions, equations, nodes, definitions_offset, equations_offset, nodes_offset, definition_entry, equation_entry, node_at}
 use Rattle.flat.specs.Record.{pick, total, same, used_by, by_nodes, by_definitions, by_equations}
 use Rattle.flat.specs.Readable.{Readable}

@@ -1,14 +1,14 @@
 -- Joining with the empty record. Assumes nothing.
-use Prim.Native.Nat.{ℕ, ◌+◌}
-use mathlib.Core.Path.{◌≡◌, refl, sym, ap, ◌∙◌}
-use mathlib.Core.List.{List, [], ◌∷◌, ◌++◌, append-nil}
+use Prim.Native.Nat.{◌+◌}
+use mathlib.Core.Path.{◌≡◌, refl, ap, ◌∙◌}
+use mathlib.Core.List.{[], ◌++◌, append-nil}
 use mathlib.Core.Bool.{false}
 use native.Mathlib.Omega.{arith}
-use Rattle.flat.specs.Trees.{Definition, Equation, FlatModule}
+use Rattle.flat.specs.Trees.{FlatModule}
 use Rattle.flat.specs.Rules.{WellFormed}
 use Rattle.pass_trees.proofs.Lists.{all_map}
-use Rattle.join_trees.specs.Joined.{renamed, renamed_ids, renamed_definitions, renamed_equations, once, joined}
-use Rattle.join_trees.specs.Statements.{empty_module, publics_once, JoinEmpty}
+use Rattle.join_trees.specs.Joined.{renamed_ids, renamed_definitions, renamed_equations, once, joined}
+use Rattle.join_trees.specs.Statements.{JoinEmpty}
 use Rattle.join_trees.proofs.Once.{once-rising}
 
 rises : (f : FlatModule) → WellFormed f → once f.provers ≡ f.provers

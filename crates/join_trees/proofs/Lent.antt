@@ -6,7 +6,7 @@ use mathlib.Core.Bool.{Bool, true, false, ◌&&◌}
 use native.Mathlib.Omega.{arith}
 use Rattle.flat.specs.Trees.{FlatModule}
 use Rattle.flat.specs.Record.{Read, pick, flat_of}
-use Rattle.pass_trees.specs.Passes.{counted, cuttable_defs, cuttable_equations, Outcome, unless, fitting, passes, cut_of}
+use Rattle.pass_trees.specs.Passes.{counted, cuttable_defs, cuttable_equations, unless, fitting, passes, cut_of}
 use Rattle.records.specs.declared.refusals.Refusal.{Refusal}
 use Rattle.join_trees.specs.Join.{lent_read, lent_of}
 use Rattle.join_trees.specs.Statements.{cut_lent, LentIsCut}

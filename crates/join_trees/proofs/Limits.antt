@@ -12,7 +12,7 @@ use Rattle.words.specs.Words.{word_at}
 use Rattle.flat.specs.Trees.{Flat, Definition, Equation, FlatModule, defines, every_id, tree_nodes, definitions_nodes, equations_nodes, module_nodes}
 use Rattle.flat.specs.Layout.{next, publics, provers, definitions, equations, nodes, provers_offset, definitions_offset, equations_offset, nodes_offset, size}
 use Rattle.flat.specs.Layout.{layout_of, public_at, prover_at, definition_entry, equation_entry, node_at}
-use Rattle.flat.specs.Record.{Read, flat_of, pick, rows, has_few, measured, module_of, definition_at}
+use Rattle.flat.specs.Record.{flat_of, pick, rows, has_few, measured, module_of, definition_at}
 use Rattle.flat.specs.Record.{all_below, rising, definitions_fit, equations_fit, node_fits, nodes_fit, used_once}
 use Rattle.flat.specs.Record.{total, same, used_by, by_nodes, by_definitions, by_equations, trees_hold, ids_hold, ordered, rules}
 use Rattle.flat.specs.Readable.{Readable}
@@ -27,11 +27,11 @@ use Rattle.flat.proofs.Sizes.{accepted-nodes}
 use Rattle.pass_trees.proofs.Lists.{every_map}
 use Rattle.join_trees.specs.Pairs.{Pair}
 use Rattle.join_trees.specs.Joined.{renamed, renamed_tree, renamed_definitions, renamed_equations, joined}
-use Rattle.join_trees.specs.Record.{first_moved, second_moved, joined_publics, joined_provers, joined_bytes}
+use Rattle.join_trees.specs.Record.{first_moved, second_moved, joined_bytes}
 use Rattle.join_trees.specs.Statements.{Joinable, counts_fit, limited, JoinedLimits}
-use Rattle.join_trees.proofs.Parts.{Part, record-bytes, Header, header, Places, places, record-long}
+use Rattle.join_trees.proofs.Parts.{record-bytes, Header, header, Places, places, record-long}
 use Rattle.join_trees.proofs.Bytes.{bytes-say}
-use Rattle.join_trees.proofs.Counting.{total-append, total-same, part_definitions, part_equations, part_nodes, part_uses, own_uses, uses-in, uses-out}
+use Rattle.join_trees.proofs.Counting.{total-append, total-same, part_uses, uses-in, uses-out}
 use Rattle.join_trees.proofs.Wellformed.{below, joined-is-well-formed}
 
 -- ---- a test from what it says

@@ -1,12 +1,12 @@
 -- What the joined module means. Assumes nothing.
 use Prim.Native.Nat.{ℕ, ◌+◌, ◌<◌}
-use mathlib.Core.Path.{◌≡◌, refl, sym, ap, subst, ◌∙◌}
+use mathlib.Core.Path.{◌≡◌, sym, ap, subst, ◌∙◌}
 use mathlib.Core.List.{List, ◌++◌}
-use mathlib.Core.Bool.{Bool, true, false, not}
+use mathlib.Core.Bool.{Bool, false, not}
 use mathlib.Core.Logic.{◌↔◌}
 use native.Mathlib.Omega.{arith}
-use Rattle.flat.specs.Trees.{Flat, Definition, Equation, FlatModule, defines}
-use Rattle.flat.specs.Rules.{All, Every, WellFormed}
+use Rattle.flat.specs.Trees.{Definition, Equation, FlatModule, defines}
+use Rattle.flat.specs.Rules.{All, Every}
 use Rattle.flat.specs.Meaning.{Assignment, value, DefinitionHolds, EquationHolds, worked_out, NoZeroInTurn}
 use Rattle.pass_trees.specs.Passes.{member, those}
 use Rattle.pass_trees.proofs.Lists.{all_map, all_append, all_split, all-those, every_map, value-agrees}
@@ -15,7 +15,7 @@ use Rattle.pass_trees.proofs.Working.{worked-other, worked-hold, in-turn-is-at-e
 use Rattle.join_trees.specs.Pairs.{Pair}
 use Rattle.join_trees.specs.Joined.{renamed, renamed_definitions, renamed_equations, joined}
 use Rattle.join_trees.specs.Statements.{Joinable, ruled, values, NoZero, Fulfils}
-use Rattle.join_trees.specs.Statements.{second_inputs, JoinMeans, JoinKeepsMeaning, Holds, JoinHolds, WorkedHolds}
+use Rattle.join_trees.specs.Statements.{second_inputs, JoinKeepsMeaning, Holds, JoinHolds, WorkedHolds}
 use Rattle.join_trees.proofs.Lists.{all-definitions, definitions-all, all-equations, equations-all}
 use Rattle.join_trees.proofs.Lists.{defines-none, those-append, those-same, those-renamed}
 use Rattle.join_trees.proofs.Wellformed.{injective, defined-moves, prover-first, prover-second}

@@ -5,7 +5,6 @@ use mathlib.Core.List.{List, [], ◌∷◌, ◌++◌}
 use mathlib.Core.Bool.{Bool, true, false, not, ◌&&◌, ◌||◌}
 use mathlib.Core.Logic.{◌⊎◌, inl, inr, ⊎_elim}
 use native.Mathlib.Omega.{arith}
-use lib.Dec.{eqb}
 use borrow.Author.Tests.{eq-eqb, ne_eqb}
 use Rattle.flat.specs.Meaning.{update}
 use Rattle.flat.specs.Rules.{All, Rising}
@@ -13,7 +12,7 @@ use Rattle.std.proofs.lemmas.Bool.{cases_eq}
 use Rattle.join_trees.proofs.Lists.{not-both}
 use Rattle.pass_trees.specs.Passes.{member}
 use Rattle.pass_trees.proofs.Lists.{update_same, update_other, all_map}
-use Rattle.join_trees.specs.Joined.{renamed_ids, once_after, once}
+use Rattle.join_trees.specs.Joined.{renamed_ids, once_after}
 
 -- a bool, with the equation that says which
 pub which : (b : Bool) → (b ≡ true) ⊎ (b ≡ false)

@@ -1,18 +1,18 @@
 -- THE PARTS OF THE JOINED RECORD: where each of its lists stands, and what is read at each place. Assumes nothing.
-use Prim.Native.Nat.{ℕ, zero, suc, ◌+◌, ◌*◌, ◌≤◌, ◌<◌}
-use mathlib.Core.Path.{◌≡◌, refl, sym, ap, ◌∙◌}
-use mathlib.Core.List.{List, [], ◌∷◌, ◌++◌}
+use Prim.Native.Nat.{ℕ, ◌+◌, ◌*◌, ◌<◌}
+use mathlib.Core.Path.{◌≡◌, refl, sym, ◌∙◌}
+use mathlib.Core.List.{List, ◌++◌}
 use native.Mathlib.Omega.{arith}
-use lib.ListN.{length, get_or, length-append}
-use Rattle.words.specs.Words.{word_at, bytes_of}
+use lib.ListN.{length, length-append}
+use Rattle.words.specs.Words.{bytes_of}
 use Rattle.words.proofs.Laws.{word_at-bytes_of, length-bytes_of}
-use Rattle.flat.specs.Layout.{next, publics, provers, definitions, equations, nodes, provers_offset, definitions_offset, equations_offset, nodes_offset, size}
-use Rattle.flat.specs.Layout.{definition_entry, equation_entry, node_at, header_words, definition_words, equation_words, node_words}
+use Rattle.flat.specs.Layout.{next, publics, provers, definitions, equations, nodes, definitions_offset, equations_offset, nodes_offset, size}
+use Rattle.flat.specs.Layout.{definition_entry, equation_entry, node_at, header_words, node_words}
 use Rattle.flat.proofs.Standing.{Stands, stands-left, stands-right, at_place}
 use Rattle.flat.proofs.EntryLaws.{length-definition, length-equation, definition-reads, equation-reads}
 use Rattle.flat.proofs.Nodes.{node-is}
 use Rattle.flat.proofs.WriteBack.{moved}
-use Rattle.join_trees.specs.Record.{entries, first_moved, second_moved, node_moved, definition_moved, equation_moved, node_moved_at}
+use Rattle.join_trees.specs.Record.{first_moved, second_moved, node_moved, definition_moved, equation_moved, node_moved_at}
 use Rattle.join_trees.specs.Record.{definitions_moved, equations_moved, nodes_moved, joined_publics, joined_provers, joined_words}
 use Rattle.join_trees.proofs.Entries.{length-entries, entry-stands}
 

@@ -1,12 +1,12 @@
 -- NEW IDS: what pairs that pass 44 to 46 say of them. Two ids of the second have two new ids, the first's ids lie below its next id and the moved ones from
 -- there on. Assumes nothing.
-use Prim.Native.Nat.{ℕ, ◌+◌, ◌≤◌, ◌<◌}
+use Prim.Native.Nat.{ℕ, ◌+◌, ◌<◌}
 use mathlib.Core.Path.{◌≡◌, refl, sym, ap, ◌∙◌}
 use mathlib.Core.List.{List, [], ◌∷◌}
-use mathlib.Core.Bool.{Bool, true, false, not, ◌&&◌}
+use mathlib.Core.Bool.{Bool, true, false, not}
 use mathlib.Core.Logic.{◌⊎◌, inl, inr, ⊎_elim}
 use native.Mathlib.Omega.{arith}
-use lib.Dec.{ltb, eqb}
+use lib.Dec.{ltb}
 use borrow.Author.Tests.{eq-eqb, ne_eqb, ltb-true, not-true}
 use Rattle.flat.specs.Trees.{Definition, defines}
 use Rattle.flat.specs.Meaning.{update}
@@ -15,7 +15,7 @@ use Rattle.marks.proofs.Indices.{and_left, and_right}
 use Rattle.join_trees.proofs.Lists.{not-both}
 use Rattle.pass_trees.specs.Passes.{member}
 use Rattle.pass_trees.proofs.Lists.{update_same, update_other}
-use Rattle.join_trees.specs.Pairs.{Pair, fit_after, fit, none_defined, agrees, provers_alike}
+use Rattle.join_trees.specs.Pairs.{Pair, fit_after, none_defined, agrees, provers_alike}
 use Rattle.join_trees.specs.Joined.{renamed}
 
 -- the new id by the first pair

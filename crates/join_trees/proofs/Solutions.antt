@@ -1,13 +1,13 @@
 -- The constraint records of two records and of the joined one: by the theorem of `cut`. Assumes nothing.
-use Prim.Native.Nat.{ℕ, ◌<◌}
+use Prim.Native.Nat.{ℕ}
 use mathlib.Core.Path.{◌≡◌, refl, sym, ap, ◌∙◌}
 use mathlib.Core.List.{List, [], ◌∷◌}
-use mathlib.Core.Bool.{Bool, true, false, not, ◌||◌}
-use mathlib.Core.Logic.{◌↔◌, ⊎_elim}
+use mathlib.Core.Bool.{Bool, true, false, not}
+use mathlib.Core.Logic.{⊎_elim}
 use lib.Dec.{eqb}
 use borrow.Author.Tests.{ne_eqb}
 use Rattle.flat.specs.Trees.{Definition, FlatModule, defines}
-use Rattle.flat.specs.Rules.{All, Every, WellFormed}
+use Rattle.flat.specs.Rules.{All, WellFormed}
 use Rattle.flat.specs.Meaning.{Assignment, Elements, DefinitionHolds}
 use Rattle.join_trees.proofs.Lists.{not-both}
 use Rattle.constraint.specs.Trees.{ConstraintModule}
@@ -19,9 +19,8 @@ use Rattle.pass_trees.proofs.Classified.{all_both, those-back}
 use Rattle.pass_trees.proofs.Counted.{counted-least}
 use Rattle.pass_trees.proofs.Working.{worked-elements, worked-other}
 use Rattle.pass_trees.proofs.Agreement.{cut-keeps-meaning-at, inputs-given}
-use Rattle.join_trees.specs.Pairs.{Pair}
 use Rattle.join_trees.specs.Joined.{joined}
-use Rattle.join_trees.specs.Statements.{Joinable, ruled, values, NoZero, second_inputs, JoinSolves, JoinKeepsSolutions}
+use Rattle.join_trees.specs.Statements.{ruled, values, NoZero, second_inputs, JoinKeepsSolutions}
 use Rattle.join_trees.proofs.Once.{which}
 use Rattle.join_trees.proofs.Wellformed.{joined-well-formed}
 use Rattle.join_trees.proofs.Meaning.{join-keeps-meaning, worked-holds}

@@ -1,21 +1,20 @@
 -- The joined module keeps every rule of a lent record's module. Assumes nothing.
 use Prim.Native.Nat.{ℕ, ◌+◌, ◌≤◌, ◌<◌}
-use mathlib.Core.Path.{◌≡◌, refl, sym, ap, ap₂, ◌∙◌}
+use mathlib.Core.Path.{◌≡◌, refl, sym, ap, ◌∙◌}
 use mathlib.Core.List.{List, [], ◌∷◌, ◌++◌}
-use mathlib.Core.Bool.{Bool, true, false, not, ◌&&◌, ◌||◌}
+use mathlib.Core.Bool.{Bool, true, false, ◌||◌}
 use mathlib.Core.Logic.{◌⊎◌, ⊎_elim}
 use native.Mathlib.Omega.{arith}
-use lib.Dec.{eqb}
 use borrow.Author.Tests.{ne_eqb}
-use Rattle.flat.specs.Trees.{Flat, Definition, Equation, FlatModule, defines}
+use Rattle.flat.specs.Trees.{Flat, Definition, FlatModule, defines}
 use Rattle.flat.specs.Rules.{All, Every, Ordered, Rising, WellFormed}
 use Rattle.std.proofs.lemmas.Bool.{cases_eq}
 use Rattle.join_trees.proofs.Lists.{not-both}
 use Rattle.pass_trees.specs.Passes.{member}
 use Rattle.pass_trees.proofs.Lists.{all_map, all_append, every_map, every-both, or-false}
-use Rattle.pass_trees.proofs.Classified.{all_both, all-defined}
+use Rattle.pass_trees.proofs.Classified.{all-defined}
 use Rattle.join_trees.specs.Pairs.{Pair, fit}
-use Rattle.join_trees.specs.Joined.{renamed, renamed_ids, renamed_tree, renamed_definition, renamed_definitions, renamed_equations, once_after, once, joined}
+use Rattle.join_trees.specs.Joined.{renamed, renamed_ids, renamed_tree, renamed_definitions, renamed_equations, once_after, once, joined}
 use Rattle.join_trees.specs.Statements.{Joinable, JoinedWellFormed}
 use Rattle.join_trees.proofs.Renaming.{shared-or-moved, renamed-injective, defined-moved, provers-same}
 use Rattle.join_trees.proofs.Once.{once-all, seen_after, once-append, seen-member, members}

@@ -7,7 +7,6 @@ use mathlib.Core.Logic.{◌↔◌, ⊎_elim}
 use lib.IntN.{ℤ}
 use Rattle.field.specs.Operations.{Answer, HasValue}
 use Rattle.flat.specs.Trees.{Flat, Definition, Equation}
-use Rattle.flat.specs.Rules.{All}
 use Rattle.flat.specs.Meaning.{update, Assignment, on_values, negated, value, DefinitionHolds, EquationHolds, NoZeroDivisor, or_zero, worked_out, NoZeroInTurn}
 use Rattle.std.proofs.lemmas.Bool.{cases_eq}
 use Rattle.pass_trees.proofs.Lists.{update_same, update_other}

@@ -6,7 +6,7 @@ use Rattle.flat.specs.Layout.{next, publics, provers, definitions, equations, no
 use Rattle.flat.specs.Layout.{public_at, prover_at, definition_entry, equation_entry, node_at, header_words, definition_words, equation_words, node_words}
 use Rattle.flat.specs.Record.{rows, pick}
 use Rattle.records.specs.Kinds.{CONSTANT, INFIX, NEGATE}
-use Rattle.join_trees.specs.Pairs.{Pair, pairs_of}
+use Rattle.join_trees.specs.Pairs.{Pair}
 use Rattle.join_trees.specs.Joined.{renamed, renamed_ids, once}
 
 -- the words of n entries from index k on, one behind the other

@@ -1,7 +1,7 @@
 -- The turns of the loops that write entries: what is written so far and what is left to write is always the whole list. Assumes nothing.
 use Prim.Native.Nat.{ℕ, zero, suc, ◌+◌, ◌-◌, ◌*◌, ◌≤◌, ◌<◌}
-use mathlib.Core.Path.{◌≡◌, refl, sym, ap, ap₂, subst, ◌∙◌}
-use mathlib.Core.List.{List, [], ◌∷◌, ◌++◌}
+use mathlib.Core.Path.{◌≡◌, refl, sym, ap, ap₂, ◌∙◌}
+use mathlib.Core.List.{List, ◌∷◌, ◌++◌}
 use native.Mathlib.Nat.{mul-zero, mul-suc}
 use native.Mathlib.Omega.{arith}
 use lib.ListN.{length}
@@ -184,7 +184,7 @@ module _ (s : List ℕ) (fine : Readable s) (k : ℕ) (l : k < nodes s) where
       omega (arith, fits_8 K X Y Z (next s) k (fits-at s (nodes_offset s) (nodes s) (next s) fine.nodes-fit k l) n4 n5 n7, fine.next_small)
 
   pub small-entry : {n : NodeEntry} → n ≡ node_entry s (nodes_offset s) k → SmallEntry n
-  small-entry e = rw e ( record { of_infix = small-4; of_negate = small-5; of_variable = small-8 })
+  small-entry e = rw e (record { of_infix = small-4; of_negate = small-5; of_variable = small-8 })
 
 -- ---- lists of ids
 
@@ -198,7 +198,7 @@ pub provers-ids : (s : List ℕ) (at n : ℕ) → Readable s → at ≡ provers_
 provers-ids s at n fine p e = (
   omega (arith, fine.long),
   λ k l. let q : word_at s (at + k) ≡ word_at s (provers_offset s + k) = ap (λ (x : ℕ). word_at s (x + k)) p in
-    omega (arith, prover-below fine k (omega arith), fine.next_small, q),
+      omega (arith, prover-below fine k (omega arith), fine.next_small, q),
 )
 
 -- what ids become, one behind the other

@@ -1,11 +1,11 @@
 -- The turns of the loop that writes each id once. Assumes nothing.
-use Prim.Native.Nat.{ℕ, zero, suc, ◌+◌, ◌-◌, ◌*◌, ◌≤◌, ◌<◌}
+use Prim.Native.Nat.{ℕ, ◌+◌, ◌-◌, ◌*◌, ◌≤◌, ◌<◌}
 use mathlib.Core.Path.{◌≡◌, refl, sym, ap, ap₂, ◌∙◌, fun_ext}
 use mathlib.Core.List.{List, [], ◌∷◌, ◌++◌}
 use mathlib.Core.Bool.{Bool, true, false, cond, ◌||◌}
 use mathlib.Core.Logic.{⊎_elim}
 use native.Mathlib.Omega.{arith}
-use lib.ListN.{length, get_or, set, replicate, length-set, length-append, length-replicate, get_or-replicate, get_or-eq_default}
+use lib.ListN.{length, set, replicate, length-set, length-append, length-replicate, get_or-replicate, get_or-eq_default}
 use Rattle.words.specs.Words.{set_word, set_words}
 use Rattle.words.proofs.Laws.{set_words-append, length-set_words}
 use Rattle.std.proofs.lemmas.Bool.{cases_lt}
@@ -81,10 +81,10 @@ once-turn f n k to end end' x seen₀ seen seen' before now after l ex lx ee es 
     ap (once_after (marked seen)) next ∙ once-append (marked seen) (x ∷ []) rest ∙ ap (λ (s : ℕ → Bool). one ++ once_after s rest) (sym marks-are) in
     record {
       left =
-        ap₂ (λ (t : List ℕ) (i : ℕ). set_words t i (once_after (marked seen') rest)) ea ee
-        ∙ sym (set_words-append one (once_after (marked seen') rest) now end)
-        ∙ sym (ap (set_words now end) split)
-        ∙ h.left;
+          ap₂ (λ (t : List ℕ) (i : ℕ). set_words t i (once_after (marked seen') rest)) ea ee
+          ∙ sym (set_words-append one (once_after (marked seen') rest) now end)
+          ∙ sym (ap (set_words now end) split)
+          ∙ h.left;
       ends = omega (arith, ee, ap length split, length-append one (once_after (marked seen') rest), h.ends);
       marks = ap (λ (s : ℕ → Bool). seen_after s rest) marks-are ∙ sym (ap (seen_after (marked seen)) next) ∙ h.marks;
       seen-long = ap length es ∙ length-set seen x true ∙ h.seen-long;

@@ -1,15 +1,15 @@
 -- The record in one piece: lists that are written one behind the other, with the header put in front at the end. Assumes nothing.
-use Prim.Native.Nat.{ℕ, suc, ◌+◌, ◌-◌, ◌*◌, ◌≤◌, ◌<◌}
+use Prim.Native.Nat.{ℕ, suc, ◌+◌, ◌*◌, ◌≤◌}
 use mathlib.Core.Path.{◌≡◌, refl, sym, ap, ap₂, ◌∙◌}
 use mathlib.Core.List.{List, [], ◌∷◌, ◌++◌, append_assoc}
-use mathlib.Core.Bool.{Bool, true, false, ◌&&◌}
+use mathlib.Core.Bool.{Bool, true, false}
 use native.Mathlib.Omega.{arith}
 use lib.Dec.{leb}
 use lib.ListN.{length, take, drop, length-append}
 use lib.Seq.{drop_at, length-take-le}
 use borrow.Author.Tests.{leb-true}
 use Rattle.std.specs.Prelude.{Result, Ok, Err}
-use Rattle.words.specs.Words.{word_at, set_words, bytes_of}
+use Rattle.words.specs.Words.{set_words, bytes_of}
 use Rattle.words.proofs.Laws.{length-set_words, set_words-append, set_words-bytes, bytes_of-append}
 use Rattle.flat.specs.declared.Layout.{Layout}
 use Rattle.flat.specs.declared.entries.Header.{Header}
@@ -306,6 +306,6 @@ module _ (a b : List ℕ) (r : ℕ → ℕ) where
         rw q (
           ap {B = Result ℕ Refusal} Ok (omega (arith, size-is, length-words)),
           e3 ∙ ap₂ (λ (x : List ℕ) (i : ℕ). set_words x i (list_words a b r)) front seam
-            ∙ sym (set_words-append (H ++ id_words a b r) (list_words a b r) out 0)
-            ∙ ap (set_words out 0) (sym words_are),
+              ∙ sym (set_words-append (H ++ id_words a b r) (list_words a b r) out 0)
+              ∙ ap (set_words out 0) (sym words_are),
         )

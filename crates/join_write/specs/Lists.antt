@@ -1,5 +1,5 @@
 -- Facts that the structs of the code keep. Each is said by at most one proof.
-use Rattle.std.specs.Prelude.{◌≡◌, ℕ, ◌+◌, ◌*◌, ◌≤◌, ◌<◌, List, length}
+use Rattle.std.specs.Prelude.{ℕ, ◌+◌, ◌*◌, ◌≤◌, ◌<◌, List, length}
 use Rattle.std.specs.Coded.{le_prop}
 use Rattle.words.specs.Words.{word_at}
 use Rattle.records.specs.FlatRecord.{IDS}

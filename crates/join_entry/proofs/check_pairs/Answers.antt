@@ -53,8 +53,7 @@ returns c =
     let e = c.in_ok-names.ensures in
     let f = module_of c.args.first.now.bytes.now in
     let g = module_of c.args.second.now.bytes.now in
-    let fit = pairs-test f g _ (module-next _ c.args.first.now.laid) (module-next _ c.args.second.now.laid) true e.0 in
-    (
+    let fit = pairs-test f g _ (module-next _ c.args.first.now.laid) (module-next _ c.args.second.now.laid) true e.0 in (
       pairs-pass _ _ _ _ _ fit (sym c.none_defined.ensures ∙ c.if-not-none_defined.false) (sym c.provers_alike.ensures ∙ c.if-not-provers_alike.false),
       e.1 ∙ ap {B = ℕ → ℕ} (λ (n : ℕ). renamed (pairs_of c.args.pairs.now) n) (module-next _ c.args.first.now.laid),
     )

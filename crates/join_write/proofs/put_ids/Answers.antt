@@ -1,11 +1,9 @@
 -- `join_write::put_ids` meets its contract. Assumes nothing.
 use native.Mathlib.Omega.{arith}
-use mathlib.Core.Path.{ap, ◌∙◌}
-use mathlib.Core.List.{List}
-use Prim.Native.Nat.{ℕ}
+use mathlib.Core.Path.{ap}
 use lib.ListN.{length}
 use Rattle.join_write.proofs.EntryTurns.{numbers}
-use Rattle.join_write.proofs.Whole.{publics-both, provers-both, middle-small, provers-few, provers-room, middle-is, ids-written, header-is}
+use Rattle.join_write.proofs.Whole.{publics-both, provers-both, middle-small, provers-few, provers-room, ids-written, header-is}
 use Rattle.join_write.proofs.put_ids.Goals as goal
 
 pub put_both-end-requires : goal.put_both-end-requires

@@ -1,5 +1,4 @@
 -- `join_write::put_lists` meets its contract. Assumes nothing.
-use native.Mathlib.Omega.{arith}
 use Rattle.join_write.proofs.Whole.{lists-beside}
 use Rattle.join_write.proofs.put_lists.Goals as goal
 

@@ -16,8 +16,7 @@ new-record-requires c = checked-readable _ (sym c.check_flat.ensures ∙ c.in_ok
 
 pub returns-then-cuttable : goal.returns-then-cuttable
 returns-then-cuttable c =
-    let same = ap (λ (r : Record). r.bytes.now) c.classify_defs.ensures.0 ∙ c.new-record.ensures in
-    (
+    let same = ap (λ (r : Record). r.bytes.now) c.classify_defs.ensures.0 ∙ c.new-record.ensures in (
       c.new-record.ensures,
       lent-cuttable _ (sym c.check_flat.ensures ∙ c.in_ok-check_flat.was) _ (cuttable-same _ _ same c.cuttable.ensures) c.if-cuttable.true,
     )

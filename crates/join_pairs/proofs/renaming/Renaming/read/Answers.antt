@@ -28,8 +28,8 @@ loop-k-preserved c =
     record {
       shift_is = t.shift_after ∙ i.shift_is;
       reading =
-        pair-taken i.reading c.loop-k-test.true i.shift_is c.pair_at.ensures t.value c.requires.0 c.requires.1 t.firsts_after t.taken_after
-        c.if-not-take.false;
+          pair-taken i.reading c.loop-k-test.true i.shift_is c.pair_at.ensures t.value c.requires.0 c.requires.1 t.firsts_after t.taken_after
+          c.if-not-take.false;
     }
 
 pub returns : goal.returns

@@ -1,6 +1,4 @@
 -- `join_write::part::Part::provers` meets its contract. Assumes nothing.
-use native.Mathlib.Omega.{arith}
-use mathlib.Core.Path.{refl, ap, ◌∙◌}
 use Rattle.join_write.proofs.EntryTurns.{numbers, provers-ids, list-is}
 use Rattle.join_write.proofs.part.Part.provers.Goals as goal
 

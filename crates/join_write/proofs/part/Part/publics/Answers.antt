@@ -1,6 +1,5 @@
 -- `join_write::part::Part::publics` meets its contract. Assumes nothing.
-use native.Mathlib.Omega.{arith}
-use mathlib.Core.Path.{refl, ap, ◌∙◌}
+use mathlib.Core.Path.{refl}
 use Rattle.join_write.proofs.EntryTurns.{numbers, publics-ids, list-is}
 use Rattle.join_write.proofs.part.Part.publics.Goals as goal
 

@@ -1,6 +1,6 @@
 -- `join_write::part::Part::put_definitions` meets its contract. Assumes nothing.
 use native.Mathlib.Omega.{arith}
-use mathlib.Core.Path.{refl, ap, ◌∙◌}
+use mathlib.Core.Path.{refl}
 use Rattle.join_write.proofs.EntryTurns.{numbers, writing_start, definitions-turn, definitions-end}
 use Rattle.join_write.proofs.part.Part.put_definitions.Goals as goal
 

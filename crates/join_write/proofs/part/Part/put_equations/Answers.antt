@@ -1,6 +1,6 @@
 -- `join_write::part::Part::put_equations` meets its contract. Assumes nothing.
 use native.Mathlib.Omega.{arith}
-use mathlib.Core.Path.{refl, ap, ◌∙◌}
+use mathlib.Core.Path.{refl}
 use Rattle.join_write.proofs.EntryTurns.{numbers, writing_start, equations-turn, equations-end}
 use Rattle.join_write.proofs.part.Part.put_equations.Goals as goal
 

@@ -1,7 +1,6 @@
 use mathlib.Core.Path.{◌≡◌}
 use Rattle.flat.specs.Layout.{equations}
 use Rattle.join_trees.specs.Record.{equation_moved}
-use Rattle.join_write.specs.Written.{part_ids}
 use Rattle.join_write.proofs.EntryTurns.{Writing}
 use Rattle.join_write.proofs.part.Part.put_equations.Given as goal
 
