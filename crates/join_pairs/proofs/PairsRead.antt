@@ -152,7 +152,8 @@ module _ {b : List ℕ} {n m total k : ℕ} {firsts : List (Option ℕ)} {taken 
     pub pair-fails : t ≡ false → fit n m (pairs_of b) ≡ false
     pair-fails q = reading-fails l (test-is e f g false q)
 
-    pub pair-taken : {firsts' : List (Option ℕ)} {taken' : List Bool} → n ≤ 65536 → m ≤ 65536 → firsts' ≡ pick t (set firsts pair.second (Some pair.first)) firsts
+    pub pair-taken : {firsts' : List (Option ℕ)} {taken' : List Bool} → n ≤ 65536 → m ≤ 65536
+        → firsts' ≡ pick t (set firsts pair.second (Some pair.first)) firsts
         → taken' ≡ pick t (set taken pair.first true) taken → t ≡ true → Reading b n m total (k + 1) firsts' taken'
     unfolding pick
     pair-taken ln lm x y q =

@@ -44,7 +44,8 @@ pub none-read : (b : List ℕ) (m : List Bool) (k : ℕ) {pair : Pair} {t x : Bo
     → x ≡ not (marked m (pair_at b k).second)
 none-read b m k p q r = r ∙ ap not (q ∙ ap (λ (y : Pair). marked m y.second) p)
 
-pub alike-read : (b : List ℕ) (m m' : List Bool) (k : ℕ) {pair : Pair} {x : Bool} → pair ≡ pair_at b k → x ≡ agrees (marked m pair.first) (marked m' pair.second)
+pub alike-read : (b : List ℕ) (m m' : List Bool) (k : ℕ) {pair : Pair} {x : Bool} → pair ≡ pair_at b k
+    → x ≡ agrees (marked m pair.first) (marked m' pair.second)
     → x ≡ agrees (marked m (pair_at b k).first) (marked m' (pair_at b k).second)
 alike-read b m m' k p q = q ∙ ap (λ (y : Pair). agrees (marked m y.first) (marked m' y.second)) p
 

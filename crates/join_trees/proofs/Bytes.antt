@@ -108,7 +108,8 @@ module _ {c s : List ℕ} {r : ℕ → ℕ} {d e up : ℕ} (p : Part c s r d e u
         λ i. record { left = t i; right = u i; place = w.2 i }
 
     definitions-from : (n j : ℕ) → j + n ≡ definitions s
-        → rows n (d + j) (definition_at c (definitions_offset c) to (nodes c)) ≡ renamed_definitions r (rows n j (definition_at s (definitions_offset s) from (nodes s)))
+        → rows n (d + j) (definition_at c (definitions_offset c) to (nodes c))
+        ≡ renamed_definitions r (rows n j (definition_at s (definitions_offset s) from (nodes s)))
     unfolding rows renamed_definitions
     definitions-from zero j q = refl
     definitions-from (suc n) j q =

@@ -5,7 +5,8 @@ use mathlib.Core.List.{List}
 use mathlib.Core.Logic.{⊎_elim}
 use native.Mathlib.Omega.{arith}
 use borrow.Author.Tests.{eq-eqb, ne_eqb}
-use Rattle.flat.specs.Layout.{next, definitions, equations, nodes, definitions_offset, equations_offset, nodes_offset, definition_entry, equation_entry, node_at}
+use Rattle.flat.specs.Layout.{next, definitions, equations, nodes, definitions_offset, equations_offset, nodes_offset}
+use Rattle.flat.specs.Layout.{definition_entry, equation_entry, node_at}
 use Rattle.flat.specs.Record.{pick, total, same, used_by, by_nodes, by_definitions, by_equations}
 use Rattle.flat.specs.Readable.{Readable}
 use Rattle.std.proofs.lemmas.Bool.{cases_eq}
@@ -121,7 +122,9 @@ module _ {c s : List ℕ} {r : ℕ → ℕ} {d e up : ℕ} (p : Part c s r d e u
   part_uses K = part_definitions K + part_equations K + part_nodes K
 
   abbrev pub own_uses : ℕ → ℕ
-  own_uses k = by_definitions s (definitions_offset s) (definitions s) k + by_equations s (equations_offset s) (equations s) k + by_nodes s (nodes_offset s) (nodes s) k
+  own_uses k =
+      by_definitions s (definitions_offset s) (definitions s) k + by_equations s (equations_offset s) (equations s) k
+      + by_nodes s (nodes_offset s) (nodes s) k
 
   pub uses-in : (k : ℕ) → part_uses (up + k) ≡ own_uses k
   uses-in k = omega (arith, definitions-in k, equations-in k, nodes-in k)

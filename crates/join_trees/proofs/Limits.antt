@@ -127,7 +127,8 @@ module _ (r : ℕ → ℕ) (up limit wider : ℕ) (low : (v : ℕ) → v < limit
 -- ---- each node of an accepted record is used once
 
 own-once : (s : List ℕ) → rules s ≡ true → (k : ℕ) → k < nodes s
-    → by_definitions s (definitions_offset s) (definitions s) k + by_equations s (equations_offset s) (equations s) k + by_nodes s (nodes_offset s) (nodes s) k ≡ 1
+    → by_definitions s (definitions_offset s) (definitions s) k + by_equations s (equations_offset s) (equations s) k
+    + by_nodes s (nodes_offset s) (nodes s) k ≡ 1
 unfolding rules trees_hold used_once
 own-once s h k l =
     let h4 = and_right (ids_hold s (layout_of s)) _ h in
@@ -209,7 +210,8 @@ module _ {a b : List ℕ} (fa : Readable a) (fb : Readable b) (ra : rules a ≡ 
   unfolding module_of
   prover-is k l =
       let z : 0 + k ≡ k = omega arith in
-      sym (rows_at (prover_at c (provers_offset c)) (provers c) 0 k 0 l ∙ ap (prover_at c (provers_offset c)) z) ∙ ap (λ (m : FlatModule). get_or m.provers k 0) module-is
+      sym (rows_at (prover_at c (provers_offset c)) (provers c) 0 k 0 l ∙ ap (prover_at c (provers_offset c)) z)
+      ∙ ap (λ (m : FlatModule). get_or m.provers k 0) module-is
 
   publics-below : all_below c 6 (publics c) (next c) ≡ true
   publics-below =

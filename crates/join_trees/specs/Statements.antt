@@ -24,7 +24,8 @@ cut_lent (Read.refused r) = Outcome.refused (refusal_number r)
 abbrev pub LentIsCut : Type 0
 LentIsCut =
     (b : List ℕ) →
-    ((f : FlatModule) → flat_of b ≡ Read.module-of f → cut_of f ≡ cut_lent (lent_of b)) × ((r : Refusal) → flat_of b ≡ Read.refused r → lent_of b ≡ Read.refused r)
+    ((f : FlatModule) → flat_of b ≡ Read.module-of f → cut_of f ≡ cut_lent (lent_of b))
+    × ((r : Refusal) → flat_of b ≡ Read.refused r → lent_of b ≡ Read.refused r)
 
 -- modules of two lent records, and pairs that pass 44 to 46
 pub record Joinable (f g : FlatModule) (ps : List Pair) : Type 0 where

@@ -10,7 +10,8 @@ use Rattle.words.proofs.Laws.{length-set_words, set_words-append}
 use Rattle.flat.specs.declared.Layout.{Layout}
 use Rattle.flat.specs.declared.entries.DefinitionEntry.{DefinitionEntry}
 use Rattle.flat.specs.declared.entries.EquationEntry.{EquationEntry}
-use Rattle.flat.specs.Layout.{layout_of, next, publics, provers, definitions, equations, nodes, provers_offset, definitions_offset, equations_offset, nodes_offset}
+use Rattle.flat.specs.Layout.{layout_of, next, publics, provers, definitions, equations, nodes}
+use Rattle.flat.specs.Layout.{provers_offset, definitions_offset, equations_offset, nodes_offset}
 use Rattle.flat.specs.Layout.{definition_entry, equation_entry, node_at, definition_words, equation_words, node_words}
 use Rattle.flat.specs.Record.{rows}
 use Rattle.flat.specs.Readable.{Readable}

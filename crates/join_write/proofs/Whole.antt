@@ -64,7 +64,8 @@ lists-written a b r z ez out o1 o2 o3 o4 o5 o6 to i1 i2 i3 i4 i5 e1 e2 e3 e4 e5 
     ∙ q2)
 
 -- the same where the first's nodes stay and the second's come behind them
-pub lists-beside : (a b : List ℕ) (r : ℕ → ℕ) {z : ℕ → ℕ} {m n : ℕ} → z ≡ (λ v. v) → m ≡ 0 → n ≡ nodes a → (out o1 o2 o3 o4 o5 o6 : List ℕ) (to i1 i2 i3 i4 i5 : ℕ)
+pub lists-beside : (a b : List ℕ) (r : ℕ → ℕ) {z : ℕ → ℕ} {m n : ℕ} → z ≡ (λ v. v) → m ≡ 0 → n ≡ nodes a
+    → (out o1 o2 o3 o4 o5 o6 : List ℕ) (to i1 i2 i3 i4 i5 : ℕ)
     → o1 ≡ set_words out to (definitions_moved a z m)
     → o2 ≡ set_words o1 i1 (definitions_moved b r n)
     → o3 ≡ set_words o2 i2 (equations_moved a m)

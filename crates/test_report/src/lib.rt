@@ -119,7 +119,9 @@ pub fn read_rest(rt: &(impl Input + Eprint), s: &mut [u8]) -> Result<(), Stop>
 }
 
 // Reads as many bytes as `s` has, whatever they are: are they those of `s`?
-pub fn is_next(rt: &(impl Input + Eprint), s: &[u8]) -> Result<bool, Stop> {
+pub fn is_next(rt: &(impl Input + Eprint), s: &[u8]) -> Result<bool, Stop>
+    ensures { Rest result }
+{
     let mut same = true;
     for expected in s.chunks(BLOCK) {
         let mut block = [0u8; BLOCK];

@@ -32,7 +32,8 @@ returns-in_err-names c =
     let e = c.in_err-names.ensures in
     let f = module_of c.args.first.now.bytes.now in
     let g = module_of c.args.second.now.bytes.now in
-    rw (p.1, p.2) (pairs-44 _ _ _ _ _ (pairs-test f g _ (module-next _ c.args.first.now.laid) (module-next _ c.args.second.now.laid) false e.0) ∙ ap {B = Joining} (λ (r : Refusal). Err r) (sym e.1))
+    let failed = pairs-test f g _ (module-next _ c.args.first.now.laid) (module-next _ c.args.second.now.laid) false e.0 in
+    rw (p.1, p.2) (pairs-44 _ _ _ _ _ failed ∙ ap {B = Joining} (λ (r : Refusal). Err r) (sym e.1))
 
 pub returns-then-not-none_defined : goal.returns-then-not-none_defined
 returns-then-not-none_defined c =

@@ -93,4 +93,5 @@ pub returns-clause-out_after : goal.returns-clause-out_after
 returns-clause-out_after c =
     let w = c.requires.0 in
     let put = c.put_both-middle.ensures in
-    ids-written _ _ _ (publics-both _ _ _ w.ids-stay c.publics.ensures.ids c.publics-2.ensures.ids) (provers-both _ _ _ w.ids-stay c.provers.ensures.ids c.provers-2.ensures.ids) _ _ _ put.value put.out_after c.put_both-end.ensures.out_after
+    ids-written _ _ _ (publics-both _ _ _ w.ids-stay c.publics.ensures.ids c.publics-2.ensures.ids)
+    (provers-both _ _ _ w.ids-stay c.provers.ensures.ids c.provers-2.ensures.ids) _ _ _ put.value put.out_after c.put_both-end.ensures.out_after

@@ -8,8 +8,8 @@ pub loop-k-preserved : goal.loop-k-preserved
 loop-k-preserved c =
     let id = c.new_id-id.ensures in
     let put = c.put_new-end.ensures in
-    once-turn _ _ _ _ _ _ _ _ _ _ _ _ _ c.loop-k-test.true (id.value ∙ ap (new_ids c.args.self.now.names.now) c.word_at.ensures) id.within put.value put.seen_after
-    put.out_after c.loop-k.invariant
+    once-turn _ _ _ _ _ _ _ _ _ _ _ _ _ c.loop-k-test.true
+    (id.value ∙ ap (new_ids c.args.self.now.names.now) c.word_at.ensures) id.within put.value put.seen_after put.out_after c.loop-k.invariant
 
 pub returns : goal.returns
 returns c =

@@ -12,7 +12,9 @@ loop-k-preserved c =
     let i = c.loop-k.invariant in
     record {
       end = i.end;
-      writing = definitions-turn _ _ _ _ _ _ _ (omega (arith, i.end, c.loop-k-test.true)) c.definition-d.ensures.value c.new_id-id.ensures.value refl c.put_definition.ensures i.writing;
+      writing =
+        definitions-turn _ _ _ _ _ _ _ (omega (arith, i.end, c.loop-k-test.true)) c.definition-d.ensures.value c.new_id-id.ensures.value refl
+        c.put_definition.ensures i.writing;
     }
 
 pub returns-clause-value : goal.returns-clause-value

@@ -12,7 +12,9 @@ loop-k-preserved c =
     let i = c.loop-k.invariant in
     record {
       end = i.end;
-      writing = equations-turn _ (λ v. v) _ _ _ _ _ (omega (arith, i.end, c.loop-k-test.true)) c.equation-e.ensures.value refl refl c.put_equation.ensures i.writing;
+      writing =
+        equations-turn _ (λ v. v) _ _ _ _ _ (omega (arith, i.end, c.loop-k-test.true)) c.equation-e.ensures.value refl refl
+        c.put_equation.ensures i.writing;
     }
 
 pub returns-clause-value : goal.returns-clause-value

@@ -29,7 +29,8 @@ loop-k-preserved c =
       end = i.end;
       writing =
           nodes-turn _ _ _ _ _ _ _ (omega (arith, i.end, c.loop-k-test.true))
-          (c.read-node.ensures ∙ ap (λ (at : ℕ). node_entry s.bytes.now at c.loop-k.k) (numbers s.laid).nodes-at-is) c.moved.ensures c.put_node.ensures i.writing;
+          (c.read-node.ensures ∙ ap (λ (at : ℕ). node_entry s.bytes.now at c.loop-k.k) (numbers s.laid).nodes-at-is)
+          c.moved.ensures c.put_node.ensures i.writing;
     }
 
 pub returns-clause-value : goal.returns-clause-value
