@@ -9,7 +9,7 @@ use lib.Dec.{ltb}
 use lib.ListN.{length, set, length-set, replicate, length-replicate, get_or-replicate, get_or-eq_default}
 use lib.Seq.{get_or-set_same, get_or-set_other}
 use borrow.Author.Tests.{ltb-true}
-use Rattle.std.specs.Prelude.{Option, Some, None}
+use Rattle.std.specs.Prelude.{Option, Some, None, unwrap_or}
 use Rattle.std.proofs.lemmas.Bool.{cases_lt, cases_eq}
 use Rattle.flat.specs.Meaning.{update}
 use Rattle.marks.proofs.Indices.{and_left, and_right}
@@ -77,6 +77,11 @@ small-set firsts n v u m k s =
     )
 
 -- ---- a new id is one of two records'
+
+pub new-is : (o : Option ℕ) (w : ℕ) → unwrap_or o w ≡ id_by o w
+unfolding id_by
+new-is (Some u) w = refl
+new-is None w = refl
 
 pub new-below : (firsts : List (Option ℕ)) (n v : ℕ) → v < 65536 → Small firsts n → renamed_by firsts n v < 131072
 unfolding renamed_by id_by
