@@ -92,7 +92,7 @@ def many_different(name):
     for part in parts(name):
         if name == "test_source" and word(part, 0) == BASE:
             before = part
-        elif name != "test_flat" or word(part, k) > REFUSED:
+        elif name not in ("test_flat", "test_join") or word(part, k) > REFUSED:
             return before + 400 * (part[:4 * k] + words(word(part, k) + 1) + part[4 * k + 4:])
 
 

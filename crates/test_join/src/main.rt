@@ -20,12 +20,7 @@ const OUTPUT: usize = 378000;
 const UNWRITTEN: u8 = 165;
 
 // Whether the answer is the expected one, and the output as it was behind its first n bytes.
-fn answers(
-    inputs: [&[u8]; 3],
-    out: &mut [u8],
-    n: usize,
-    expected: Result<u32, u32>,
-) -> bool {
+fn answers(inputs: [&[u8]; 3], out: &mut [u8], n: usize, expected: Result<u32, u32>) -> bool {
     out.fill(UNWRITTEN);
     let [first, second, pairs] = inputs;
     let answer = join_entry::join(first, second, pairs, out).map_err(|r| r.number());
