@@ -4,8 +4,8 @@
     python3 tools/faults.py [FOLDER [PROGRAM..]]
 
 FOLDER has the built programs, target/bin by default, after
-`tools/build.sh cut_flat equalities expand flatten flatten_equalities renumber season season_lines test_eval test_field test_flat test_flatten test_numbering test_renumber test_season
-test_source`; all of these are tried, or those named. Every fault has to leave a line on standard error, or end the program by a signal, and to leave on standard output nothing but a front of the
+`tools/build.sh cut_flat equalities expand flatten flatten_equalities join renumber season season_lines test_eval test_field test_flat test_flatten test_join test_numbering test_renumber
+test_season test_source`; all of these are tried, or those named. Every fault has to leave a line on standard error, or end the program by a signal, and to leave on standard output nothing but a front of the
 right bytes: none is taken for success. A test program is tried on the first cases of its input and on many that differ from what they expect, each of
 which it tells by a line; without a fault on all of its input too. Printed is a line for each fault that was not handled so, then how many were tried
 on each program and the counts; the exit status is 1 if there is one.
@@ -74,6 +74,7 @@ PARTS = {
     "test_flatten": (3, lambda length, runs, size: 12 + 12 * runs + length + size, 5),
     "test_season": (3, lambda length, room, answer: 12 + length + (answer if answer < REFUSED else 0), 2),
     "test_renumber": (6, lambda kind, length, side, room, answer, table: 24 + length + kind * side + table + (answer if answer < REFUSED else 0), 4),
+    "test_join": (5, lambda first, second, pairs, room, answer: 20 + first + second + pairs + (answer if answer < REFUSED else 0), 4),
     "test_numbering": (4, lambda length, answer, ids, publics: 16 + length + 4 * (ids + publics), 1),
     "test_source": (2, lambda length, size: 24 + (size if length == BASE else 0), 1),
 }
@@ -104,7 +105,7 @@ def many_different(name):
     for part in parts(name):
         if name == "test_source" and word(part, 0) == BASE:
             before = part
-        elif name not in ("test_flat", "test_renumber", "test_season") or word(part, k) > REFUSED:
+        elif name not in ("test_flat", "test_join", "test_renumber", "test_season") or word(part, k) > REFUSED:
             return before + 400 * (part[:4 * k] + words(word(part, k) + 1) + part[4 * k + 4:])
 
 
@@ -119,6 +120,8 @@ SCRATCH = tempfile.mkdtemp()
 TABLES = {"renumber": os.path.join(SCRATCH, "written"), "expand": os.path.join(SCRATCH, "read")}
 with open(TABLES["expand"], "wb") as table:
     table.write(words(3, 0, 1, 2))
+# programs that read files alone, and what they are given
+FILES = {"join": [os.path.join(TOP, "crates", "join", "data", name) for name in ("first.record", "second.record", "pairs")]}
 
 PROGRAMS = {
     "cut_flat": lambda: (read("crates", "cut_flat", "stdin"), many_flat(400)),
@@ -129,14 +132,16 @@ PROGRAMS = {
     "season_lines": lambda: (read("crates", "season_lines", "stdin"), many_equalities(400)),
     "renumber": lambda: (many_terms(4), many_terms(400)),
     "expand": lambda: (many_terms(4), many_terms(400)),
+    "join": lambda: (b"", b""),
     "test_field": lambda: (b"", b""),
     **{name: lambda name=name: (front(name), many_different(name)) for name in PARTS},
 }
 
 
 def called(name, args=None):
-    """The words of a call, with the side table where nothing else is said."""
-    return [os.path.join(BIN, name), *([TABLES[name]] if args is None and name in TABLES else args or ())]
+    """The words of a call, with the side table or the files where nothing else is said."""
+    usual = [TABLES[name]] if name in TABLES else FILES.get(name, ())
+    return [os.path.join(BIN, name), *(usual if args is None else args)]
 
 
 def run(name, record=b"", args=None, stdin=None, stdout=subprocess.PIPE, before=None, env=None):
@@ -258,6 +263,12 @@ def arguments(name, record, whole):
     if name in TABLES:
         tables(name, record, whole)
         return
+    if name in FILES:
+        for k in range(len(FILES[name])):
+            for other, words_ in (("no such file", b"no such file: No such file or directory"), (TOP, b"input: Is a directory"), ("-x", usage), ("", b"")):
+                status, out, err = run(name, b"", FILES[name][:k] + [other] + FILES[name][k + 1:])
+                expect("%s, file %d is %r" % (name, k, other), out == b"" and said(err, words_))
+        return
     if name in NUMBERS:
         status, out, err = run(name, record, NUMBERS[name])
         expect(name + ", long numbers", (out, err) == (whole, b""))
@@ -334,7 +345,7 @@ def tried(name):
     slow_reader(name, large, whole)
     status, whole, err = run(name, small)
     arguments(name, small, whole)
-    if name != "test_field":
+    if name != "test_field" and name not in FILES:
         reads(name, small, whole)
     if name in PARTS:
         some_cases(name, small, large)

@@ -18,6 +18,7 @@ ghost use Rattle.records.specs.Kinds.{NODE-WORDS};
 use entries::{DEFINITION_WORDS, EQUATION_WORDS, Header};
 use field::InfixOp;
 use measured::Measured;
+pub use measured::has_few;
 use records::NODE_WORDS;
 use records::flat_record::HEADER;
 use records::nodes::NodeEntry;

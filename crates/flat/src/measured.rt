@@ -11,7 +11,7 @@ use records::refusals::Refusal;
 
 // Whether no list is longer than a record's may be.
 #[tactic(auto, unfolding(crate::specs::Record::has_few))]
-fn has_few(l: &Layout) -> bool
+pub fn has_few(l: &Layout) -> bool
     ensures { result ≡ has_few l.now }
 {
     l.publics <= PUBLICS

@@ -17,15 +17,15 @@ use Rattle.pass_classify.specs.Readable.{tree_of}
 -- ---- rows from an index on
 
 module _ {A : Type 0} (n k : ℕ) (f : ℕ → A) where
-  rows_more : k < n → rows (n - k) k f ≡ f k ∷ rows (n - (k + 1)) (k + 1) f
+  pub rows_more : k < n → rows (n - k) k f ≡ f k ∷ rows (n - (k + 1)) (k + 1) f
   unfolding rows
   rows_more l = let e : n - k ≡ suc (n - (k + 1)) = omega arith in rw (e, add-one)
 
-  rows_none : n ≤ k → rows (n - k) k f ≡ []
+  pub rows_none : n ≤ k → rows (n - k) k f ≡ []
   unfolding rows
   rows_none l = let e : n - k ≡ 0 = omega arith in rw e
 
-rows_whole : {A : Type 0} (n : ℕ) (f : ℕ → A) → rows n 0 f ≡ rows (n - 0) 0 f
+pub rows_whole : {A : Type 0} (n : ℕ) (f : ℕ → A) → rows n 0 f ≡ rows (n - 0) 0 f
 rows_whole n f = let e : n ≡ n - 0 = omega arith in ap (λ (m : ℕ). rows m 0 f) e
 
 -- the prover ids, definitions and equations from index k on

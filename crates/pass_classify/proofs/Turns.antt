@@ -106,7 +106,7 @@ pub marked_start : (b : List ℕ) (m : List Bool) → MarkedFrom b m m 0
 marked_start b m v = ap (λ (ws : List ℕ). marked m v || member v ws) (sym (provers-whole b))
 
 -- one more is marked
-marked-yes : (m : List Bool) (v : ℕ) → v < length m → (w : ℕ) → marked (set m v true) w ≡ (eqb w v || marked m w)
+pub marked-yes : (m : List Bool) (v : ℕ) → v < length m → (w : ℕ) → marked (set m v true) w ≡ (eqb w v || marked m w)
 marked-yes m v l w = ap (λ (f : ℕ → Bool). f w) (marked-set m v true l) ∙ ⊎_elim
     (λ (e : w ≡ v). rw (eq-eqb w v e, e) (update_same (marked m) v true))
     (λ (n : w ≡ v → ⊥). rw (ne_eqb w v n) (update_other (marked m) v true w n))
@@ -169,7 +169,7 @@ every-turns (suc n) rest p h =
     every-turns n rest p (λ k l. h k (omega arith)) ∙ ap (λ (c : Bool). every n p && c) last ∙ sym (and_assoc (every n p) (p n) (rest (suc n)))
 
 -- so where nothing is left at the end, all of it is tested
-every-left : (n : ℕ) (rest p : ℕ → Bool) → ((k : ℕ) → k < n → rest k ≡ (p k && rest (k + 1))) → rest n ≡ true → every n p ≡ rest 0
+pub every-left : (n : ℕ) (rest p : ℕ → Bool) → ((k : ℕ) → k < n → rest k ≡ (p k && rest (k + 1))) → rest n ≡ true → every n p ≡ rest 0
 every-left n rest p h e = sym (every-turns n rest p h ∙ rw (e, and-true))
 
 module _ (b : List ℕ) where

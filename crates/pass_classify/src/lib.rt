@@ -22,7 +22,7 @@ use records::flat_record::ID_COUNT;
 
 type Usages = [Usage; ID_COUNT];
 
-type Provers = [bool; ID_COUNT];
+pub type Provers = [bool; ID_COUNT];
 
 // A readable record, and after classify_defs how each id is used and whether it is the prover's.
 // Kept as it is: two arrays by id, not one of pairs, since the definitions have a function for each, and most functions read one of them.
@@ -97,7 +97,7 @@ fn mark_definitions(record: &Record, provers: &Provers, usage: &mut Usages)
 }
 
 // The record's prover ids are marked.
-fn mark_provers(record: &Record, provers: &mut Provers)
+pub fn mark_provers(record: &Record, provers: &mut Provers)
     ensures { Marks provers.new (λ v. marked provers.old v || member v (module_of record.now.bytes.now).provers) }
 {
     for k in 0..record.layout.provers {

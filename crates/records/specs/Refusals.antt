@@ -1,6 +1,6 @@
 -- The refusals and their numbers, by the place of the check: 1 to 6 of a source record, in the order of its parts; 10 to 19 of evaluation, as first met;
 -- 20 to 22 of a flat record; 30 to 32 of the stores, as met; 33 of the output; 42 of a constraint record, and behind it 43 of a season's calibrations
--- and 47 of a side table.
+-- and 47 of a side table; 44 to 46 of the pairs by which two flat records are joined.
 use Rattle.std.specs.Prelude.{ℕ, Result, Ok, Err}
 use Rattle.records.specs.declared.refusals.Refusal.{Refusal}
 
@@ -31,6 +31,9 @@ refusal_number Refusal.Ids = 32
 refusal_number Refusal.Output = 33
 refusal_number Refusal.ConstraintRecord = 42
 refusal_number Refusal.Calibrations = 43
+refusal_number Refusal.Pair = 44
+refusal_number Refusal.SharedDefinition = 45
+refusal_number Refusal.SharedProver = 46
 refusal_number Refusal.SideTable = 47
 
 -- an answer, whose refusal is known by its number

@@ -186,3 +186,16 @@ pub fn open_input<R: Env + Files + Eprint>(rt: &R, usage: &str) -> Result<Opened
         _ => Err(say_usage(rt, usage)),
     }
 }
+
+// The file that argument i names. An option, or no argument, is answered by the line of usage.
+pub fn open_argument<R: Env + Files + Eprint>(
+    rt: &R,
+    i: usize,
+    usage: &str,
+) -> Result<Opened<R::File>, Failed> {
+    let mut name = [0u8; NAME];
+    match rt.arg(i, &mut name) {
+        Ok(n) => open_named(rt, &name[..n], usage),
+        Err(_) => Err(say_usage(rt, usage)),
+    }
+}

@@ -6,8 +6,8 @@
 use std::rt::Env;
 use streams::{Failed, open_standard};
 use test_report::{
-    CASES_TEXT, Cases, Counts, KINDS_OF_CASES, Stop, Verdict, read_rest, read_words, replay_all,
-    said,
+    CASES_TEXT, Cases, Counts, KINDS_OF_CASES, Stop, Verdict, is_next, read_rest, read_words,
+    replay_all, said,
 };
 
 // Room for the record, the store and the output of each case.
@@ -17,26 +17,11 @@ const STORE: usize = 1024;
 
 const OUTPUT: usize = 540000;
 
-// Bytes are compared by blocks.
-const BLOCK: usize = 4096;
-
 // What stands in the output and in the store before a case.
 // Kept as it is: each program fills what it lends with a byte of its own choice, and no test needs them to be alike.
 const UNWRITTEN: u8 = 165;
 
 const UNCLEARED: u8 = 90;
-
-// Reads as many bytes as `s` has, whatever they are: are they those of `s`?
-fn is_next(rt: &(impl Input + Eprint), s: &[u8]) -> Result<bool, Stop> {
-    let mut same = true;
-    for expected in s.chunks(BLOCK) {
-        let mut block = [0u8; BLOCK];
-        let block = &mut block[..expected.len()];
-        read_rest(rt, block)?;
-        same &= &*block == expected;
-    }
-    Ok(same)
-}
 
 // Whether the answer is the expected one, and the output as it was behind its first n bytes.
 fn answers(

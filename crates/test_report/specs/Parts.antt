@@ -12,7 +12,7 @@ Asked (Err Stop.Broken) size = 1 < size
 Asked (Err Stop.Failed) size = Unit {0}
 
 -- the input must not end in front of what belongs to a part
-abbrev pub Rest : Result (Unit {0}) Stop → Type 0
+abbrev pub Rest : {T : Type 0} → Result T Stop → Type 0
 Rest (Ok _) = Unit {0}
 Rest (Err Stop.End) = ⊥
 Rest (Err Stop.Broken) = Unit {0}

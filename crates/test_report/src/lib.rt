@@ -73,6 +73,9 @@ pub fn said(word: u32) -> Result<u32, u32>
 // More cases are not counted.
 const MANY: u64 = 10000000;
 
+// Bytes are compared by blocks.
+const BLOCK: usize = 4096;
+
 // How many parts a program takes.
 const PARTS: u64 = 1000000;
 
@@ -113,6 +116,20 @@ pub fn read_rest(rt: &(impl Input + Eprint), s: &mut [u8]) -> Result<(), Stop>
         Err(Stop::End) => Err(Stop::Broken),
         other => other,
     }
+}
+
+// Reads as many bytes as `s` has, whatever they are: are they those of `s`?
+pub fn is_next(rt: &(impl Input + Eprint), s: &[u8]) -> Result<bool, Stop>
+    ensures { Rest result }
+{
+    let mut same = true;
+    for expected in s.chunks(BLOCK) {
+        let mut block = [0u8; BLOCK];
+        let block = &mut block[..expected.len()];
+        read_rest(rt, block)?;
+        same &= &*block == expected;
+    }
+    Ok(same)
 }
 
 // A text on standard output, with a count for each '#' of it; the answer is how many bytes that were.

@@ -1,6 +1,6 @@
 use Rattle.std.proofs.Common.{◌≡◌}
 use Rattle.std.specs.Slice.Iter.{chunks_size}
-use Rattle.test_flat.proofs.is_next.Given as goal
+use Rattle.test_report.proofs.is_next.Given as goal
 
 abbrev pub invariant-loop-expected : goal.invariant-loop-expected
 invariant-loop-expected g l =

@@ -1,0 +1,4 @@
+pub mod Arrays
+pub mod PairsRead
+pub mod Tests
+pub mod Defined

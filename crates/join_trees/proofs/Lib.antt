@@ -1,0 +1,14 @@
+pub mod Renaming
+pub mod Once
+pub mod Lists
+pub mod Wellformed
+pub mod Empty
+pub mod Working
+pub mod Meaning
+pub mod Solutions
+pub mod Lent
+pub mod Entries
+pub mod Parts
+pub mod Bytes
+pub mod Counting
+pub mod Limits

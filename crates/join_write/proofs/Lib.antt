@@ -1,0 +1,3 @@
+pub mod EntryTurns
+pub mod OnceTurns
+pub mod Whole

@@ -1,0 +1,83 @@
+// Replays joins: two flat records, pairs and what they make together, by tools/join_cases.py. A case on standard input: the
+// words first's, second's and pairs' length, output room and expected answer (a length, or 4,294,901,760 and the number of a
+// refusal), the three inputs, and the expected record. A read or a write that fails is said on standard error.
+#![tactic(auto)]
+
+use std::rt::Env;
+use streams::{Failed, open_standard};
+use test_report::{
+    CASES_TEXT, Cases, Counts, KINDS_OF_CASES, Stop, Verdict, is_next, read_rest, read_words,
+    replay_all, said,
+};
+
+// Room for each input and for the output of a case.
+const INPUT: usize = 378000;
+
+const OUTPUT: usize = 378000;
+
+// What stands in the output before a case.
+// Kept as it is: each program fills what it lends with a byte of its own choice, and no test needs them to be alike.
+const UNWRITTEN: u8 = 165;
+
+// Whether the answer is the expected one, and the output as it was behind its first n bytes.
+fn answers(inputs: [&[u8]; 3], out: &mut [u8], n: usize, expected: Result<u32, u32>) -> bool {
+    out.fill(UNWRITTEN);
+    let [first, second, pairs] = inputs;
+    let answer = join_entry::join(first, second, pairs, out).map_err(|r| r.number());
+    let same = answer == expected.map(|length| length as usize);
+    let rest = out.iter().skip(n).all(|b| *b == UNWRITTEN);
+    same && rest
+}
+
+// What is lent to a case.
+#[derive(Drop)]
+struct Lent {
+    first: [u8; INPUT],
+    second: [u8; INPUT],
+    pairs: [u8; INPUT],
+    out: [u8; OUTPUT],
+}
+
+impl Cases<KINDS_OF_CASES> for Lent {
+    fn replay<R: Input + Print + Eprint>(
+        &mut self,
+        rt: &R,
+        part: u64,
+        counts: &mut Counts<KINDS_OF_CASES>,
+    ) -> Result<(), Stop> {
+        let [length, next, couples, room, answer] = read_words::<5>(rt)?;
+        let expected = said(answer);
+        let first = self.first.get_mut(..length as usize).ok_or(Stop::Broken)?;
+        let second = self.second.get_mut(..next as usize).ok_or(Stop::Broken)?;
+        let pairs = self.pairs.get_mut(..couples as usize).ok_or(Stop::Broken)?;
+        let out = self.out.get_mut(..room as usize).ok_or(Stop::Broken)?;
+        read_rest(rt, first)?;
+        read_rest(rt, second)?;
+        read_rest(rt, pairs)?;
+        // How many bytes the expected answer writes.
+        let n = expected.unwrap_or(0) as usize;
+        if out.len() < n {
+            return Err(Stop::Broken);
+        }
+        let right = answers([&*first, &*second, &*pairs], out, n, expected);
+        let same = is_next(rt, &out[..n])?;
+        let verdict = Verdict::of(right && same, expected.is_ok());
+        counts.count_case(rt, verdict as usize, part)?;
+        Ok(())
+    }
+}
+
+fn run(rt: &(impl Env + Input + Print + Eprint)) -> Result<u64, Failed> {
+    open_standard(rt, "usage: test_join < CASES\n")?;
+    let mut lent = Lent {
+        first: [0; INPUT],
+        second: [0; INPUT],
+        pairs: [0; INPUT],
+        out: [0; OUTPUT],
+    };
+    replay_all(rt, &mut lent, &mut Counts::of_verdicts(), CASES_TEXT)
+}
+
+fn main(rt: HostRuntime) {
+    let _ = run(&rt);
+}
