@@ -58,7 +58,7 @@ module _ (f : FlatModule) where
   abbrev used : List Definition
   used = those (λ v. not (is_never (usage f v))) f.definitions
 
-  passes-shared : length (passes f).equalities + definitions_nodes (passes f).kept ≤ module_nodes f
+  pub passes-shared : length (passes f).equalities + definitions_nodes (passes f).kept ≤ module_nodes f
   unfolding passes flatten_module_to_3ac eliminate_dead_equalities copy_propagate classify_defs flatten_lists joined module_nodes equations_cut
   passes-shared =
       let k = length used in
