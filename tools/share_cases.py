@@ -1,5 +1,6 @@
 #!/usr/bin/env python3
-"""Writes crates/test_share/stdin: calls that cut several flat records with room for T equalities in all, and what document 02, request (xii), gives them.
+"""Writes crates/test_share/stdin: calls that cut several flat records with room for T equalities in all, and what
+docs/RECORDS.md, "Several in one call", gives them.
 
     python3 tools/share_cases.py target/bin/cut_flat > crates/test_share/stdin
 
@@ -50,7 +51,7 @@ class Alone:
         return self.known[key]
 
 
-# The model, by document 02
+# The model, by docs/RECORDS.md, "Several in one call"
 
 def parts(size, lengths):
     """Where each part stands in a slice of so many bytes; None where the slice does not hold it."""

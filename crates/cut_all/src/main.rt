@@ -11,10 +11,13 @@ use constraint_text::print_refused;
 use records::refusals::Refusal;
 use share_entry::cut_all;
 use share_trees::{Lengths, MOST};
-use std::io::{Error, Write};
+use std::io::Write;
 use std::rt::{Env, Files};
 use std::{fs, io, str};
-use streams::{Failed, close_output, has_argument, read_input, write_output};
+use streams::{
+    Failed, close_output, file_name, has_argument, open_named, read_opened, say_failed, say_usage,
+    write_output,
+};
 
 // One byte more than is lent to a record: a longer one is refused FlatLength, as its first bytes are.
 const RECORD_BYTES: usize = 65536 + 1;
@@ -46,36 +49,20 @@ fn outputs_buffer() -> [u8; OUTPUTS] {
     [0u8; OUTPUTS]
 }
 
-fn say_usage(rt: &impl Eprint) -> Failed {
-    let _ = rt.eprint("usage: cut_all T OUTPUT_BYTES FILE..\n");
-    Failed
-}
+const USAGE: &str = "usage: cut_all T OUTPUT_BYTES FILE..\n";
 
-fn say_failed(rt: &impl Eprint, name: &str, error: Error) -> Failed {
-    let _ = eprintln!(rt; "{name}: {error}");
-    Failed
-}
-
-// The name of file k.
-fn name_of<'a>(
+// The argument that names file k.
+fn argument<'a>(
     rt: &(impl Env + Eprint),
     k: usize,
     room: &'a mut [u8; NAME],
-) -> Result<&'a str, Failed>
+) -> Result<&'a [u8], Failed>
     requires { k ≤ 8 }
 {
     let Ok(n) = rt.arg(k + FILES_AT, room) else {
-        return Err(say_usage(rt));
+        return Err(say_usage(rt, USAGE));
     };
-    let name = &room[..n];
-    if name.starts_with(b"-") {
-        return Err(say_usage(rt));
-    }
-    let Ok(name) = str::from_utf8(name) else {
-        let _ = eprintln!(rt; "input: the name is not UTF-8");
-        return Err(Failed);
-    };
-    Ok(name)
+    Ok(&room[..n])
 }
 
 // The bytes of file k, at the front of `buf`.
@@ -84,9 +71,8 @@ fn read_file<R: Env + Files + Eprint>(rt: &R, k: usize, buf: &mut [u8]) -> Resul
     ensures { IfOk result (λ n. n ≤ length buf.old) }
 {
     let mut room = [0u8; NAME];
-    let name = name_of(rt, k, &mut room)?;
-    let mut file = fs::open(rt, name).map_err(|error| say_failed(rt, name, error))?;
-    read_input(rt, &mut file, buf)
+    let opened = open_named(rt, argument(rt, k, &mut room)?, USAGE)?;
+    read_opened(rt, opened, buf)
 }
 
 // All n files, one behind the other, and how many bytes these are.
@@ -144,7 +130,7 @@ fn give<R: Env + Files + Eprint, W: Write>(
     requires { k ≤ 8 }
 {
     let mut room = [0u8; NAME];
-    let name = name_of(rt, k, &mut room)?;
+    let name = file_name(rt, argument(rt, k, &mut room)?, USAGE)?;
     match answer {
         Err(refusal) => say_answer(rt, to, name, "refused", u64::from(refusal.number())),
         Ok(size) => {
@@ -224,7 +210,7 @@ fn numbers(rt: &impl Env) -> Option<(usize, usize)> {
 
 fn main(rt: HostRuntime) {
     let Some((total, most)) = numbers(&rt) else {
-        say_usage(&rt);
+        say_usage(&rt, USAGE);
         return;
     };
     let room = most.min(OUTPUT_BYTES);

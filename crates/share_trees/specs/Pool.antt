@@ -1,4 +1,4 @@
--- How room for T equalities is divided among records by what each needs. For a reader with document 02, request (xii), beside it.
+-- How room for T equalities is divided among records by what each needs. For a reader with docs/RECORDS.md, "Several in one call", beside it.
 use Rattle.std.specs.Prelude.{ℕ, zero, suc, ◌+◌, ◌-◌, ◌/◌, Bool, List, [], ◌∷◌, leb}
 use Rattle.flat.specs.Record.{pick}
 

@@ -1,4 +1,4 @@
--- What each of several records gets, from what it would get alone. For a reader with document 02, request (xii), beside it.
+-- What each of several records gets, from what it would get alone. For a reader with docs/RECORDS.md, "Several in one call", beside it.
 use Rattle.std.specs.Prelude.{ℕ, Bool, true, false, List, [], ◌∷◌, map, leb, length, Result, Err}
 use Rattle.flat.specs.Record.{pick}
 use Rattle.constraint.specs.Record.{constraint_bytes}

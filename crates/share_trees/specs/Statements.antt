@@ -1,4 +1,4 @@
--- What is proved of the sharing, in proofs/: its statements. For a reader with document 02, request (xii), beside it.
+-- What is proved of the sharing, in proofs/: its statements. For a reader with docs/RECORDS.md, "Several in one call", beside it.
 use Rattle.std.specs.Prelude.{ℕ, zero, suc, ◌+◌, ◌*◌, ◌≤◌, ◌<◌, ◌≡◌, leb, length, take, drop, Result, Ok, Err}
 use Rattle.std.proofs.Math.Option.{some}
 use mathlib.Core.List.{List, [], ◌∷◌, map, Permᴰ}
