@@ -66,7 +66,11 @@ fn argument<'a>(
 }
 
 // The bytes of file k, at the front of `buf`.
-fn read_file<R: Env + Files + Eprint>(rt: &R, k: usize, buf: &mut [u8]) -> Result<usize, Failed>
+fn read_file<R: Env + Files + Input + Eprint>(
+    rt: &R,
+    k: usize,
+    buf: &mut [u8],
+) -> Result<usize, Failed>
     requires { k ≤ 8 }
     ensures { IfOk result (λ n. n ≤ length buf.old) }
 {
@@ -76,7 +80,7 @@ fn read_file<R: Env + Files + Eprint>(rt: &R, k: usize, buf: &mut [u8]) -> Resul
 }
 
 // All n files, one behind the other, and how many bytes these are.
-fn read_files<R: Env + Files + Eprint>(
+fn read_files<R: Env + Files + Input + Eprint>(
     rt: &R,
     n: usize,
     records: &mut [u8; RECORDS],
@@ -159,7 +163,7 @@ fn give_all<R: Env + Files + Print + Eprint>(
 }
 
 // n files with room for `total` equalities in all, and so many bytes of output for each. No store is needed.
-fn run<R: Env + Files + Print + Eprint>(
+fn run<R: Env + Files + Input + Print + Eprint>(
     rt: &R,
     total: usize,
     n: usize,
