@@ -4,11 +4,11 @@
     python3 tools/faults.py [FOLDER [PROGRAM..]]
 
 FOLDER has the built programs, target/bin by default, after
-`tools/build.sh cut_all cut_flat equalities flatten flatten_equalities test_eval test_field test_flat test_flatten test_numbering test_share test_source`; all
-twelve are tried, or those named (`cut_all` needs `cut_flat` too). Every fault has to leave a line on standard error, or end the program by a signal, and to leave on standard output nothing but a front of the
-right bytes: none is taken for success. A test program is tried on the first cases of its input and on many that differ from what they expect, each of
-which it tells by a line; without a fault on all of its input too. Printed is a line for each fault that was not handled so, then how many were tried
-on each program and the counts; the exit status is 1 if there is one.
+`tools/build.sh cut_all cut_flat equalities flatten flatten_equalities test_eval test_field test_flat test_flatten test_numbering test_share test_source`;
+all twelve are tried, or those named (`cut_all` needs `cut_flat` too). Every fault has to leave a line on standard error, or end the program by a signal, and
+to leave on standard output nothing but a front of the right bytes: none is taken for success. A test program is tried on the first cases of its input and on
+many that differ from what they expect, each of which it tells by a line; without a fault on all of its input too. Printed is a line for each fault that was
+not handled so, then how many were tried on each program and the counts; the exit status is 1 if there is one.
 """
 import fcntl
 import itertools
