@@ -321,7 +321,8 @@ def several(name):
             expect("%s, a file that is %s" % (name, what), out == b"" and said(err, words_))
         status, out, err = run(name, args=(*numbers, b"\xff"))
         expect(name + ", a name that is not UTF-8", out == b"" and said(err, b"input: the name is not UTF-8"))
-        for args in ((), ("--help",), ("1",), ("x", "1", files[0]), ("1", "-1", files[0]), ("1", "1", "-x"), ("1", "1", files[0], "--"), ("1", "1", "x" * 5000)):
+        some, first = ("1", "1"), files[0]
+        for args in ((), ("--help",), ("1",), ("x", "1", first), ("1", "-1", first), (*some, "-x"), (*some, first, "--"), (*some, "x" * 5000)):
             status, out, err = run(name, args=args)
             expect("%s %s" % (name, " ".join(a[:12] for a in args)), out == b"" and said(err, b"usage: cut_all"))
         expect(name + " without files", run(name, args=("1", "1")) == (0, b"", b""))
