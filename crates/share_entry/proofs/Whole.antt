@@ -1,6 +1,6 @@
 -- The whole call. Assumes nothing.
 use Prim.Native.Nat.{ℕ, ◌≤◌, ◌<◌}
-use mathlib.Core.Path.{◌≡◌, refl, sym, ap, ◌∙◌}
+use mathlib.Core.Path.{◌≡◌, refl, ap, ◌∙◌}
 use mathlib.Core.List.{List, [], map}
 use lib.ListN.{length, replicate, length-map}
 use borrow.Author.Tests.{le-leb, lt-leb}
@@ -9,9 +9,8 @@ use Rattle.std.proofs.Math.ListN.{length-replicate}
 use Rattle.flat.specs.Record.{pick}
 use Rattle.records.specs.declared.refusals.Refusal.{Refusal}
 use Rattle.records.specs.Refusals.{numbered}
-use Rattle.share_trees.specs.declared.Lengths.{Lengths}
 use Rattle.share_trees.specs.Pool.{share, pool}
-use Rattle.share_trees.specs.Sharing.{Lent, need, turns, share_of, pool_of, shared_out}
+use Rattle.share_trees.specs.Sharing.{need, turns, share_of, pool_of, shared_out}
 use Rattle.share_trees.specs.Parts.{MOST, rejoined, answers_of, givens_of, shared_for, output_after, all_numbered}
 use Rattle.share_entry.specs.declared.pool.Pool.{Pool}
 use Rattle.share_entry.specs.declared.Queue.{Queue}

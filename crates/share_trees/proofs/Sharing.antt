@@ -17,7 +17,6 @@ use Rattle.flat.specs.Trees.{FlatModule}
 use Rattle.flat.specs.Record.{module_of}
 use Rattle.records.specs.FlatRecord.{IDS}
 use Rattle.records.specs.declared.refusals.Refusal.{Refusal}
-use Rattle.records.specs.Refusals.{refusal_number}
 use Rattle.pass_trees.specs.Passes.{Outcome, cut, refused, cut_of, unless, passes, counted, cuttable_defs, cuttable_equations, fitting as fitting_ids}
 use Rattle.std.specs.Prelude.{Result, Ok, Err}
 use Rattle.pass_entry.specs.Cut.{cut_record, cut_read, answer_for, output_for}

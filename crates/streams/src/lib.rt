@@ -146,11 +146,7 @@ pub fn has_argument(rt: &impl Env, i: usize) -> bool {
 }
 
 // The name of a file that an argument gives. An option is answered by the line of usage.
-pub fn file_name<'a>(
-    rt: &impl Eprint,
-    argument: &'a [u8],
-    usage: &str,
-) -> Result<&'a str, Failed>
+pub fn file_name<'a>(rt: &impl Eprint, argument: &'a [u8], usage: &str) -> Result<&'a str, Failed>
     ensures { IfOk result (λ name. name.now ≡ argument.now) }
 {
     if argument.starts_with(b"-") {

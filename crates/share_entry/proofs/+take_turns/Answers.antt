@@ -1,10 +1,9 @@
 -- `share_entry::take_turns` meets its contract. Assumes nothing.
-use mathlib.Core.Path.{◌≡◌, sym, ap, ◌∙◌}
+use mathlib.Core.Path.{sym, ap, ◌∙◌}
 use mathlib.Core.List.{List, [], map}
 use native.Mathlib.Omega.{arith}
 use Prim.Native.Nat.{ℕ}
 use lib.ListN.{length}
-use Rattle.std.specs.Prelude.{Result}
 use Rattle.std.proofs.lemmas.Option.{MatchOption-at_none}
 use Rattle.records.specs.Refusals.{numbered}
 use Rattle.share_trees.specs.Parts.{answers_of}

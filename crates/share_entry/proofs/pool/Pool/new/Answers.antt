@@ -1,7 +1,7 @@
 -- `share_entry::pool::Pool::new` meets its contract. Assumes nothing.
-use Rattle.std.proofs.Common.{◌≡◌, ◌≤◌, ◌∙◌, sym, ap, length, get_or, min, arith}
+use Rattle.std.proofs.Common.{◌≡◌, ◌∙◌, ap, length, get_or, min, arith}
 use Rattle.share_trees.specs.Pool.{share, sure}
-use Rattle.share_entry.proofs.Steps.{Left, left-start, least-is, share-made, left-holds, left-turn, left-end, pool-made}
+use Rattle.share_entry.proofs.Steps.{left-start, least-is, share-made, left-holds, left-turn, left-end, pool-made}
 use Rattle.share_entry.proofs.pool.Pool.new.Goals as goal
 
 pub loop-need-init : goal.loop-need-init
