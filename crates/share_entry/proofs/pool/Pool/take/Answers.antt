@@ -1,5 +1,6 @@
 -- `share_entry::pool::Pool::take` meets its contract. Assumes nothing.
-use Prim.Native.Nat.{◌-◌, ◌≤◌}
+use Prim.Native.Nat.{ℕ, ◌-◌, ◌≤◌}
+use mathlib.Core.Path.{ap, ◌∙◌}
 use native.Mathlib.Omega.{arith}
 use Rattle.share_entry.proofs.Steps.{unfit, fit}
 use Rattle.share_entry.proofs.pool.Pool.take.Goals as goal
@@ -16,4 +17,4 @@ returns-clause-value c = (fit _ _ _ (omega (arith, c.if-self-excess.false, c.sat
 pub returns-clause-left : goal.returns-clause-left
 returns-clause-left c =
     let few : c.args.need - c.args.self.now.share ≤ c.args.self.now.left = omega (arith, c.if-self-excess.false, c.saturating_sub-excess.ensures) in
-    rw c.saturating_sub-excess.ensures ((fit _ _ _ few).1)
+    ap (λ (x : ℕ). c.args.self.now.left - x) c.saturating_sub-excess.ensures ∙ (fit _ _ _ few).1
