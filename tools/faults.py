@@ -4,8 +4,8 @@
     python3 tools/faults.py [FOLDER [PROGRAM..]]
 
 FOLDER has the built programs, target/bin by default, after
-`tools/build.sh cut_flat equalities expand flatten flatten_equalities join renumber season season_lines test_eval test_field test_flat test_flatten test_join test_numbering test_renumber
-test_season test_source`; all of these are tried, or those named. Every fault has to leave a line on standard error, or end the program by a signal, and to leave on standard output nothing but a front of the
+`tools/build.sh cut_all cut_flat equalities expand flatten flatten_equalities join renumber season season_lines test_eval test_field test_flat test_flatten test_join test_numbering test_renumber
+test_season test_share test_source`; all of these are tried, or those named (`cut_all` needs `cut_flat` too). Every fault has to leave a line on standard error, or end the program by a signal, and to leave on standard output nothing but a front of the
 right bytes: none is taken for success. A test program is tried on the first cases of its input and on many that differ from what they expect, each of
 which it tells by a line; without a fault on all of its input too. Printed is a line for each fault that was not handled so, then how many were tried
 on each program and the counts; the exit status is 1 if there is one.
@@ -76,6 +76,7 @@ PARTS = {
     "test_renumber": (6, lambda kind, length, side, room, answer, table: 24 + length + kind * side + table + (answer if answer < REFUSED else 0), 4),
     "test_join": (5, lambda first, second, pairs, room, answer: 20 + first + second + pairs + (answer if answer < REFUSED else 0), 4),
     "test_numbering": (4, lambda length, answer, ids, publics: 16 + length + 4 * (ids + publics), 1),
+    "test_share": (4, lambda n, total, records, outputs: 116 + records + outputs, 21),
     "test_source": (2, lambda length, size: 24 + (size if length == BASE else 0), 1),
 }
 
@@ -122,6 +123,8 @@ with open(TABLES["expand"], "wb") as table:
     table.write(words(3, 0, 1, 2))
 # programs that read files alone, and what they are given
 FILES = {"join": [os.path.join(TOP, "crates", "join", "data", name) for name in ("first.record", "second.record", "pairs")]}
+# the arguments of a program that is run without others
+ARGUMENTS = {}
 
 PROGRAMS = {
     "cut_flat": lambda: (read("crates", "cut_flat", "stdin"), many_flat(400)),
@@ -140,7 +143,7 @@ PROGRAMS = {
 
 def called(name, args=None):
     """The words of a call, with the side table or the files where nothing else is said."""
-    usual = [TABLES[name]] if name in TABLES else FILES.get(name, ())
+    usual = [TABLES[name]] if name in TABLES else FILES.get(name) or ARGUMENTS.get(name, ())
     return [os.path.join(BIN, name), *(usual if args is None else args)]
 
 
@@ -352,9 +355,57 @@ def tried(name):
         all_cases(name)
 
 
-for name in sys.argv[2:] or sorted(PROGRAMS):
+def several(name):
+    """cut_all: the files are arguments, the results stand in files beside them, and only lines about them on standard output."""
+    with tempfile.TemporaryDirectory() as folder:
+        def file(called, data):
+            path = os.path.join(folder, called)
+            with open(path, "wb") as f:
+                f.write(data)
+            return path
+
+        called = ("gearbox", "hitch", "pump")
+        files = [file(k, read("crates", name, "data", k)) for k in called]
+        whole = read("crates", name, "stdout")
+        for k, path in zip(called, files):
+            whole = whole.replace(k.encode() + b" ", path.encode() + b" ")
+        numbers = read("crates", name, "args").decode().split()[:2]
+        expect(name + ", no fault", run(name, args=(*numbers, *files)) == (0, whole, b""))
+        with open(files[0] + ".cut", "rb") as f:
+            expect(name + ", the result is that of cut_flat", f.read() == run("cut_flat", read("crates", name, "data", called[0]))[1])
+        expect(name + ", no result of what is refused", not os.path.exists(files[1] + ".cut") and not os.path.exists(files[2] + ".cut"))
+        os.remove(files[0] + ".cut")
+        os.mkdir(files[0] + ".cut")
+        status, out, err = run(name, args=(*numbers, *files))
+        expect(name + ", a result that cannot be written", out == b"" and said(err, b"gearbox.cut: Is a directory"))
+        status, out, err = run(name, args=(*numbers, files[2], files[0]))
+        expect(name + ", the second result cannot be written", out == files[2].encode() + b" refused 20\n" and said(err, b"gearbox.cut: Is a directory"))
+        os.rmdir(files[0] + ".cut")
+        status, out, err = run(name, args=(*numbers, *files), before=limited(50, True))
+        expect(name + ", a result past the file-size limit", out == b"" and said(err, b"gearbox.cut: File too large"))
+        for what, path, words_ in (("missing", "no such file", b"no such file: No such file or directory"), ("a folder", folder, b"input: Is a directory")):
+            status, out, err = run(name, args=(*numbers, files[0], path))
+            expect("%s, a file that is %s" % (name, what), out == b"" and said(err, words_))
+        status, out, err = run(name, args=(*numbers, b"\xff"))
+        expect(name + ", a name that is not UTF-8", out == b"" and said(err, b"input: the name is not UTF-8"))
+        some, first = ("1", "1"), files[0]
+        for args in ((), ("--help",), ("1",), ("x", "1", first), ("1", "-1", first), (*some, "-x"), (*some, first, "--"), (*some, "x" * 5000)):
+            status, out, err = run(name, args=args)
+            expect("%s %s" % (name, " ".join(a[:12] for a in args)), out == b"" and said(err, b"usage: cut_all"))
+        expect(name + " without files", run(name, args=("1", "1")) == (0, b"", b""))
+        empty = [file("empty%d" % k, b"") for k in range(9)]
+        expect(name + ", nine files", run(name, args=("1", "1", *empty)) == (0, b"refused 2\n", b""))
+        ARGUMENTS[name] = ("0" * 3000 + "1", "0" * 3000, *empty[:8])
+        whole = b"".join(path.encode() + b" refused 20\n" for path in empty[:8])
+        expect(name + ", eight files", run(name) == (0, whole, b""))
+        writes(name, b"", whole)
+        environment(name, b"", whole)
+        slow_reader(name, b"", whole)
+
+
+for name in sys.argv[2:] or sorted((*PROGRAMS, "cut_all")):
     count = passed + len(failed)
-    tried(name)
+    several(name) if name == "cut_all" else tried(name)
     print("%s: %d tried" % (name, passed + len(failed) - count))
 shutil.rmtree(SCRATCH)
 print("%d faults handled, %d not" % (passed, len(failed)))

@@ -1,6 +1,7 @@
 -- The refusals and their numbers, by the place of the check: 1 to 6 of a source record, in the order of its parts; 10 to 19 of evaluation, as first met;
 -- 20 to 22 of a flat record; 30 to 32 of the stores, as met; 33 of the output; 42 of a constraint record, and behind it 43 of a season's calibrations
--- and 47 of a side table; 44 to 46 of the pairs by which two flat records are joined.
+-- and 47 of a side table; 44 to 46 of the pairs by which two flat records are joined; 48 of a store for several
+-- records.
 use Rattle.std.specs.Prelude.{ℕ, Result, Ok, Err}
 use Rattle.records.specs.declared.refusals.Refusal.{Refusal}
 
@@ -35,6 +36,7 @@ refusal_number Refusal.Pair = 44
 refusal_number Refusal.SharedDefinition = 45
 refusal_number Refusal.SharedProver = 46
 refusal_number Refusal.SideTable = 47
+refusal_number Refusal.Room = 48
 
 -- an answer, whose refusal is known by its number
 abbrev pub numbered : {A : Type 0} → Result A Refusal → Result A ℕ

@@ -149,18 +149,27 @@ pub fn has_argument(rt: &impl Env, i: usize) -> bool {
     !matches!(rt.arg(i, &mut []), Err(FillError::NotPresent))
 }
 
-fn open_named<R: Files + Eprint>(
-    rt: &R,
-    name: &[u8],
-    usage: &str,
-) -> Result<Opened<R::File>, Failed> {
-    if name.starts_with(b"-") {
+// The name of a file that an argument gives. An option is answered by the line of usage.
+pub fn file_name<'a>(rt: &impl Eprint, argument: &'a [u8], usage: &str) -> Result<&'a str, Failed>
+    ensures { IfOk result (λ name. name.now ≡ argument.now) }
+{
+    if argument.starts_with(b"-") {
         return Err(say_usage(rt, usage));
     }
-    let Ok(name) = str::from_utf8(name) else {
+    let Ok(name) = str::from_utf8(argument) else {
         let _ = eprintln!(rt; "input: the name is not UTF-8");
         return Err(Failed);
     };
+    Ok(name)
+}
+
+// The file that an argument names.
+pub fn open_named<R: Files + Eprint>(
+    rt: &R,
+    argument: &[u8],
+    usage: &str,
+) -> Result<Opened<R::File>, Failed> {
+    let name = file_name(rt, argument, usage)?;
     fs::open(rt, name)
         .map(Opened::File)
         .map_err(|error| say_failed(rt, name, error))

@@ -1,0 +1,3 @@
+pub mod Steps
+pub mod Turns
+pub mod Whole

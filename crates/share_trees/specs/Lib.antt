@@ -1,0 +1,4 @@
+pub mod Pool
+pub mod Sharing
+pub mod Parts
+pub mod Statements
