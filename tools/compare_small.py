@@ -1,13 +1,13 @@
 #!/usr/bin/env python3
-"""Every small rule, once (document 02, request xiii), through both versions: the program small_rules makes them, the program cut_flat and the unchanged Rust
+"""Every small rule, once (docs/RECORDS.md), through both versions: the program small_rules makes them, the program cut_flat and the unchanged Rust
 cut them, and the constraint records are compared.
 
     python3 tools/compare_small.py ORACLE [FOLDER]
 
 ORACLE is the oracle, built from the unchanged Rust by oracle/build.sh (tools/flat_records.py says what it has to answer; the Rust itself sees no place word).
-FOLDER has the built programs, target/bin by default, after `rt check small_rules cut_flat`. The records are held to tools/small_list.py first, which makes the
-list from the document alone. Printed are a line for each that differs, how many there are by number of nodes, how many have how many equalities, and the
-counts; the exit status is 1 if there is one that differs.
+FOLDER has the built programs, target/bin by default, after `tools/build.sh small_rules cut_flat`. The records are held to tools/small_list.py first, which
+makes the list from the words of that document alone. Printed are a line for each that differs, how many there are by number of nodes, how many have how
+many equalities, and the counts; the exit status is 1 if there is one that differs.
 """
 import collections
 import os
@@ -44,7 +44,7 @@ def main():
     wanted = records()
     different = [k for k, (a, b) in enumerate(zip(made, wanted)) if a != b] + list(range(min(len(made), len(wanted)), max(len(made), len(wanted))))
     for k in different:
-        print("record %d is not that of the document's list" % k)
+        print("record %d is not that of the list made by sorting" % k)
     known = [a for at in range(0, len(made), BATCH) for a in answers(oracle, made[at : at + BATCH])]
     for k, (record, answer) in enumerate(zip(made, known)):
         if cut(os.path.join(folder, "cut_flat"), record) != answer:

@@ -4,8 +4,8 @@
     python3 tools/faults.py [FOLDER [PROGRAM..]]
 
 FOLDER has the built programs, target/bin by default, after
-`tools/build.sh cut_flat equalities flatten flatten_equalities test_eval test_field test_flat test_flatten test_numbering test_source`; all ten are tried, or
-those named. Every fault has to leave a line on standard error, or end the program by a signal, and to leave on standard output nothing but a front of the
+`tools/build.sh cut_flat equalities flatten flatten_equalities small_rules test_eval test_field test_flat test_flatten test_numbering test_small test_source`;
+all twelve are tried, or those named. Every fault has to leave a line on standard error, or end the program by a signal, and to leave on standard output nothing but a front of the
 right bytes: none is taken for success. A test program is tried on the first cases of its input and on many that differ from what they expect, each of
 which it tells by a line; without a fault on all of its input too. Printed is a line for each fault that was not handled so, then how many were tried
 on each program and the counts; the exit status is 1 if there is one.
@@ -62,6 +62,7 @@ PARTS = {
     "test_flat": (4, lambda length, room, store, answer: 16 + length + (answer if answer < REFUSED else 0), 3),
     "test_flatten": (3, lambda length, runs, size: 12 + 12 * runs + length + size, 5),
     "test_numbering": (4, lambda length, answer, ids, publics: 16 + length + 4 * (ids + publics), 1),
+    "test_small": (1, lambda length: 4 + length, 1),
     "test_source": (2, lambda length, size: 24 + (size if length == BASE else 0), 1),
 }
 
@@ -95,6 +96,9 @@ def many_different(name):
             return before + 400 * (part[:4 * k] + words(word(part, k) + 1) + part[4 * k + 4:])
 
 
+# programs that read nothing
+SILENT = ("small_rules", "test_field")
+
 # programs that take numbers as arguments: some that change nothing
 NUMBERS = {"flatten": ("0" * 3000 + "1048560", "0" * 4000 + "786712"), "cut_flat": ("0" * 4000 + "786712",)}
 
@@ -103,7 +107,7 @@ PROGRAMS = {
     "equalities": lambda: (read("crates", "equalities", "stdin"), many_flat(400)),
     "flatten": lambda: (read("crates", "flatten", "stdin"), many_equations(400)),
     "flatten_equalities": lambda: (read("crates", "flatten_equalities", "stdin"), many_equations(400)),
-    "test_field": lambda: (b"", b""),
+    **{name: lambda: (b"", b"") for name in SILENT},
     **{name: lambda name=name: (front(name), many_different(name)) for name in PARTS},
 }
 
@@ -215,12 +219,12 @@ def slow_reader(name, record, whole):
 def arguments(name, record, whole):
     usage = b"usage: " + name.encode()
     wrong = [("--help",), ("-x",), ("1", "2", "3", "4"), ("9" * 5000,) if name not in NUMBERS else ("x" * 5000,)]
-    if name.startswith("test_"):
+    if name.startswith("test_") or name in SILENT:
         wrong += [("1",), ("",)]
     for args in wrong:
         status, out, err = run(name, record, args)
         expect("%s %s" % (name, " ".join(a[:12] for a in args)), out == b"" and said(err, usage))
-    if name.startswith("test_"):
+    if name.startswith("test_") or name in SILENT:
         return
     if name in NUMBERS:
         status, out, err = run(name, record, NUMBERS[name])
@@ -276,7 +280,7 @@ def tried(name):
     slow_reader(name, large, whole)
     status, whole, err = run(name, small)
     arguments(name, small, whole)
-    if name != "test_field":
+    if name not in SILENT:
         reads(name, small, whole)
     if name in PARTS:
         some_cases(name, small, large)

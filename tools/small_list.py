@@ -1,7 +1,7 @@
 #!/usr/bin/env python3
-"""Every small rule, once, made from document 02, request xiii, alone: all flat records with next id 2, no publics, prover ids or definitions, and one
-equation, place word 0, of at most 5 nodes over v0, v1, the constants -1, 0, 1, negation, + and *. It makes all trees by their number of nodes, then all
-equations, and sorts: nothing here is taken from the definitions in crates/small_trees/specs, which list them in order from the start.
+"""Every small rule, once, made from the words of docs/RECORDS.md, "Every small rule", alone: all flat records with next id 2, no publics, prover ids or
+definitions, and one equation, place word 0, of at most 5 nodes over v0, v1, the constants -1, 0, 1, negation, + and *. It makes all trees by their number
+of nodes, then all equations, and sorts: nothing here is taken from the definitions in crates/small_trees/specs, which list them in order from the start.
 
     small_list.py            the records end to end on standard output
     small_list.py --counts   how many there are by number of nodes

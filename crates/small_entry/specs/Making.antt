@@ -1,4 +1,5 @@
--- For the contracts of private functions: where record k stands among the rules, the trees so far with the roots that the code keeps, and what one node more does.
+-- For the contracts of private functions: where record k stands among the rules, the trees so far with the roots that the code keeps, and what one more
+-- node does.
 use Rattle.std.specs.Prelude.{ℕ, suc, ◌+◌, ◌-◌, ◌*◌, ◌≤◌, ◌<◌, ◌≡◌, List, [], ◌∷◌, ◌++◌, length, get_or, leb, ltb, Option, Some, None}
 use Rattle.words.specs.Words.{set_words}
 use Rattle.marks.specs.Indices.{pick}

@@ -25,7 +25,8 @@ front-of xs ys j =
     (length (take j xs), sym (take_at (take j xs) (drop j xs ++ ys) (length (take j xs)) refl) ∙ ap (take (length (take j xs))) whole)
 
 -- some records and a front of the next are a front of all
-pub records-cut : (list : List (List ℕ)) (k j : ℕ) → k < length list → (m : ℕ) × (end_to_end (take k list) ++ take j (get_or list k []) ≡ take m (end_to_end list))
+pub records-cut : (list : List (List ℕ)) (k j : ℕ) → k < length list
+    → (m : ℕ) × (end_to_end (take k list) ++ take j (get_or list k []) ≡ take m (end_to_end list))
 unfolding end_to_end
 records-cut [] k j l = absurd (omega arith)
 records-cut (b ∷ list) zero j l = front-of b (end_to_end list) j

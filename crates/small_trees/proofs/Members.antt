@@ -1,6 +1,7 @@
 -- WHICH EQUATIONS ARE LISTED: those over the small leaves and operations, by their number of nodes, and all of those. Assumes nothing.
 use Prim.Native.Nat.{ℕ, zero, suc, ◌+◌, ◌<◌}
 use mathlib.Core.Path.{◌≡◌, refl, ap, subst}
+use mathlib.Core.List.Memᴰ
 use mathlib.Core.List.{List, [], ◌∷◌, flat_map, Memᴰ}
 use mathlib.Core.Logic.{◌⊎◌, inl, inr}
 use native.Mathlib.Omega.{arith}
@@ -81,14 +82,14 @@ next-listed n trees t choice e c m h =
 
 choice-listed : (choice : Choice) → SmallChoice choice → Memᴰ choice choices
 unfolding choices
-choice-listed (Operation o) (inl e) = search (mathlib.Core.List.Memᴰ.head, mathlib.Core.List.Memᴰ.tail, ap Operation e) depth 9
-choice-listed (Operation o) (inr e) = search (mathlib.Core.List.Memᴰ.head, mathlib.Core.List.Memᴰ.tail, ap Operation e) depth 9
-choice-listed Negation s = search (mathlib.Core.List.Memᴰ.head, mathlib.Core.List.Memᴰ.tail, refl) depth 9
-choice-listed (Constant c) (inl e) = search (mathlib.Core.List.Memᴰ.head, mathlib.Core.List.Memᴰ.tail, ap Constant e) depth 9
-choice-listed (Constant c) (inr (inl e)) = search (mathlib.Core.List.Memᴰ.head, mathlib.Core.List.Memᴰ.tail, ap Constant e) depth 9
-choice-listed (Constant c) (inr (inr e)) = search (mathlib.Core.List.Memᴰ.head, mathlib.Core.List.Memᴰ.tail, ap Constant e) depth 9
-choice-listed (Variable v) (inl e) = search (mathlib.Core.List.Memᴰ.head, mathlib.Core.List.Memᴰ.tail, ap Variable e) depth 9
-choice-listed (Variable v) (inr e) = search (mathlib.Core.List.Memᴰ.head, mathlib.Core.List.Memᴰ.tail, ap Variable e) depth 9
+choice-listed (Operation o) (inl e) = search (Memᴰ.head, Memᴰ.tail, ap Operation e) depth 9
+choice-listed (Operation o) (inr e) = search (Memᴰ.head, Memᴰ.tail, ap Operation e) depth 9
+choice-listed Negation s = search (Memᴰ.head, Memᴰ.tail, refl) depth 9
+choice-listed (Constant c) (inl e) = search (Memᴰ.head, Memᴰ.tail, ap Constant e) depth 9
+choice-listed (Constant c) (inr (inl e)) = search (Memᴰ.head, Memᴰ.tail, ap Constant e) depth 9
+choice-listed (Constant c) (inr (inr e)) = search (Memᴰ.head, Memᴰ.tail, ap Constant e) depth 9
+choice-listed (Variable v) (inl e) = search (Memᴰ.head, Memᴰ.tail, ap Variable e) depth 9
+choice-listed (Variable v) (inr e) = search (Memᴰ.head, Memᴰ.tail, ap Variable e) depth 9
 
 -- the nodes of a tree come one by one
 tree-listed : (t : Flat) (n : ℕ) (trees : List Flat) (e : Equation) → Small t → Memᴰ e (rules_from n (t ∷ trees))
@@ -96,21 +97,21 @@ tree-listed : (t : Flat) (n : ℕ) (trees : List Flat) (e : Equation) → Small 
 unfolding tree_nodes after
 tree-listed (Flat.infixed o x y) n trees e s h =
     let c = Operation o in
-    let m = next-listed n (y ∷ x ∷ trees) (Flat.infixed o x y ∷ trees) c e (choice-listed c s.0) (mathlib.Core.List.Memᴰ.head refl) h in
+    let m = next-listed n (y ∷ x ∷ trees) (Flat.infixed o x y ∷ trees) c e (choice-listed c s.0) (Memᴰ.head refl) h in
     let g = tree-listed x (tree_nodes y + suc n) trees e s.1 (tree-listed y (suc n) (x ∷ trees) e s.2 m) in
     let z : tree_nodes x + (tree_nodes y + suc n) ≡ suc (tree_nodes x + tree_nodes y) + n = omega arith in
     subst (λ (k : ℕ). Memᴰ e (rules_from k trees)) z g
 tree-listed (Flat.negate x) n trees e s h =
-    let m = next-listed n (x ∷ trees) (Flat.negate x ∷ trees) Negation e (choice-listed Negation tt) (mathlib.Core.List.Memᴰ.head refl) h in
+    let m = next-listed n (x ∷ trees) (Flat.negate x ∷ trees) Negation e (choice-listed Negation tt) (Memᴰ.head refl) h in
     let g = tree-listed x (suc n) trees e s m in
     let z : tree_nodes x + suc n ≡ suc (tree_nodes x) + n = omega arith in
     subst (λ (k : ℕ). Memᴰ e (rules_from k trees)) z g
 tree-listed (Flat.constant c) n trees e s h =
-    let m = next-listed n trees (Flat.constant c ∷ trees) (Constant c) e (choice-listed (Constant c) s) (mathlib.Core.List.Memᴰ.head refl) h in
+    let m = next-listed n trees (Flat.constant c ∷ trees) (Constant c) e (choice-listed (Constant c) s) (Memᴰ.head refl) h in
     let z : suc n ≡ 1 + n = omega arith in
     subst (λ (k : ℕ). Memᴰ e (rules_from k trees)) z m
 tree-listed (Flat.variable v) n trees e s h =
-    let m = next-listed n trees (Flat.variable v ∷ trees) (Variable v) e (choice-listed (Variable v) s) (mathlib.Core.List.Memᴰ.head refl) h in
+    let m = next-listed n trees (Flat.variable v ∷ trees) (Variable v) e (choice-listed (Variable v) s) (Memᴰ.head refl) h in
     let z : suc n ≡ 1 + n = omega arith in
     subst (λ (k : ℕ). Memᴰ e (rules_from k trees)) z m
 
@@ -120,7 +121,7 @@ rule-listed e n s =
     let x = e.left in
     let y = e.right in
     let p : e ≡ record { left = x; right = y; place = 0 } = λ i. record { left = x; right = y; place = s.place i } in
-    let m : Memᴰ e (rules_from 0 (y ∷ x ∷ [])) = mathlib.Core.List.Memᴰ.head p in
+    let m : Memᴰ e (rules_from 0 (y ∷ x ∷ [])) = Memᴰ.head p in
     let g = tree-listed x (tree_nodes y + 0) [] e s.left-small (tree-listed y 0 (x ∷ []) e s.right-small m) in
     let z : tree_nodes x + (tree_nodes y + 0) ≡ n = omega (arith, s.nodes) in
     subst (λ (k : ℕ). Memᴰ e (rules_from k [])) z g

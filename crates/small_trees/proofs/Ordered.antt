@@ -14,8 +14,8 @@ use Rattle.words.proofs.Laws.{word_at-fits, unsigned_signed}
 use Rattle.field.specs.declared.InfixOp.{InfixOp}
 use Rattle.flat.specs.Trees.{Flat, Equation, FlatModule, tree_nodes, module_nodes, equations_nodes, definitions_nodes}
 use Rattle.flat.specs.declared.Node.TheVariants.{Infix, Negate}
-use Rattle.flat.specs.Layout.{next, publics, provers, definitions, equations, nodes, provers_offset, definitions_offset, equations_offset, nodes_offset, public_at, prover_at}
-use Rattle.flat.specs.Layout.{equation_entry, header_words, equation_words, node_at, node_words}
+use Rattle.flat.specs.Layout.{next, publics, provers, definitions, equations, nodes, provers_offset, definitions_offset, equations_offset, nodes_offset}
+use Rattle.flat.specs.Layout.{public_at, prover_at, equation_entry, header_words, equation_words, node_at, node_words}
 use Rattle.flat.specs.Record.{pick, node_for, node_fits, nodes_fit, node_of, tree, definition_at, equation_at, module_of, Read, flat_of}
 use Rattle.flat.specs.Readable.{Readable}
 use Rattle.flat.specs.Rules.{All}
@@ -91,7 +91,8 @@ module _ (b : List ℕ) (bytes : (k : ℕ) → get_or b k 0 < 256) (at n limit :
   Written k t = (tree_nodes t ≤ k + 1) × Stands b (at + 4 * (k + 1 - tree_nodes t)) (nodes_from (k + 1 - tree_nodes t) t)
 
   -- its last node's words
-  at-node : (k kind x y z : ℕ) → word_at b (at + 4 * k) ≡ kind → word_at b (at + 4 * k + 1) ≡ x → word_at b (at + 4 * k + 2) ≡ y → word_at b (at + 4 * k + 3) ≡ z
+  at-node : (k kind x y z : ℕ) → word_at b (at + 4 * k) ≡ kind → word_at b (at + 4 * k + 1) ≡ x → word_at b (at + 4 * k + 2) ≡ y
+      → word_at b (at + 4 * k + 3) ≡ z
       → Stands b (at + 4 * k) (node_words kind x y z)
   at-node k kind x y z p q r s = rw (p, q, r, s) at (node-stands b (at + 4 * k))
 
@@ -229,7 +230,8 @@ module _ (b : List ℕ) (e : Equation) (legal : flat_of b ≡ Read.module-of (ru
   no-definitions : definitions b ≡ 0
   unfolding module_of rule_module
   no-definitions =
-      sym (length-rows (definition_at b (definitions_offset b) (nodes_offset b) (nodes b)) (definitions b) 0) ∙ ap (λ (f : FlatModule). length f.definitions) is-module
+      sym (length-rows (definition_at b (definitions_offset b) (nodes_offset b) (nodes b)) (definitions b) 0)
+      ∙ ap (λ (f : FlatModule). length f.definitions) is-module
 
   one_equation : equations b ≡ 1
   unfolding module_of rule_module

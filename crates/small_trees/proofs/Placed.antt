@@ -136,7 +136,8 @@ module _ (e : Equation) (left-signed : SignedTree e.left) (right-signed : Signed
   node-ordered k l =
       ⊎_elim
       (λ (d : k < tree_nodes e.left).
-      tree-ordered (record_of e) (nodes_offset (record_of e)) (nodes (record_of e)) e.left 0 left-signed nodes-here (omega (arith, nodes-size e)) k (omega arith)
+      tree-ordered (record_of e) (nodes_offset (record_of e)) (nodes (record_of e)) e.left 0 left-signed nodes-here (omega (arith, nodes-size e)) k
+      (omega arith)
       (omega arith))
       (λ (d : tree_nodes e.left ≤ k).
       tree-ordered (record_of e) (nodes_offset (record_of e)) (nodes (record_of e)) e.right (tree_nodes e.left) right-signed nodes-then

@@ -31,7 +31,8 @@ use Rattle.small_trees.proofs.Uses.{total-append, within, within-append, within-
 
 -- a readable record without definitions whose nodes are used once is legal
 readable-legal : (b : List ℕ) → Readable b → definitions b ≡ 0
-    → used_once b (definitions_offset b) (definitions b) (equations_offset b) (equations b) (nodes_offset b) (nodes b) ≡ true → flat_of b ≡ Read.module-of (module_of b)
+    → used_once b (definitions_offset b) (definitions b) (equations_offset b) (equations b) (nodes_offset b) (nodes b) ≡ true
+    → flat_of b ≡ Read.module-of (module_of b)
 unfolding flat_of pick rules ids_hold layout_of trees_hold ordered rows
 readable-legal b r none once =
     rw (
@@ -58,8 +59,8 @@ module _ (e : Equation) where
       header_words 2 0 0 0 1 size ++ (equation_words (root_from 0 e.left) (root_from (tree_nodes e.left) e.right) e.place ++ rule_words e)
 
   pub in-words : record_of e ≡ bytes_of record_words
-  unfolding record_of flat_bytes rule_module flat_words definitions_words definitions_trees equations_words definitions_nodes module_nodes equations_nodes header_words
-      equation_words next_from
+  unfolding record_of flat_bytes rule_module flat_words definitions_words definitions_trees equations_words definitions_nodes module_nodes equations_nodes
+      header_words equation_words next_from
   in-words =
       let n : 0 + (tree_nodes e.left + tree_nodes e.right + 0) ≡ size = omega arith in
       let m : 0 + tree_nodes e.left ≡ tree_nodes e.left = omega arith in

@@ -1,6 +1,7 @@
 -- THE THEOREMS of the list of small rules. Assumes nothing.
 use Prim.Native.Nat.{ℕ, zero, suc, ◌*◌, ◌≤◌, ◌<◌}
 use mathlib.Core.Path.{◌≡◌, refl, sym, ap, subst, ◌∙◌}
+use mathlib.Core.List.Memᴰ
 use mathlib.Core.List.{List, [], flat_map, Memᴰ}
 use mathlib.Core.Logic.{inl, inr}
 use native.Mathlib.Omega.{arith}
@@ -92,10 +93,10 @@ size-listed : (n : ℕ) → 2 ≤ n → n ≤ 5 → Memᴰ n sizes
 unfolding sizes
 size-listed zero l m = absurd (omega arith)
 size-listed (suc zero) l m = absurd (omega arith)
-size-listed (suc (suc zero)) l m = mathlib.Core.List.Memᴰ.head refl
-size-listed (suc (suc (suc zero))) l m = mathlib.Core.List.Memᴰ.tail (mathlib.Core.List.Memᴰ.head refl)
-size-listed (suc (suc (suc (suc zero)))) l m = mathlib.Core.List.Memᴰ.tail (mathlib.Core.List.Memᴰ.tail (mathlib.Core.List.Memᴰ.head refl))
-size-listed (suc (suc (suc (suc (suc zero))))) l m = mathlib.Core.List.Memᴰ.tail (mathlib.Core.List.Memᴰ.tail (mathlib.Core.List.Memᴰ.tail (mathlib.Core.List.Memᴰ.head refl)))
+size-listed (suc (suc zero)) l m = Memᴰ.head refl
+size-listed (suc (suc (suc zero))) l m = Memᴰ.tail (Memᴰ.head refl)
+size-listed (suc (suc (suc (suc zero)))) l m = Memᴰ.tail (Memᴰ.tail (Memᴰ.head refl))
+size-listed (suc (suc (suc (suc (suc zero))))) l m = Memᴰ.tail (Memᴰ.tail (Memᴰ.tail (Memᴰ.head refl)))
 size-listed (suc (suc (suc (suc (suc (suc n)))))) l m = absurd (omega arith)
 
 record-listed : (b : List ℕ) → SmallRecord b → Memᴰ b small_records
@@ -106,7 +107,7 @@ record-listed b s =
     let two : 2 ≤ n = omega (arith, tree-positive e.left, tree-positive e.right) in
     let r : SmallRule n e = record { place = s.place; left-small = s.left-small; right-small = s.right-small; nodes = refl } in
     let m : Memᴰ e small_rules = mem-flat_map rules_of e n sizes (size-listed n two s.few) (rule-listed e n r) in
-    mathlib.Core.List.Memᴰ.cast (record_is b s) (mathlib.Core.List.Memᴰ.map record_of m)
+    Memᴰ.cast (record_is b s) (Memᴰ.map record_of m)
 
 pub none-longer : NoneLonger
 none-longer =
@@ -148,7 +149,8 @@ ascends =
 
 before-other : (a b : List ℕ) → Before a b → node_list a ≡ node_list b → ⊥
 unfolding node_list
-before-other a b (inl l) e = omega (arith, ap length e, length-rows (word_at a) (4 * nodes a) (nodes_offset a), length-rows (word_at b) (4 * nodes b) (nodes_offset b))
+before-other a b (inl l) e =
+    omega (arith, ap length e, length-rows (word_at a) (4 * nodes a) (nodes_offset a), length-rows (word_at b) (4 * nodes b) (nodes_offset b))
 before-other a b (inr h) e = words-not-self (node_list b) (rw e at h.1)
 
 pub none-twice : NoneTwice

@@ -1,5 +1,6 @@
-// Replays the small rules against the Rust: the constraint records that the Rust makes of them, in the order of the list, made by tools/small_cases.py. A case
-// on standard input: a word, the length of the constraint record, and the record; the rule is made here. A read or a write that fails is said on standard error.
+// Replays the small rules against the Rust: the constraint records that the Rust makes of them, in the order of the list, made by
+// tools/small_cases.py. A case on standard input: a word, the length of the constraint record, and the record; the rule is made here.
+// A read or a write that fails is said on standard error.
 #![tactic(auto)]
 
 use records::refusals::Refusal;
@@ -28,11 +29,14 @@ fn rule_is(k: usize, expected: &[u8]) -> bool {
     let Ok(Some(n)) = small_rule(k, &mut room) else {
         return false;
     };
-    let Some([short @ .., _]) = room.get_mut(..n) else {
+    let Some(record) = room.get(..n) else {
         return false;
     };
-    let refused = small_rule(k, short) == Err(Refusal::Output);
-    refused && cut_is(&room[..n], expected)
+    let right = cut_is(record, expected);
+    let Some(short) = room.get_mut(..n.saturating_sub(1)) else {
+        return false;
+    };
+    right && small_rule(k, short) == Err(Refusal::Output)
 }
 
 // No case is lent anything.
