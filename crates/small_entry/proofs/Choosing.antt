@@ -10,7 +10,7 @@ use lib.Dec.{eqb, leb, ltb}
 use mir.Val.{bool_byte}
 use lib.ListN.{length, get_or, drop, replicate, length-append, length-replicate, get_or-append}
 use lib.Seq.{drop-cons, get_or-append-add}
-use borrow.Author.Tests.{leb-true, ne_eqb, le-leb, lt-leb, lt-ltb, le-ltb}
+use borrow.Author.Tests.{leb-true, le-leb, lt-leb, lt-ltb, le-ltb}
 use Rattle.std.specs.Prelude.{Option, Some, None}
 use Rattle.std.specs.Option.{IsSome}
 use Rattle.std.proofs.lemmas.Bool.{cases_lt}

@@ -1,6 +1,6 @@
 -- `small_rules::print_rule` meets its contract: the output is long enough for every record. Assumes nothing.
-use Rattle.std.proofs.Common.{ℕ, arith, refl, subst}
-use lib.ListN.{length, take, length-take}
+use Rattle.std.proofs.Common.{arith, refl, subst}
+use lib.ListN.{length, length-take}
 use Rattle.streams.specs.Streams.{Whole, Added}
 use Rattle.small_entry.proofs.Answers.{is-written, is_some, how-long, front-is}
 use Rattle.small_rules.proofs.print_rule.Goals as goal

@@ -1,5 +1,5 @@
 -- `small_rules::print_rules` meets its contract: the records so far are written. Assumes nothing.
-use Rattle.std.proofs.Common.{◌≡◌, arith, refl, ap, subst, List, [], ℕ, ◌<◌, length, take, get_or, length-append}
+use Rattle.std.proofs.Common.{arith, refl, ap, subst, [], ◌<◌, length, take, get_or, length-append}
 use Rattle.std.specs.Io.KnownBytes.{Appends}
 use Rattle.std.proofs.KnownBytes.{Appends-nil, Appends-trans}
 use Rattle.streams.proofs.Laws.{added-cut}
