@@ -4,7 +4,6 @@ use mathlib.Core.Path.{◌≡◌, refl, sym, ◌∙◌}
 use mathlib.Core.List.{List, [], ◌∷◌, ◌++◌, append_assoc, append-nil, flat_map}
 use mathlib.Core.Logic.{inl, inr}
 use native.Mathlib.Omega.{arith}
-use lib.Dec.{lit<}
 use lib.ListN.{length}
 use Rattle.flat.specs.Trees.{Flat, Equation}
 use Rattle.flat.specs.Layout.{node_words}
@@ -47,7 +46,34 @@ choice-four (Variable v) before last = refl
 -- THE EIGHT CHOICES ASCEND: at one place their words differ in the kind, or behind it
 choices-ascend : (before last : ℕ) → Sorted (λ c d. WordsBefore (choice_words c before last) (choice_words d before last)) choices
 unfolding choices choice_words node_words number_word
-choices-ascend before last = search (tt, refl, inl, inr, lit<) depth 12
+choices-ascend before last = (
+  (
+    inr (refl, inr (refl, inr (refl, inl (omega arith)))),
+    (inl (omega arith), (inl (omega arith), (inl (omega arith), (inl (omega arith), (inl (omega arith), (inl (omega arith), tt)))))),
+  ),
+  (
+    (inl (omega arith), (inl (omega arith), (inl (omega arith), (inl (omega arith), (inl (omega arith), (inl (omega arith), tt)))))),
+    (
+      (inl (omega arith), (inl (omega arith), (inl (omega arith), (inl (omega arith), (inl (omega arith), tt))))),
+      (
+        (inr (refl, inl (omega arith)), (inr (refl, inl (omega arith)), (inl (omega arith), (inl (omega arith), tt)))),
+        (
+          (inr (refl, inl (omega arith)), (inl (omega arith), (inl (omega arith), tt))),
+          (
+            (inl (omega arith), (inl (omega arith), tt)),
+            (
+              (inr (refl, inl (omega arith)), tt),
+              (
+                tt,
+                tt,
+              ),
+            ),
+          ),
+        ),
+      ),
+    ),
+  ),
+)
 
 -- ---- equations
 
