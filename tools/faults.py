@@ -4,8 +4,8 @@
     python3 tools/faults.py [FOLDER [PROGRAM..]]
 
 FOLDER has the built programs, target/bin by default, after
-`tools/build.sh cut_all cut_flat equalities expand flatten flatten_equalities join renumber season season_lines test_eval test_field test_flat test_flatten test_join test_numbering test_renumber
-test_season test_share test_source`; all of these are tried, or those named (`cut_all` needs `cut_flat` too). Every fault has to leave a line on standard error, or end the program by a signal, and to leave on standard output nothing but a front of the
+`tools/build.sh cut_all cut_flat equalities expand flatten flatten_equalities join renumber season season_lines small_rules test_eval test_field test_flat test_flatten test_join test_numbering test_renumber
+test_season test_share test_small test_source`; all of these are tried, or those named (`cut_all` needs `cut_flat` too). Every fault has to leave a line on standard error, or end the program by a signal, and to leave on standard output nothing but a front of the
 right bytes: none is taken for success. A test program is tried on the first cases of its input and on many that differ from what they expect, each of
 which it tells by a line; without a fault on all of its input too. Printed is a line for each fault that was not handled so, then how many were tried
 on each program and the counts; the exit status is 1 if there is one.
@@ -77,6 +77,7 @@ PARTS = {
     "test_join": (5, lambda first, second, pairs, room, answer: 20 + first + second + pairs + (answer if answer < REFUSED else 0), 4),
     "test_numbering": (4, lambda length, answer, ids, publics: 16 + length + 4 * (ids + publics), 1),
     "test_share": (4, lambda n, total, records, outputs: 116 + records + outputs, 21),
+    "test_small": (1, lambda length: 4 + length, 1),
     "test_source": (2, lambda length, size: 24 + (size if length == BASE else 0), 1),
 }
 
@@ -112,6 +113,8 @@ def many_different(name):
 
 # programs that take no arguments
 NONE = ("season", "season_lines")
+# programs that read nothing
+SILENT = ("small_rules", "test_field")
 
 # programs that take numbers as arguments: some that change nothing
 NUMBERS = {"flatten": ("0" * 3000 + "1048560", "0" * 4000 + "786712"), "cut_flat": ("0" * 4000 + "786712",)}
@@ -136,7 +139,7 @@ PROGRAMS = {
     "renumber": lambda: (many_terms(4), many_terms(400)),
     "expand": lambda: (many_terms(4), many_terms(400)),
     "join": lambda: (b"", b""),
-    "test_field": lambda: (b"", b""),
+    **{name: lambda: (b"", b"") for name in SILENT},
     **{name: lambda name=name: (front(name), many_different(name)) for name in PARTS},
 }
 
@@ -254,14 +257,14 @@ def slow_reader(name, record, whole):
 def arguments(name, record, whole):
     usage = b"usage: " + name.encode()
     wrong = [("--help",), ("-x",), ("1", "2", "3", "4"), ("9" * 5000,) if name not in NUMBERS else ("x" * 5000,)]
-    if name.startswith("test_") or name in NONE:
+    if name.startswith("test_") or name in NONE or name in SILENT:
         wrong += [("1",), ("",)]
     if name in TABLES:
         wrong += [(), ("1", "2")]
     for args in wrong:
         status, out, err = run(name, record, args)
         expect("%s %s" % (name, " ".join(a[:12] for a in args)), out == b"" and said(err, usage))
-    if name.startswith("test_") or name in NONE:
+    if name.startswith("test_") or name in NONE or name in SILENT:
         return
     if name in TABLES:
         tables(name, record, whole)
@@ -348,7 +351,7 @@ def tried(name):
     slow_reader(name, large, whole)
     status, whole, err = run(name, small)
     arguments(name, small, whole)
-    if name != "test_field" and name not in FILES:
+    if name not in SILENT and name not in FILES:
         reads(name, small, whole)
     if name in PARTS:
         some_cases(name, small, large)

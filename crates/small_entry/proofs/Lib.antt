@@ -1,0 +1,4 @@
+mod Choosing
+mod Growing
+mod Written
+pub mod Answers

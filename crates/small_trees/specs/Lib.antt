@@ -1,0 +1,3 @@
+pub mod SmallRules
+pub mod Counting
+pub mod Statements
