@@ -2,10 +2,9 @@
 use mathlib.Core.Path.{◌≡◌, refl, sym, ap, ◌∙◌}
 use mathlib.Core.List.{List}
 use Prim.Native.Nat.{ℕ}
-use Rattle.source.specs.Trees.{Module}
-use Rattle.numbering.specs.Numbering.{Numbered, numbered}
+use Rattle.numbering.specs.Numbering.{numbered}
 use Rattle.records.specs.Evaluation.{LEVELS}
-use Rattle.flat.specs.Places.{place_module, bare}
+use Rattle.flat.specs.Places.{place_module}
 use Rattle.flat.proofs.PlaceLaws.{bare-placed}
 use Rattle.eval_trees.specs.Evaluation.{Evaluated, flat, refusal, evaluated_by, evaluated, placed}
 use Rattle.pass_trees.specs.Passes.{cut_of}
