@@ -1,7 +1,6 @@
 -- Which rule made an equality. Assumes nothing.
-use mathlib.Core.Path.{◌≡◌, refl, sym, ap, subst, ◌∙◌}
-use mathlib.Core.Bool.{Bool, true, false}
-use mathlib.Core.List.{List, [], ◌∷◌, ◌++◌}
+use mathlib.Core.Path.{◌≡◌, refl, sym, subst}
+use mathlib.Core.List.{List, [], ◌∷◌}
 use Prim.Native.Nat.{ℕ, zero, suc, ◌+◌, ◌<◌}
 use lib.ListN.{length, take, replicate}
 use Rattle.source.specs.Trees.{Module}
@@ -10,8 +9,8 @@ use Rattle.flat.specs.Trees.{Definition, Equation, FlatModule}
 use Rattle.flat.specs.Rules.{All}
 use Rattle.constraint.specs.Trees.{Equality, ConstraintModule}
 use Rattle.constraint.specs.Reading.{constraint_of}
-use Rattle.pass_trees.specs.Passes.{member, those, dead, sides, classify_defs, copy_propagate, passes, counted, cut}
-use Rattle.pass_trees.specs.Statements.{equalities_into, equalities_of, places, definition_places, equation_places, own_places, own_equation_places}
+use Rattle.pass_trees.specs.Passes.{classify_defs, copy_propagate, passes, counted, cut}
+use Rattle.pass_trees.specs.Statements.{equalities_into, places, definition_places, equation_places, own_places, own_equation_places}
 use Rattle.pass_trees.proofs.Lists.{all_append, all-those}
 use Rattle.pass_trees.proofs.Inherited.{places-inherited}
 use Rattle.pass_trees.proofs.Agreement.{accepted}
@@ -20,7 +19,7 @@ use Rattle.eval_trees.specs.Evaluation.{Evaluated, flat, refusal, evaluated}
 use Rattle.eval_trees.proofs.Placed.{evaluated-places}
 use Rattle.eval_entry.specs.Source.{capacity_of}
 use Rattle.eval_entry.proofs.Recorded.{next_fits}
-use Rattle.pass_entry.specs.Cut.{answer_for, output_for}
+use Rattle.pass_entry.specs.Cut.{output_for}
 use Rattle.agreement.specs.Flattened.{passed, flattened_of}
 use Rattle.flatten_entry.specs.Flatten.{flattened}
 use Rattle.flatten_entry.specs.Places.{PlacesOfRules, FlattenPlaces}

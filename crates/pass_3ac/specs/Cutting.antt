@@ -14,7 +14,7 @@ use Rattle.pass_copies.specs.Substituted.{option_of, subst_of, put_definitions}
 use Rattle.pass_3ac.specs.declared.Sides.{Sides}
 use Rattle.pass_3ac.specs.declared.Sides.TheVariants.{Left, Right, Neither}
 
--- the next id, and the word after the last equality
+-- where the code writes next: the next id, and the word after the last equality. The place of a statement is the `place` of a `Writer`
 pub record Place : Type 0 where
   pub next : ℕ
   pub at : ℕ

@@ -38,7 +38,7 @@ cut-count (Flat.infixed o a b) n =
     let x : Cut = flatten_expr_to_3ac none a n in
     simp length-append (omega (arith, cut-count a n, cut-count b x.next))
 
-given-count : (t : Term) (e : Flat) (n : ℕ) → length (flatten_expr_to_3ac (some t) e n).equalities ≡ equalities_into e
+pub given-count : (t : Term) (e : Flat) (n : ℕ) → length (flatten_expr_to_3ac (some t) e n).equalities ≡ equalities_into e
 unfolding flatten_expr_to_3ac copied push_constraint_def operations equalities_into
 given-count t (Flat.constant c) n = refl
 given-count t (Flat.variable v) n = refl
@@ -47,7 +47,7 @@ given-count t (Flat.infixed o a b) n =
     let x : Cut = flatten_expr_to_3ac none a n in
     simp length-append (omega (arith, cut-count a n, cut-count b x.next))
 
-sides-count : (s : Sides) (n : ℕ) → length (flatten_sides s n).equalities ≡ equalities_of s
+pub sides-count : (s : Sides) (n : ℕ) → length (flatten_sides s n).equalities ≡ equalities_of s
 unfolding flatten_sides cuts_of joined equalities_of
 sides-count (into t e) n = given-count t e n
 sides-count (both a b) n =

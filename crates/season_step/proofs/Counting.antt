@@ -2,10 +2,10 @@
 use mathlib.Core.Bool.{Bool, true, false, ◌&&◌}
 use mathlib.Core.List.{List, [], ◌∷◌, ◌++◌}
 use mathlib.Core.Logic.{⊎_elim}
-use mathlib.Core.Path.{◌≡◌, refl, sym, ap, ap₂, subst, ◌∙◌}
-use Prim.Native.Nat.{ℕ, suc, ◌+◌, ◌≤◌, ◌<◌}
+use mathlib.Core.Path.{◌≡◌, refl, sym, ap, ap₂, ◌∙◌}
+use Prim.Native.Nat.{ℕ, ◌+◌, ◌<◌}
 use native.Mathlib.Omega.{arith}
-use lib.ListN.{length, get_or, set, length-set}
+use lib.ListN.{length, get_or, length-set}
 use lib.Seq.{get_or-set_same, get_or-set_other}
 use Rattle.flat.specs.Record.{rows}
 use Rattle.std.proofs.lemmas.Bool.{cases_eq}
@@ -13,8 +13,8 @@ use Rattle.flat.proofs.Rows.{rows_more}
 use Rattle.constraint.specs.Trees.{Equality}
 use Rattle.constraint_check.specs.Record.{EQUALITIES}
 use Rattle.season_trees.specs.Values.{Environment, verdict}
-use Rattle.season_trees.specs.Count.{is_held, is_failed, all_held}
-use Rattle.season_step.specs.Totals.{bumped, bit, Small, Bumps}
+use Rattle.season_trees.specs.Count.{is_held, all_held}
+use Rattle.season_step.specs.Totals.{bumped, bit, Bumps}
 
 pub bumps-none : (a : List ℕ) (t : ℕ → Bool) → length a ≡ EQUALITIES → Bumps a a 0 t
 bumps-none a t l = record { long = l; below = λ k h. absurd (omega arith); above = λ k h. refl }

@@ -1,5 +1,5 @@
 -- One calibration of an accepted record: what the step answers, and what it keeps.
-use Rattle.std.specs.Prelude.{Bool, true, false, List, ◌≡◌, ℕ, length, Result, Ok, Err, None}
+use Rattle.std.specs.Prelude.{Bool, false, List, ◌≡◌, ℕ, length, Result, Ok, Err, None}
 use Rattle.field.specs.Operations.{Answer}
 use Rattle.flat.specs.Record.{pick}
 use Rattle.flat.specs.Trees.{defines}

@@ -1,5 +1,5 @@
 -- Totals in arrays, for the contracts of the functions that count.
-use Rattle.std.specs.Prelude.{Bool, true, false, List, ◌≡◌, ℕ, suc, ◌+◌, ◌≤◌, ◌<◌, length, get_or, set, replicate}
+use Rattle.std.specs.Prelude.{Bool, true, false, List, ◌≡◌, ℕ, ◌+◌, ◌≤◌, ◌<◌, length, get_or, set, replicate}
 use Rattle.constraint_check.specs.Record.{EQUALITIES}
 
 unfoldable pub no_totals : List ℕ

@@ -2,12 +2,11 @@
 use native.Mathlib.Omega.{arith}
 use mathlib.Core.Bool.{false, true}
 use mathlib.Core.Path.{◌≡◌, sym, ap, subst, ◌∙◌}
-use Prim.Native.Nat.{ℕ}
 use lib.ListN.{length}
 use Rattle.std.specs.Prelude.{Ok}
 use Rattle.flat.specs.Record.{pick, rows}
 use Rattle.flat.proofs.Rows.{length-rows}
-use Rattle.constraint.specs.Reading.{next, equalities, equalities_offset, equality_at, constraint_of}
+use Rattle.constraint.specs.Reading.{equalities, equalities_offset, equality_at, constraint_of}
 use Rattle.season_trees.specs.Count.{is_held, is_failed, all_held, fulfils}
 use Rattle.season_trees.specs.Season.{element_at, in_range}
 use Rattle.season_trees.specs.Values.{Environment, values_of, verdict}

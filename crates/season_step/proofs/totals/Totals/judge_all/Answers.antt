@@ -1,6 +1,6 @@
 -- `season_step::totals::Totals::judge_all` meets its contract. Assumes nothing.
 use native.Mathlib.Omega.{arith}
-use mathlib.Core.Path.{◌≡◌, refl, sym, ap, ◌∙◌}
+use mathlib.Core.Path.{◌≡◌, sym, ap, ◌∙◌}
 use Prim.Native.Nat.{◌<◌}
 use borrow.Author.Tests.{leb-true}
 use Rattle.constraint.specs.Reading.{equalities, constraint_of}
