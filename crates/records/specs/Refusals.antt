@@ -1,5 +1,5 @@
 -- The refusals and their numbers, by the place of the check: 1 to 6 of a source record, in the order of its parts; 10 to 19 of evaluation, as first met;
--- 20 to 22 of a flat record; 30 to 32 of the stores, as met; 33 of the output.
+-- 20 to 22 of a flat record; 30 to 32 of the stores, as met; 33 of the output; 40 and 41 of a text of rules.
 use Rattle.std.specs.Prelude.{ℕ, Result, Ok, Err}
 use Rattle.records.specs.declared.refusals.Refusal.{Refusal}
 
@@ -28,6 +28,8 @@ refusal_number Refusal.MadeNodes = 30
 refusal_number Refusal.FlatList = 31
 refusal_number Refusal.Ids = 32
 refusal_number Refusal.Output = 33
+refusal_number Refusal.OutsideGrammar = 40
+refusal_number Refusal.Nesting = 41
 
 -- an answer, whose refusal is known by its number
 abbrev pub numbered : {A : Type 0} → Result A Refusal → Result A ℕ

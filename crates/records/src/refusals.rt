@@ -3,7 +3,7 @@ ghost use Rattle.std.specs.Prelude.{◌≡◌};
 ghost use Rattle.records.specs.Refusals.{refusal_number};
 
 // The refusals in the order of their numbers: 1 to 6 of a source record, 10 to 19 of evaluation, 20 to 22 of a flat record, 30 to 32 of the stores,
-// 33 of the output.
+// 33 of the output, 40 and 41 of a text of rules.
 #[derive(Clone, Copy, Debug, PartialEq, Eq, Hash)]
 pub enum Refusal {
     Length,
@@ -29,6 +29,8 @@ pub enum Refusal {
     FlatList,
     Ids,
     Output,
+    OutsideGrammar,
+    Nesting,
 }
 
 impl Refusal {
@@ -60,6 +62,8 @@ impl Refusal {
             Refusal::FlatList => 31,
             Refusal::Ids => 32,
             Refusal::Output => 33,
+            Refusal::OutsideGrammar => 40,
+            Refusal::Nesting => 41,
         }
     }
 }
