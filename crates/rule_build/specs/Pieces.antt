@@ -2,23 +2,23 @@
 use Rattle.std.specs.Prelude.{ℕ}
 use Rattle.field.specs.declared.InfixOp.{InfixOp}
 use Rattle.rule_build.specs.declared.pieces.Piece.{Piece}
-use Rattle.rule_build.specs.declared.pieces.Place.{Place}
+use Rattle.rule_build.specs.declared.pieces.Position.{Position}
 use Rattle.rule_build.specs.declared.pieces.Waiting.{Waiting}
 
 -- the place behind a piece
-unfoldable pub place_behind : Place → Piece → Place
-place_behind p Piece.Def = Place.BehindDef
-place_behind Place.BehindDef (Piece.Name i) = Place.BehindName
-place_behind Place.WantsOperand (Piece.Name i) = Place.HasOperand
-place_behind Place.BehindName (Piece.Name i) = Place.HasOperand
-place_behind Place.HasOperand (Piece.Name i) = Place.HasOperand
-place_behind p (Piece.Number n) = Place.HasOperand
-place_behind p Piece.Equals = Place.WantsOperand
-place_behind p Piece.Semicolon = Place.WantsOperand
-place_behind p Piece.Opening = Place.WantsOperand
-place_behind p Piece.Closing = Place.HasOperand
-place_behind p Piece.Minus = Place.WantsOperand
-place_behind p (Piece.Operator o) = Place.WantsOperand
+unfoldable pub place_behind : Position → Piece → Position
+place_behind p Piece.Def = Position.BehindDef
+place_behind Position.BehindDef (Piece.Name i) = Position.BehindName
+place_behind Position.WantsOperand (Piece.Name i) = Position.HasOperand
+place_behind Position.BehindName (Piece.Name i) = Position.HasOperand
+place_behind Position.HasOperand (Piece.Name i) = Position.HasOperand
+place_behind p (Piece.Number n) = Position.HasOperand
+place_behind p Piece.Equals = Position.WantsOperand
+place_behind p Piece.Semicolon = Position.WantsOperand
+place_behind p Piece.Opening = Position.WantsOperand
+place_behind p Piece.Closing = Position.HasOperand
+place_behind p Piece.Minus = Position.WantsOperand
+place_behind p (Piece.Operator o) = Position.WantsOperand
 
 -- "Strongest first": `^` 4, a sign 3, products 2, sums 1; 0 where a bracket or a `=` has to close it
 unfoldable pub operator_level : InfixOp → ℕ

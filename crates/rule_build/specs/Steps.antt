@@ -6,7 +6,7 @@ use Rattle.records.specs.declared.nodes.NodeEntry.{NodeEntry}
 use Rattle.records.specs.Kinds.{CONSTANT, INFIX, NEGATE, VARIABLE, VARIABLE-PATTERN}
 use Rattle.records.specs.SourceRecord.{DEFINITIONS, EXPRESSIONS, NODES}
 use Rattle.rule_build.specs.declared.pieces.Piece.{Piece}
-use Rattle.rule_build.specs.declared.pieces.Place.{Place}
+use Rattle.rule_build.specs.declared.pieces.Position.{Position}
 use Rattle.rule_build.specs.declared.pieces.Waiting.{Waiting}
 use Rattle.rule_build.specs.declared.desk.Frame.{Frame}
 use Rattle.rule_build.specs.declared.desk.Roots.{Roots}
@@ -24,7 +24,7 @@ empty_desk = record {
   frames = record { items = [] };
   definitions = record { items = [] };
   equations = record { items = [] };
-  place = Place.WantsOperand;
+  place = Position.WantsOperand;
 }
 
 -- room for two more of nodes and frames, and for one of each list
@@ -97,28 +97,28 @@ unfoldable pub ended : Desk → Desk
 ended d = let q = reduced 1 d in ended_by (reverse q.frames.items) q
 
 -- a name, by its index: a pattern behind `def`, else a variable
-unfoldable pub named : Place → ℕ → Desk → Desk
-named Place.BehindDef i d = with_frame Waiting.Definition (length d.nodes.items) (with_node VARIABLE-PATTERN i 0 0 d)
-named Place.WantsOperand i d = with_node VARIABLE i 0 0 d
-named Place.BehindName i d = with_node VARIABLE i 0 0 d
-named Place.HasOperand i d = with_node VARIABLE i 0 0 d
+unfoldable pub named : Position → ℕ → Desk → Desk
+named Position.BehindDef i d = with_frame Waiting.Definition (length d.nodes.items) (with_node VARIABLE-PATTERN i 0 0 d)
+named Position.WantsOperand i d = with_node VARIABLE i 0 0 d
+named Position.BehindName i d = with_node VARIABLE i 0 0 d
+named Position.HasOperand i d = with_node VARIABLE i 0 0 d
 
 -- the `=` of a definition leaves nothing, that of an equation waits for its right side
-unfoldable pub equalled : Place → Desk → Desk
-equalled Place.BehindName d = d
-equalled Place.BehindDef d = operated InfixOp.Equal d
-equalled Place.WantsOperand d = operated InfixOp.Equal d
-equalled Place.HasOperand d = operated InfixOp.Equal d
+unfoldable pub equalled : Position → Desk → Desk
+equalled Position.BehindName d = d
+equalled Position.BehindDef d = operated InfixOp.Equal d
+equalled Position.WantsOperand d = operated InfixOp.Equal d
+equalled Position.HasOperand d = operated InfixOp.Equal d
 
 -- a sign, or a subtraction behind an operand
-unfoldable pub signed : Place → Desk → Desk
-signed Place.HasOperand d = operated InfixOp.Subtract d
-signed Place.WantsOperand d = with_frame Waiting.Sign 0 d
-signed Place.BehindDef d = with_frame Waiting.Sign 0 d
-signed Place.BehindName d = with_frame Waiting.Sign 0 d
+unfoldable pub signed : Position → Desk → Desk
+signed Position.HasOperand d = operated InfixOp.Subtract d
+signed Position.WantsOperand d = with_frame Waiting.Sign 0 d
+signed Position.BehindDef d = with_frame Waiting.Sign 0 d
+signed Position.BehindName d = with_frame Waiting.Sign 0 d
 
 -- one token, at its place
-unfoldable pub stepped_at : Place → Piece → Desk → Desk
+unfoldable pub stepped_at : Position → Piece → Desk → Desk
 stepped_at p Piece.Def d = d
 stepped_at p (Piece.Name i) d = named p i d
 stepped_at p (Piece.Number n) d = with_node CONSTANT (n % 4294967296) (n / 4294967296) 0 d

@@ -2,7 +2,7 @@
 ghost use Rattle.std.specs.Prelude.{◌≡◌, ◌+◌, ◌≤◌, ◌<◌, length};
 ghost use Rattle.rule_build.specs.Steps.{ROOM, Roomy, empty_desk, last_node, with_node, with_frame, applied, reduced, operated, closed, finished, ended, named, equalled, signed, stepped};
 
-use super::pieces::{Piece, Place, Waiting, limit_of};
+use super::pieces::{Piece, Position, Waiting, limit_of};
 use arrayvec::ArrayVec;
 use field::InfixOp;
 use records::kinds::{CONSTANT, INFIX, NEGATE, VARIABLE, VARIABLE_PATTERN};
@@ -42,7 +42,7 @@ pub struct Desk {
     pub frames: ArrayVec<Frame, ROOM>,
     pub definitions: ArrayVec<Roots, MOST_DEFINITIONS>,
     pub equations: ArrayVec<u32, MOST_EQUATIONS>,
-    pub place: Place,
+    pub place: Position,
 }
 
 impl Desk {
@@ -55,7 +55,7 @@ impl Desk {
             frames: ArrayVec::new(),
             definitions: ArrayVec::new(),
             equations: ArrayVec::new(),
-            place: Place::WantsOperand,
+            place: Position::WantsOperand,
         }
     }
 
@@ -90,7 +90,8 @@ impl Desk {
         match frame.waiting {
             Waiting::Operator(o) => self.push_node(INFIX, frame.left, last, u32::from(o)),
             Waiting::Sign => self.push_node(NEGATE, last, 0, 0),
-            Waiting::Group | Waiting::Definition => {}
+            Waiting::Group => {}
+            Waiting::Definition => {}
         }
     }
 
@@ -149,21 +150,23 @@ impl Desk {
                 self.apply(frame);
                 self.equations.push(root);
             }
-            Waiting::Sign | Waiting::Group => {}
+            Waiting::Sign => {}
+            Waiting::Group => {}
         }
     }
 
     // A name, by its index: a pattern behind `def`, else a variable.
-    fn name(&mut self, place: Place, i: u32)
+    fn name(&mut self, place: Position, i: u32)
         requires { Roomy self.old }
         ensures { self.new ≡ named place i self.old }
     {
-        if place == Place::BehindDef {
-            let pattern = self.nodes.len() as u32;
-            self.push_node(VARIABLE_PATTERN, i, 0, 0);
-            self.push_frame(Waiting::Definition, pattern);
-        } else {
-            self.push_node(VARIABLE, i, 0, 0);
+        match place {
+            Position::BehindDef => {
+                let pattern = self.nodes.len() as u32;
+                self.push_node(VARIABLE_PATTERN, i, 0, 0);
+                self.push_frame(Waiting::Definition, pattern);
+            }
+            _ => self.push_node(VARIABLE, i, 0, 0),
         }
     }
 
@@ -190,24 +193,24 @@ impl Desk {
     }
 
     // The `=` of a definition leaves nothing, that of an equation waits for its right side.
-    fn equals(&mut self, place: Place)
+    fn equals(&mut self, place: Position)
         requires { Roomy self.old }
         ensures { self.new ≡ equalled place self.old }
     {
-        if place != Place::BehindName {
-            self.operate(InfixOp::Equal);
+        match place {
+            Position::BehindName => {}
+            _ => self.operate(InfixOp::Equal),
         }
     }
 
     // A sign, or a subtraction behind an operand.
-    fn minus(&mut self, place: Place)
+    fn minus(&mut self, place: Position)
         requires { Roomy self.old }
         ensures { self.new ≡ signed place self.old }
     {
-        if place == Place::HasOperand {
-            self.operate(InfixOp::Subtract);
-        } else {
-            self.push_frame(Waiting::Sign, 0);
+        match place {
+            Position::HasOperand => self.operate(InfixOp::Subtract),
+            _ => self.push_frame(Waiting::Sign, 0),
         }
     }
 }

@@ -20,24 +20,24 @@ pub enum Piece {
 
 // Where a statement stands, as far as the next token's meaning asks.
 #[derive(Clone, Copy, Debug, PartialEq, Eq)]
-pub enum Place {
+pub enum Position {
     WantsOperand,
     BehindDef,
     BehindName,
     HasOperand,
 }
 
-impl Place {
-    // The place behind a token.
+impl Position {
+    // The position behind a token.
     #[tactic(auto, unfolding(crate::specs::Pieces::place_behind))]
-    pub fn behind(self, piece: Piece) -> Place
+    pub fn behind(self, piece: Piece) -> Position
         ensures { result ≡ place_behind self piece }
     {
         match (piece, self) {
-            (Piece::Def, _) => Place::BehindDef,
-            (Piece::Name(_), Place::BehindDef) => Place::BehindName,
-            (Piece::Name(_) | Piece::Number(_) | Piece::Closing, _) => Place::HasOperand,
-            _ => Place::WantsOperand,
+            (Piece::Def, _) => Position::BehindDef,
+            (Piece::Name(_), Position::BehindDef) => Position::BehindName,
+            (Piece::Name(_) | Piece::Number(_) | Piece::Closing, _) => Position::HasOperand,
+            _ => Position::WantsOperand,
         }
     }
 }

@@ -4,14 +4,15 @@ use Rattle.field.specs.declared.InfixOp.{InfixOp}
 use Rattle.records.specs.declared.nodes.NodeEntry.{NodeEntry}
 use Rattle.source.specs.Trees.{Text}
 use Rattle.source.specs.Encoding.{node, root_of, expr_nodes}
-use Rattle.rule_trees.specs.Tokens.{Token, def, name, number, equals, semicolon, opening, closing, caret, factor, term, plus, minus, factor_of, term_of}
+use Rattle.rule_trees.specs.Tokens.{Token, def, name, number, equals, semicolon, opening, closing, caret, factor, term, factor_of, term_of}
+use Rattle.rule_trees.specs.declared.Term.TheVariants.{Plus, Minus}
 use Rattle.rule_trees.specs.Grammar.{Tree, Statement}
 use Rattle.rule_trees.specs.Reading.{Frame, raising, negating, multiplying, adding, group, defining, equating, Stack, State, at_start, after_def, after_name}
 use Rattle.rule_trees.specs.Reading.{wanting, wanting_atom, having}
 use Rattle.rule_trees.specs.Record.{index_of, expr_of, definitions_of, equations_of, nodes_of, node_count, definition_words, equation_words}
 use Rattle.rule_trees.specs.Writing.{count_of, frame_count, stack_count, stack_nodes, pending_nodes}
 use Rattle.rule_build.specs.declared.pieces.Piece.{Piece}
-use Rattle.rule_build.specs.declared.pieces.Place.{Place}
+use Rattle.rule_build.specs.declared.pieces.Position.{Position}
 use Rattle.rule_build.specs.declared.pieces.Waiting.{Waiting}
 use Rattle.rule_build.specs.declared.desk.Frame as Waits
 use Rattle.rule_build.specs.declared.desk.Roots.{Roots}
@@ -37,8 +38,8 @@ piece_of ns opening = Piece.Opening
 piece_of ns closing = Piece.Closing
 piece_of ns caret = Piece.Operator InfixOp.Exponentiate
 piece_of ns (factor o) = Piece.Operator (factor_of o)
-piece_of ns (term plus) = Piece.Operator InfixOp.Add
-piece_of ns (term minus) = Piece.Minus
+piece_of ns (term Plus) = Piece.Operator InfixOp.Add
+piece_of ns (term Minus) = Piece.Minus
 
 unfoldable pub waiting_of : Frame → Waiting
 waiting_of (raising x) = Waiting.Operator InfixOp.Exponentiate
@@ -49,13 +50,13 @@ waiting_of group = Waiting.Group
 waiting_of (defining n) = Waiting.Definition
 waiting_of (equating x) = Waiting.Operator InfixOp.Equal
 
-unfoldable pub standing : State → Place
-standing at_start = Place.WantsOperand
-standing after_def = Place.BehindDef
-standing (after_name n) = Place.BehindName
-standing (wanting fs) = Place.WantsOperand
-standing (wanting_atom fs) = Place.WantsOperand
-standing (having x fs) = Place.HasOperand
+unfoldable pub standing : State → Position
+standing at_start = Position.WantsOperand
+standing after_def = Position.BehindDef
+standing (after_name n) = Position.BehindName
+standing (wanting fs) = Position.WantsOperand
+standing (wanting_atom fs) = Position.WantsOperand
+standing (having x fs) = Position.HasOperand
 
 module _ (ns : List Text) where
   -- a frame's left word is the root of its left side; a sign and a parenthesis have none
