@@ -19,6 +19,7 @@ use Rattle.rule_trees.proofs.Growing.{definitions-append, equations-append, coun
 use Rattle.rule_trees.proofs.Writing.{definition_nodes, equation-nodes}
 use Rattle.rule_build.specs.declared.pieces.Waiting.{Waiting}
 use Rattle.rule_build.specs.declared.desk.Frame as Waits
+use Rattle.rule_build.specs.declared.desk.Roots.{Roots}
 use Rattle.rule_build.specs.declared.desk.Desk.{Desk}
 use Rattle.rule_build.specs.Steps.{applied, with_node, with_frames, finished}
 use Rattle.rule_holding.specs.Holding.{Stacked, stack_of, operand_count, operand_nodes, Holds}
@@ -76,6 +77,7 @@ module _ (ns : List Text) (done : List Statement) (q : Desk) (zs : List Waits.Fr
   unfolding finished stack_of operand_count operand_nodes pending_nodes definitions_of equations_of definition_words equation_words root_of
   define-holds n x left h l t =
       let b = one-count n in
+      let one : Roots = record { pattern = left; value = length q.nodes.items - 1 } in
       let root : length q.nodes.items - 1 ≡ node_count ns done + 1 + count_of ns x - 1 = omega (arith, h.nodes, b) in
       record {
         nodes = omega (arith, h.nodes, define-count n x, none-count, b);
@@ -86,7 +88,7 @@ module _ (ns : List Text) (done : List Statement) (q : Desk) (zs : List Waits.Fr
         definitions = omega (
           arith,
           h.definitions,
-          length-append q.definitions.items _,
+          length-append q.definitions.items (one ∷ []),
           ap length (definitions-append ns done (definition n x ∷ [])),
           length-append (definitions_of ns done)
               (definitions_of ns (definition n x ∷ [])),
@@ -138,7 +140,7 @@ module _ (ns : List Text) (done : List Statement) (q : Desk) (zs : List Waits.Fr
         equations = omega (
           arith,
           h.equations,
-          length-append q.equations.items _,
+          length-append q.equations.items (i ∷ []),
           ap length (equations-append ns done (equation y x ∷ [])),
           length-append (equations_of ns done)
               (equations_of ns (equation y x ∷ [])),

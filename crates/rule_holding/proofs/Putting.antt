@@ -130,7 +130,7 @@ module _ (ns : List Text) where
     stands : Stacked ns s (h ∷ hs) (f ∷ fs)
     stands = subst (λ (y : List Waits.Frame). Stacked ns s y (f ∷ fs)) e g.stacked
 
-    next : Desk
+    abbrev next : Desk
     next = Steps.applied h.waiting h.left (with_frames (reverse hs) d)
 
     pub next-frames : reverse next.frames.items ≡ hs
