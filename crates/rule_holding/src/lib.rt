@@ -1,1 +1,2 @@
-// What the desk holds of a reading, token by token (specs/Holding.antt): proofs alone.
+// What the desk holds of a reading, token by token.
+#![tactic(auto)]
