@@ -186,3 +186,21 @@ module _ (b : List ℕ) (room : ℕ) where
 
     pub shallow-after : deepest 0 b ≤ DEEPEST → rules_of b room ≡ after_scan qs room
     shallow-after h = rules-read ∙ not-deep h
+
+-- the code's tests of the counts, one after another
+pub true-false : {B : Type 0} → true ≡ false → B
+true-false e = false-true (sym e)
+
+pub limits-kept : (c : Counts) → c.definitions ≤ DEFINITIONS → leb (c.statements - c.definitions) EXPRESSIONS ≡ true
+    → leb (c.nodes - c.definitions) NODES ≡ keeps_limits c
+unfolding keeps_limits
+limits-kept c h k = sym (ap₂ (λ x y. x && (y && leb (c.nodes - c.definitions) NODES)) (le-leb c.definitions DEFINITIONS h) k)
+
+pub limits-broken : (c : Counts) → c.definitions ≤ DEFINITIONS → leb (c.statements - c.definitions) EXPRESSIONS ≡ false → false ≡ keeps_limits c
+unfolding keeps_limits
+limits-broken c h k = sym (ap₂ (λ x y. x && (y && leb (c.nodes - c.definitions) NODES)) (le-leb c.definitions DEFINITIONS h) k)
+
+pub definitions-broken : (c : Counts) → DEFINITIONS < c.definitions → false ≡ keeps_limits c
+unfolding keeps_limits
+definitions-broken c h =
+    sym (ap (λ x. x && (leb (c.statements - c.definitions) EXPRESSIONS && leb (c.nodes - c.definitions) NODES)) (lt-leb c.definitions DEFINITIONS h))

@@ -115,6 +115,18 @@ text-turn out o i j t rest all a e p = ap₂ (λ (x : List ℕ) (y : ℕ). sets 
 pub span-length : (b : List ℕ) (s : Span) → (s.from ≤ s.to) × (s.to ≤ length b) → length (spanned b s) ≡ span_size s
 span-length b s h = length-slice s.from s.to b h.1
 
+-- the bytes of the names behind the k-th
+module _ (b : List ℕ) (ss : List Span) (k : ℕ) (d s : Span) (l : k < length ss) (h : s ≡ get_or ss k d) (to whole : ℕ)
+    (room : to + length (joined (table_of b (drop k ss))) ≡ whole) where
+  all-bytes : length (joined (table_of b (drop k ss))) ≡ length (spanned b s) + length (joined (table_of b (drop (k + 1) ss)))
+  all-bytes = ap length (text-left b ss k d s l h) ∙ length-append (spanned b s) (joined (table_of b (drop (k + 1) ss)))
+
+  pub text-fits : {n : ℕ} → whole ≤ n → to + length (spanned b s) ≤ n
+  text-fits e = omega (arith, room, all-bytes)
+
+  pub text-less : length (spanned b s) ≡ span_size s → to + span_size s + length (joined (table_of b (drop (k + 1) ss))) ≡ whole
+  text-less e = omega (arith, room, all-bytes, e)
+
 -- ---- the table's sizes
 
 pub pairs-of : (b : List ℕ) (ss : List Span) (o : ℕ) → Within b ss → pair_words o (table_of b ss) ≡ span_pairs o ss

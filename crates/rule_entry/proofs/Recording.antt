@@ -97,7 +97,7 @@ module _ (b : List ℕ) (names : List Span) (qs : List Statement) (g : Given b n
   text_is : joined (table_of b names) ≡ joined ns
   text_is = ap joined g.table
 
-  abbrev header : List ℕ
+  abbrev pub header : List ℕ
   header = length names ∷ 0 ∷ length d.definitions.items ∷ length d.equations.items ∷ length d.nodes.items ∷ []
 
   abbrev parts : List ℕ
@@ -131,6 +131,12 @@ module _ (b : List ℕ) (names : List Span) (qs : List Statement) (g : Given b n
       length-append (bytes_of (words_of qs)) (joined ns) ∙ ap₂ (λ i j. i + j)
       (length-bytes_of (words_of qs) ∙ ap (λ x. 4 * x) (ap length (sym parts_are) ∙ parts-length))
       (ap length (sym text_is) ∙ size-of b names g.spanned)
+
+  -- so long an output has room for every part
+  pub room-for : (n : ℕ) → length (record_of qs) ≤ n
+      → 4 * (5 + 2 * length names + 2 * length d.definitions.items + length d.equations.items + 4 * length d.nodes.items) + text_size names ≤ n
+  unfolding word_count
+  room-for n h = omega (arith, record-length, h)
 
   -- what the six calls leave
   pub record_is : (o0 o1 o2 o3 o4 o5 o6 : List ℕ) (i2 i3 i4 i5 : ℕ) → o1 ≡ set_words o0 0 header → o2 ≡ set_words o1 5 (span_pairs 0 names)

@@ -12,6 +12,8 @@ use Rattle.records.specs.SourceRecord.{NAMES, NODES, DEFINITIONS, EXPRESSIONS}
 use Rattle.source.specs.Trees.{Text}
 use Rattle.rule_trees.specs.declared.Term.{Term}
 use Rattle.rule_trees.specs.Tokens.{Token, def, name, number, equals, semicolon, opening, closing, caret, factor, term, same_text, tokens_of}
+use Rattle.rule_trees.specs.Tokens.{factor_of}
+use Rattle.field.specs.declared.InfixOp.{InfixOp}
 use Rattle.rule_trees.specs.Grammar.{Statement}
 use Rattle.rule_trees.specs.Reading.{at_start, statements_of, reading_of}
 use Rattle.rule_trees.specs.Record.{index_of, names_of, definitions_of, equations_of, node_count, within_limits}
@@ -113,3 +115,46 @@ module _ (b : List ℕ) (names : List Span) (qs : List Statement) (g : Given b n
     pub last_turn : r ≡ None → Holds (names_of qs) qs at_start d
     last_turn e =
         running-end (names_of qs) d qs (subst (λ (vs : List Token). Running (names_of qs) d vs qs) (none_left t.tokens (h t.tokens t.left) e) t.running)
+
+-- ---- a token with what comes with it
+
+unfoldable pub made : Kind → ℕ → ℕ → Piece
+made Kind.Def i v = Piece.Def
+made Kind.Name i v = Piece.Name i
+made Kind.Number i v = Piece.Number v
+made Kind.Equals i v = Piece.Equals
+made Kind.Semicolon i v = Piece.Semicolon
+made Kind.Opening i v = Piece.Opening
+made Kind.Closing i v = Piece.Closing
+made Kind.Caret i v = Piece.Operator InfixOp.Exponentiate
+made (Kind.Factor o) i v = Piece.Operator (factor_of o)
+made (Kind.Term Term.Plus) i v = Piece.Operator InfixOp.Add
+made (Kind.Term Term.Minus) i v = Piece.Minus
+
+made-is : (ns : List Text) (t : Token) (i v : ℕ) → ((n : Text) → t ≡ name n → i ≡ index_of n ns) → ((k : ℕ) → t ≡ number k → v ≡ k)
+    → made (kind_of t) i v ≡ piece_of ns t
+unfolding made piece_of
+made-is ns def i v h k = refl
+made-is ns (name n) i v h k = ap Piece.Name (h n refl)
+made-is ns (number n) i v h k = ap Piece.Number (k n refl)
+made-is ns equals i v h k = refl
+made-is ns semicolon i v h k = refl
+made-is ns opening i v h k = refl
+made-is ns closing i v h k = refl
+made-is ns caret i v h k = refl
+made-is ns (factor o) i v h k = refl
+made-is ns (term Term.Plus) i v h k = refl
+made-is ns (term Term.Minus) i v h k = refl
+
+pub carried-piece : (b : List ℕ) (names : List Span) (l : Lexeme) (t : Token) → Carries b t l → (i : ℕ)
+    → (l.kind ≡ Kind.Name → i ≡ index_of (spanned b l.span) (table_of b names)) → (k : Kind) → l.kind ≡ k → made k i l.value ≡ piece_of (table_of b names) t
+carried-piece b names l t c i h k e =
+    ap (λ (x : Kind). made x i l.value) (sym e ∙ c.kind-is)
+    ∙ made-is (table_of b names) t i l.value
+    (λ n p. h (c.kind-is ∙ ap kind_of p) ∙ ap (λ (w : Text). index_of w (table_of b names)) (c.named n p)) c.valued
+
+pub given-names : (b : List ℕ) (names : List Span) (qs : List Statement) → Given b names qs → length names ≤ NAMES
+unfolding within_limits
+given-names b names qs g =
+    let a = both_true (leb (length (names_of qs)) NAMES) _ g.within in
+    omega (arith, table-length b names, ap length g.table, leb-true (length (names_of qs)) NAMES a.0)

@@ -19,8 +19,11 @@ text_size [] = 0
 text_size (s ∷ ss) = span_size s + text_size ss
 
 -- names of 64 bytes at most
+abbrev pub ShortSpan : Span → Type 0
+ShortSpan s = (s.from ≤ s.to) × (s.to - s.from ≤ NAME-BYTES)
+
 abbrev pub Short : List Span → Type 0
-Short names = All (λ s. (s.from ≤ s.to) × (s.to - s.from ≤ NAME-BYTES)) names
+Short names = All ShortSpan names
 
 -- the words of a record: header, names, roots, nodes
 unfoldable pub word_count : List Span → Desk → ℕ

@@ -1,5 +1,6 @@
 // The nodes and roots of a text that belongs to the grammar and keeps the limits, on a desk.
-ghost use Rattle.std.specs.Prelude.{◌≡◌, List};
+ghost use Rattle.std.specs.Prelude.{◌≡◌, List, ◌≤◌, length};
+ghost use Rattle.records.specs.SourceRecord.{NAMES};
 ghost use Rattle.rule_trees.specs.Tokens.{Token, factor_of};
 ghost use Rattle.rule_trees.specs.Grammar.{Statement};
 ghost use Rattle.rule_trees.specs.Reading.{at_start};
@@ -32,7 +33,7 @@ fn operator_of(factor: Factor) -> InfixOp
 
 // A token with what comes with it: a name by its index.
 fn piece_of(text: &[u8], names: &[Span], token: Lexeme) -> Piece
-    requires { Within text.now names.now × (token.kind ≡ Kind.Name → Inside text.now token.span) }
+    requires { (length names.now ≤ NAMES) × Within text.now names.now × (token.kind ≡ Kind.Name → Inside text.now token.span) }
     ensures { (t : Token) → Carries text.now t token → result ≡ piece_of (table_of text.now names.now) t }
 {
     match token.kind {
@@ -45,8 +46,10 @@ fn piece_of(text: &[u8], names: &[Span], token: Lexeme) -> Piece
         Kind::Closing => Piece::Closing,
         Kind::Caret => Piece::Operator(InfixOp::Exponentiate),
         Kind::Factor(factor) => Piece::Operator(operator_of(factor)),
-        Kind::Term(Term::Plus) => Piece::Operator(InfixOp::Add),
-        Kind::Term(Term::Minus) => Piece::Minus,
+        Kind::Term(term) => match term {
+            Term::Plus => Piece::Operator(InfixOp::Add),
+            Term::Minus => Piece::Minus,
+        },
     }
 }
 

@@ -55,9 +55,9 @@ fn put_record(out: &mut [u8], text: &[u8], names: &[Span], desk: &Desk)
     ];
     put_words(out, 0, header);
     put_pairs(out, names);
-    put_roots(out, definitions_at, &desk.definitions);
-    put_equations(out, equations_at, &desk.equations);
-    put_nodes(out, nodes_at, &desk.nodes);
+    put_roots(out, definitions_at, desk.definitions.as_slice());
+    put_equations(out, equations_at, desk.equations.as_slice());
+    put_nodes(out, nodes_at, desk.nodes.as_slice());
     put_text(out, WORD_BYTES * word_count(names, desk), text, names);
 }
 

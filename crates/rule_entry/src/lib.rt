@@ -41,7 +41,7 @@ fn record(text: &[u8], out: &mut [u8]) -> Result<usize, Refusal>
         return Err(Refusal::Count);
     }
     let names = names(text)?;
-    deliver(text, &names, out)
+    deliver(text, names.as_slice(), out)
 }
 
 // The source record of a text at the front of the output, and how many bytes it has; or a refusal: 40, 41, 2 or 33.
@@ -49,7 +49,9 @@ pub fn rules(text: &[u8], out: &mut [u8]) -> Result<usize, Refusal>
     ensures value { result ≡ answer_of (rules_of text.now (length out.old)) }
     ensures out_after { out.new ≡ output_of out.old (rules_of text.now (length out.old)) }
 {
-    let depth = scan(text).map_err(|_| Refusal::OutsideGrammar)?;
+    let Ok(depth) = scan(text) else {
+        return Err(Refusal::OutsideGrammar);
+    };
     if DEEPEST < depth {
         return Err(Refusal::Nesting);
     }
