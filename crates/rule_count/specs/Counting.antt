@@ -1,0 +1,23 @@
+-- The counts of a text's tokens (rule_trees/specs/Rules.antt), as the code adds them up.
+use Rattle.std.specs.Prelude.{List, ℕ, ◌+◌}
+use Rattle.rule_trees.specs.Tokens.{Token}
+use Rattle.rule_trees.specs.Rules.{token_nodes, token_definitions, token_statements, total_of}
+use Rattle.rule_scan.specs.declared.kinds.Kind.{Kind}
+use Rattle.rule_scan.specs.Kinds.{sample}
+use Rattle.rule_count.specs.declared.counts.Counts.{Counts}
+
+abbrev pub counts : ℕ → ℕ → ℕ → Counts
+counts n d s = record { nodes = n; definitions = d; statements = s }
+
+unfoldable pub counts_of : List Token → Counts
+counts_of ts = counts (total_of token_nodes ts) (total_of token_definitions ts) (total_of token_statements ts)
+
+-- with one token more, by its kind
+abbrev pub with_token : Counts → Kind → Counts
+with_token c k =
+    let t = sample k in
+    counts (c.nodes + token_nodes t) (c.definitions + token_definitions t) (c.statements + token_statements t)
+
+-- a bound that only keeps a sum from wrapping: a text has no more bytes
+abbrev pub MOST : ℕ
+MOST = 18446744073709551615
