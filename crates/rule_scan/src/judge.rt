@@ -1,6 +1,6 @@
 // The judge: from place to place, by the kind of a token.
 ghost use Rattle.std.specs.Prelude.{◌≡◌, ◌<◌};
-ghost use Rattle.rule_trees.specs.Judge.{open_in, operand_judge, behind_judge, judged};
+ghost use Rattle.rule_trees.specs.Judge.{open_in, operand_judge, equals_judge, semicolon_judge, closing_judge, behind_judge, start_judge, def_judge, name_judge, judged, may_end};
 ghost use Rattle.rule_trees.specs.Prefix.{takes_name, takes_number};
 ghost use Rattle.rule_scan.specs.Kinds.{sample, MOST-OPEN};
 
@@ -37,15 +37,38 @@ fn operand(signed: bool, seen: bool, depth: usize, kind: Kind) -> Option<Place>
     }
 }
 
-// An operand is complete. `=` and `;` stand outside of all parentheses, `=` once and before `;`; `)` closes one.
+// `=` and `;` stand outside of all parentheses, `=` once and before `;`.
+fn equals(seen: bool, depth: usize) -> Option<Place>
+    ensures { result ≡ equals_judge seen depth }
+{
+    (!seen && depth == 0).then_some(Place::WantsOperand(true, 0))
+}
+
+fn semicolon(seen: bool, depth: usize) -> Option<Place>
+    ensures { result ≡ semicolon_judge seen depth }
+{
+    (seen && depth == 0).then_some(Place::Starting)
+}
+
+// `)` closes a parenthesis.
+fn closing(seen: bool, depth: usize) -> Option<Place>
+    ensures { result ≡ closing_judge seen depth }
+{
+    if depth == 0 {
+        return None;
+    }
+    Some(Place::HasOperand(seen, depth - 1))
+}
+
+// An operand is complete.
 #[tactic(auto, unfolding(rule_trees::specs::Judge::behind_judge))]
 fn behind_operand(seen: bool, depth: usize, kind: Kind) -> Option<Place>
     ensures { result ≡ behind_judge seen depth (sample kind) }
 {
     match kind {
-        Kind::Equals if !seen && depth == 0 => Some(Place::WantsOperand(true, 0)),
-        Kind::Semicolon if seen && depth == 0 => Some(Place::Starting),
-        Kind::Closing if 0 < depth => Some(Place::HasOperand(seen, depth - 1)),
+        Kind::Equals => equals(seen, depth),
+        Kind::Semicolon => semicolon(seen, depth),
+        Kind::Closing => closing(seen, depth),
         Kind::Caret => Some(Place::WantsAtom(seen, depth)),
         Kind::Factor(_) => Some(Place::WantsOperand(seen, depth)),
         Kind::Term(_) => Some(Place::WantsOperand(seen, depth)),
@@ -53,21 +76,50 @@ fn behind_operand(seen: bool, depth: usize, kind: Kind) -> Option<Place>
     }
 }
 
+// Outside of expressions: where a statement begins, behind `def`, and behind the name that it defines.
+#[tactic(auto, unfolding(rule_trees::specs::Judge::start_judge))]
+fn starting(kind: Kind) -> Option<Place>
+    ensures { result ≡ start_judge (sample kind) }
+{
+    match kind {
+        Kind::Def => Some(Place::BehindDef),
+        _ => operand(true, false, 0, kind),
+    }
+}
+
+#[tactic(auto, unfolding(rule_trees::specs::Judge::def_judge))]
+fn behind_def(kind: Kind) -> Option<Place>
+    ensures { result ≡ def_judge (sample kind) }
+{
+    match kind {
+        Kind::Name => Some(Place::BehindName),
+        _ => None,
+    }
+}
+
+#[tactic(auto, unfolding(rule_trees::specs::Judge::name_judge))]
+fn behind_name(kind: Kind) -> Option<Place>
+    ensures { result ≡ name_judge (sample kind) }
+{
+    match kind {
+        Kind::Equals => Some(Place::WantsOperand(true, 0)),
+        _ => None,
+    }
+}
+
 // The place behind a token, if it may stand there.
-#[tactic(auto, unfolding(rule_trees::specs::Judge::judged))]
+#[tactic(auto, unfolding(rule_trees::specs::Judge::judged, rule_trees::specs::Judge::open_in))]
 pub fn judged(place: Place, kind: Kind) -> Option<Place>
     requires { open_in place < MOST-OPEN }
     ensures { result ≡ judged place (sample kind) }
 {
     match place {
-        Place::Starting if kind == Kind::Def => Some(Place::BehindDef),
-        Place::Starting => operand(true, false, 0, kind),
-        Place::BehindDef if kind == Kind::Name => Some(Place::BehindName),
-        Place::BehindName if kind == Kind::Equals => Some(Place::WantsOperand(true, 0)),
+        Place::Starting => starting(kind),
+        Place::BehindDef => behind_def(kind),
+        Place::BehindName => behind_name(kind),
         Place::WantsOperand(seen, depth) => operand(true, seen, depth, kind),
         Place::WantsAtom(seen, depth) => operand(false, seen, depth, kind),
         Place::HasOperand(seen, depth) => behind_operand(seen, depth, kind),
-        _ => None,
     }
 }
 
@@ -89,5 +141,16 @@ pub fn takes_number(place: Place) -> bool
     match place {
         Place::BehindDef => false,
         _ => takes_name(place),
+    }
+}
+
+// Whether a text may end here.
+#[tactic(auto, unfolding(rule_trees::specs::Judge::may_end))]
+pub fn may_end(place: Place) -> bool
+    ensures { result ≡ may_end place }
+{
+    match place {
+        Place::Starting => true,
+        _ => false,
     }
 }

@@ -1,6 +1,6 @@
 // What the code has of tokens and of bytes.
 ghost use Rattle.std.specs.Prelude.{◌≡◌};
-ghost use Rattle.rule_trees.specs.Tokens.{class_of};
+ghost use Rattle.rule_trees.specs.Tokens.{class_of, in_word, in_number};
 ghost use Rattle.rule_scan.specs.Kinds.{class_in, symbol_in};
 
 use rule_trees::{Factor, Term};
@@ -62,5 +62,31 @@ pub fn class_of(c: u8) -> Class
     if c == b' ' || c == b'\n' {
         return Class::Blank;
     }
-    symbol_of(c).map_or(Class::Other, Class::Symbol)
+    match symbol_of(c) {
+        Some(kind) => Class::Symbol(kind),
+        None => Class::Other,
+    }
+}
+
+// A word goes on over letters and digits.
+#[tactic(auto, unfolding(rule_trees::specs::Tokens::in_word))]
+pub fn in_word(c: u8) -> bool
+    ensures { result ≡ in_word (class_of c) }
+{
+    match class_of(c) {
+        Class::Letter => true,
+        Class::Digit => true,
+        _ => false,
+    }
+}
+
+// A number goes on over digits.
+#[tactic(auto, unfolding(rule_trees::specs::Tokens::in_number))]
+pub fn in_number(c: u8) -> bool
+    ensures { result ≡ in_number (class_of c) }
+{
+    match class_of(c) {
+        Class::Digit => true,
+        _ => false,
+    }
 }

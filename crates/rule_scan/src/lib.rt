@@ -27,7 +27,7 @@ fn ending(text: &[u8], stage: Stage, deepest: usize) -> Result<usize, Outside>
 {
     let at = text.len();
     match stage.ended(text, at) {
-        Some(Place::Starting) => Ok(deepest),
+        Some(place) if judge::may_end(place) => Ok(deepest),
         _ => Err(Outside { at }),
     }
 }

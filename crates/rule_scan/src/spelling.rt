@@ -10,22 +10,31 @@ use records::source_record::NAME_BYTES;
 fn is_reserved(word: &[u8]) -> bool
     ensures { result ≡ is_reserved word.now }
 {
-    word == b"def".as_slice()
-        || word == b"fresh".as_slice()
-        || word == b"iter".as_slice()
-        || word == b"fold".as_slice()
+    (word == b"def".as_slice())
+        | (word == b"fresh".as_slice())
+        | (word == b"iter".as_slice())
+        | (word == b"fold".as_slice())
 }
 
 fn starts_lower(word: &[u8]) -> bool
     ensures { result ≡ starts_lower word.now }
 {
-    word.first().is_some_and(u8::is_ascii_lowercase)
+    if word.is_empty() {
+        return false;
+    }
+    word[0].is_ascii_lowercase()
 }
 
 fn is_name(word: &[u8]) -> bool
     ensures { result ≡ is_name word.now }
 {
-    starts_lower(word) && word.len() <= NAME_BYTES && !is_reserved(word)
+    if !starts_lower(word) {
+        return false;
+    }
+    if NAME_BYTES < word.len() {
+        return false;
+    }
+    !is_reserved(word)
 }
 
 // The kind of a word, if it is a token.

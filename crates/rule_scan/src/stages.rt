@@ -6,7 +6,7 @@ ghost use Rattle.rule_trees.specs.Prefix.{run_ends, begun, byte_step};
 ghost use Rattle.rule_scan.specs.Stages.{stage_of, Standing, DigitByte, word_begun, number_begun, word_longer, number_longer};
 
 use super::judge::{judged, takes_name, takes_number};
-use super::kinds::{Class, Kind, class_of};
+use super::kinds::{Class, Kind, class_of, in_number, in_word};
 use super::spelling::word_kind;
 use records::source_record::NAME_BYTES;
 use rule_trees::Place;
@@ -31,6 +31,7 @@ pub struct Stage {
 }
 
 // A word may begin here, with a lower-case letter.
+#[tactic(auto, unfolding(crate::specs::Stages::word_begun, rule_trees::specs::Tokens::is_lower, rule_trees::specs::Tokens::between))]
 fn begin_word(c: u8, at: usize, place: Place) -> Option<Stage>
     ensures { result ≡ word_begun c at place }
 {
@@ -41,6 +42,7 @@ fn begin_word(c: u8, at: usize, place: Place) -> Option<Stage>
 }
 
 // A number may begin here, with any digit.
+#[tactic(auto, unfolding(crate::specs::Stages::number_begun))]
 fn begin_number(c: u8, place: Place) -> Option<Stage>
     requires { DigitByte c }
     ensures { result ≡ number_begun c place }
@@ -77,6 +79,7 @@ fn begin(text: &[u8], at: usize, place: Place) -> Option<Stage>
 }
 
 // A number with a digit more.
+#[tactic(auto, unfolding(crate::specs::Stages::number_longer, rule_trees::specs::Tokens::onto))]
 fn longer_number(n: u64, c: u8, place: Place) -> Option<Stage>
     requires { DigitByte c }
     ensures { result ≡ number_longer n c place }
@@ -93,6 +96,7 @@ fn longer_number(n: u64, c: u8, place: Place) -> Option<Stage>
 
 impl Stage {
     // A word with a letter or a digit more.
+    #[tactic(auto, unfolding(crate::specs::Stages::word_longer))]
     fn longer_word(self, from: usize, at: usize) -> Option<Stage>
         requires { from ≤ at }
         ensures { result ≡ word_longer from at self }
@@ -132,12 +136,9 @@ impl Stage {
         ensures standing { IfSome result (Standing text.now (at + 1)) }
     {
         let c = text[at];
-        let class = class_of(c);
         match self.run {
-            Run::Word(from) if class == Class::Letter || class == Class::Digit => {
-                self.longer_word(from, at)
-            }
-            Run::Digits(n) if class == Class::Digit => longer_number(n, c, self.place),
+            Run::Word(from) if in_word(c) => self.longer_word(from, at),
+            Run::Digits(n) if in_number(c) => longer_number(n, c, self.place),
             _ => self.over(text, at),
         }
     }
