@@ -2,10 +2,10 @@
 #![tactic(auto)]
 
 ghost use Rattle.std.specs.Prelude.{◌≡◌, List, ◌+◌, ◌≤◌, ◌<◌, length, drop, Some};
-ghost use Rattle.rule_trees.specs.Tokens.{Token, class_of, in_word, tokens_of};
+ghost use Rattle.rule_trees.specs.Tokens.{Token, tokens_of};
 ghost use Rattle.rule_lex.specs.Lexed.{Lexes, Skipped, WordTo, DigitAt, NumberTo};
 
-use rule_scan::kinds::{Class, Kind, class_of};
+use rule_scan::kinds::{Class, Kind, class_of, in_number, in_word};
 use rule_scan::spelling::word_kind;
 
 // A part of a text.
@@ -29,17 +29,12 @@ fn skip(text: &[u8], at: usize) -> usize
     ensures { Skipped text.now at result }
 {
     for i in at..text.len() {
-        if class_of(text[i]) != Class::Blank {
-            return i;
+        match class_of(text[i]) {
+            Class::Blank => {}
+            _ => return i,
         }
     }
     text.len()
-}
-
-fn in_word(c: u8) -> bool
-    ensures { result ≡ in_word (class_of c) }
-{
-    matches!(class_of(c), Class::Letter | Class::Digit)
 }
 
 // The end of the word that begins at `from`.
@@ -64,7 +59,7 @@ fn number_at(text: &[u8], from: usize) -> Lexeme
     let mut value = u64::from(text[from] - b'0');
     for to in from + 1..text.len() {
         let c = text[to];
-        if class_of(c) != Class::Digit {
+        if !in_number(c) {
             let span = Span { from, to };
             return Lexeme { kind, span, value };
         }
@@ -81,8 +76,10 @@ pub fn next_token(text: &[u8], at: usize) -> Option<Lexeme>
     ensures { (ts : List Token) → tokens_of (drop at text.now) ≡ Some ts → Lexes text.now at ts result }
 {
     let from = skip(text, at);
-    let c = text.get(from)?;
-    match class_of(*c) {
+    if text.len() <= from {
+        return None;
+    }
+    match class_of(text[from]) {
         Class::Letter => {
             let to = word_end(text, from);
             let kind = word_kind(&text[from..to])?;
