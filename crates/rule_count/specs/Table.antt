@@ -8,7 +8,6 @@ use Rattle.source.specs.Encoding.{All}
 use Rattle.rule_trees.specs.Tokens.{Token}
 use Rattle.rule_trees.specs.Record.{once}
 use Rattle.rule_trees.specs.Rules.{token_names}
-use Rattle.rule_trees.specs.Writing.{noted}
 use Rattle.rule_lex.specs.declared.Span.{Span}
 use Rattle.rule_lex.specs.Lexed.{spanned}
 
@@ -21,11 +20,6 @@ Inside b s = (s.from ≤ s.to) × (s.to ≤ length b)
 
 abbrev pub Within : List ℕ → List Span → Type 0
 Within b ss = All (Inside b) ss
-
--- the table with a name more: refused where it would be one too many
-pub record Noted (b : List ℕ) (ss : List Span) (s : Span) (r : Result ⊤ Refusal) (ss' : List Span) : Type 0 where
-  pub few : length (noted (spanned b s) (table_of b ss)) ≤ NAMES → (r ≡ Ok tt) × (table_of b ss' ≡ noted (spanned b s) (table_of b ss)) × Within b ss'
-  pub many : NAMES < length (noted (spanned b s) (table_of b ss)) → r ≡ Err Refusal.Count
 
 -- what the names of the tokens ts leave
 pub record Listed (b : List ℕ) (ts : List Token) (r : Result (ArrayVec Span) Refusal) : Type 0 where
