@@ -204,3 +204,8 @@ pub definitions-broken : (c : Counts) → DEFINITIONS < c.definitions → false 
 unfolding keeps_limits
 definitions-broken c h =
     sym (ap (λ x. x && (leb (c.statements - c.definitions) EXPRESSIONS && leb (c.nodes - c.definitions) NODES)) (lt-leb c.definitions DEFINITIONS h))
+
+-- an answer of the scan that is no depth
+pub not-ok : (r : Result ℕ Outside) → ((d : ℕ) → r ≡ Ok d → ⊥) → (o : Outside) × (r ≡ Err o)
+not-ok (Ok d) h = absurd (h d refl)
+not-ok (Err o) h = (o, refl)

@@ -6,6 +6,7 @@ use native.Mathlib.Omega.{arith}
 use native.Mathlib.Numerals.{add-one}
 use lib.ListN.{length, get_or, set, take, drop, length-append}
 use lib.Seq.{drop-cons, drop-length, sets, sets-eq, slice, length-slice, paste}
+use Rattle.std.proofs.lemmas.List.{drop-take}
 use Rattle.std.proofs.lemmas.List.Edits.{paste_all}
 use Rattle.words.specs.Words.{set_word, set_words}
 use Rattle.words.proofs.Laws.{set_words-append}
@@ -111,6 +112,10 @@ text-none b ss k e = ap (λ (xs : List Span). joined (table_of b xs)) (left-none
 
 pub text-turn : (out o : List ℕ) (i j : ℕ) (t rest all : List ℕ) → all ≡ t ++ rest → o ≡ sets out i t → j ≡ i + length t → sets o j rest ≡ sets out i all
 text-turn out o i j t rest all a e p = ap₂ (λ (x : List ℕ) (y : ℕ). sets x y rest) e p ∙ sym (sets-append t rest out i) ∙ ap (sets out i) (sym a)
+
+pub spanned-part : (b : List ℕ) (s : Span) → s.from ≤ s.to → take (s.to - s.from) (drop s.from b) ≡ spanned b s
+spanned-part b s h =
+    sym (drop-take s.from (s.to - s.from) b) ∙ ap (λ i. drop s.from (take i b)) (let z : s.from + (s.to - s.from) ≡ s.to = omega arith in z)
 
 pub span-length : (b : List ℕ) (s : Span) → (s.from ≤ s.to) × (s.to ≤ length b) → length (spanned b s) ≡ span_size s
 span-length b s h = length-slice s.from s.to b h.1
