@@ -61,7 +61,10 @@ fn stage_behind(text: &[u8]) -> Option<Stage>
         run: Run::Nothing,
     };
     for at in 0..text.len() {
-        stage = stage.next(text, at)?;
+        let Some(next) = stage.next(text, at) else {
+            return None;
+        };
+        stage = next;
     }
     Some(stage)
 }
@@ -94,8 +97,11 @@ pub fn print_stop(rt: &impl Eprint, answer: Result<usize, Refusal>, text: &[u8])
     if answer != Err(Refusal::OutsideGrammar) {
         return;
     }
-    if let Err(Outside { at }) = scan(text) {
-        print_front(rt, &text[..at]);
+    let Err(Outside { at }) = scan(text) else {
+        return;
+    };
+    if let Some(front) = text.get(..at) {
+        print_front(rt, front);
     }
 }
 
