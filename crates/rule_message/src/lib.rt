@@ -3,7 +3,7 @@
 
 mod words;
 
-ghost use Rattle.std.specs.Prelude.{◌≡◌, ◌≤◌, length};
+ghost use Rattle.std.specs.Prelude.{◌≡◌, length, IsErr};
 ghost use Rattle.std.specs.Option.{option_map, IfSome};
 ghost use Rattle.rule_trees.specs.Prefix.{START, walk};
 ghost use Rattle.rule_scan.specs.Stages.{stage_of, Standing};
@@ -115,7 +115,9 @@ pub fn text_buffer() -> [u8; TEXT_BYTES]
 }
 
 // A text that a program does not read.
-pub fn print_long(rt: &impl Eprint) -> Result<usize, Failed> {
+pub fn print_long(rt: &impl Eprint) -> Result<usize, Failed>
+    ensures { IsErr result }
+{
     let _ = rt.eprint("more than 1,048,575 bytes of text\n");
     Err(Failed)
 }
