@@ -20,7 +20,6 @@ use Rattle.rule_trees.specs.Tokens.{equals, semicolon, opening, closing, caret, 
 use Rattle.rule_scan.specs.declared.kinds.Kind.{Kind}
 use Rattle.rule_scan.specs.declared.kinds.Class as Code
 use Rattle.rule_scan.specs.Kinds.{kind_of, class_in}
-use Rattle.rule_lex.specs.declared.Span.{Span}
 use Rattle.rule_lex.specs.declared.Lexeme.{Lexeme}
 use Rattle.rule_lex.specs.Lexed.{spanned, Found, Lexes, Skipped, WordTo, NumberTo}
 use Rattle.rule_lex.proofs.Lexing.{rest, letter-begins, digit-begins}
