@@ -1,0 +1,2 @@
+pub mod Modules
+pub mod Statements

@@ -1,0 +1,2 @@
+// A plain module as text of rules.
+#![tactic(auto)]
