@@ -8,6 +8,7 @@ use lib.Dec.{leb, ltb}
 use lib.ListN.{length, get_or}
 use borrow.Author.Tests.{leb-true, ltb-true, ltb-false}
 use Rattle.std.specs.Prelude.{Option, Some, None, pos, negsuc}
+use Rattle.std.specs.List.{list_all}
 use Rattle.std.specs.Option.{option_map}
 use Rattle.field.specs.declared.InfixOp.{InfixOp}
 use Rattle.field.specs.declared.InfixOp.TheVariants.{Divide, DivideZ, Multiply, Add, Subtract, Equal, Exponentiate, IntDivide, Modulo}
@@ -35,7 +36,6 @@ record Both {A B C : Type 0} (f : A → B → C) (a : Option A) (b : Option B) (
   pub made : f first second ≡ c
 
 both-some : {A B C : Type 0} (f : A → B → C) (a : Option A) (b : Option B) (c : C) → both f a b ≡ Some c → Both f a b c
-unfolding both
 both-some f None b c e = none-some e
 both-some f (Some a) None c e = none-some e
 both-some f (Some a) (Some b) c e = record { first = a; second = b; first-is = refl; second-is = refl; made = (let z : f a b ≡ c = cc in z) }
@@ -62,17 +62,16 @@ index-back (n ∷ ns) d (suc v) l =
     ap (λ x. cond x 0 (suc (index_of (get_or ns v []) ns))) (differs (get_or ns v []) n (all-at (λ m. n ≡ m → ⊥) ns d.0 v (omega arith)))
     ∙ ap suc (index-back ns d.1 v (omega arith))
 
-past-end : (ns : List Text) (v : ℕ) → length ns ≤ v → get_or ns v [] ≡ []
+pub past-end : (ns : List Text) (v : ℕ) → length ns ≤ v → get_or ns v [] ≡ []
 past-end [] v l = refl
 past-end (n ∷ ns) zero l = absurd (omega arith)
 past-end (n ∷ ns) (suc v) l = past-end ns v (omega arith)
 
 in-words : (n : Text) → all_in_word n ≡ true → All (λ c. in_word (class_of c) ≡ true) n
-unfolding all_in_word
 in-words [] e = tt
-in-words (c ∷ n) e = let h = both_true (in_word (class_of c)) (all_in_word n) e in (h.0, in-words n h.1)
+in-words (c ∷ n) e = let h = both_true (in_word (class_of c)) (list_all (λ d. in_word (class_of d)) n) e in (h.0, in-words n h.1)
 
-empty-no-name : is_name [] ≡ false
+pub empty-no-name : is_name [] ≡ false
 unfolding is_name starts_lower
 empty-no-name = refl
 

@@ -1,2 +1,3 @@
 pub mod Modules
 pub mod Statements
+pub mod Texts

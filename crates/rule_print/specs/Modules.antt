@@ -1,5 +1,6 @@
 -- A plain module as statements, its definitions first: what is printed of them (rule_trees/specs/Print.antt) is read back as the module.
 use Rattle.std.specs.Prelude.{List, [], ◌∷◌, ◌++◌, Bool, true, false, ◌&&◌, cond, ℕ, ℤ, pos, negsuc, leb, get_or, Option, Some, None}
+use Rattle.std.specs.List.{list_all}
 use Rattle.std.specs.Option.{option_map}
 use Rattle.field.specs.declared.InfixOp.{InfixOp}
 use Rattle.field.specs.declared.InfixOp.TheVariants.{Divide, DivideZ, Multiply, Add, Subtract, Equal, Exponentiate, IntDivide, Modulo}
@@ -8,16 +9,15 @@ use Rattle.rule_trees.specs.Tokens.{is_name, class_of, in_word, LARGEST}
 use Rattle.rule_trees.specs.Grammar.{Tree, variable, constant, negate, binary, Statement, definition, equation}
 
 -- of two, if both are there
-unfoldable pub both : {A B C : Type 0} → (A → B → C) → Option A → Option B → Option C
+abbrev pub both : {A B C : Type 0} → (A → B → C) → Option A → Option B → Option C
 both f None b = None
 both f (Some a) None = None
 both f (Some a) (Some b) = Some (f a b)
 
 -- ---- expressions: names that a text can have, constants from 0, no `=`, and no other form
 
-unfoldable pub all_in_word : Text → Bool
-all_in_word [] = true
-all_in_word (c ∷ cs) = in_word (class_of c) && all_in_word cs
+abbrev pub all_in_word : Text → Bool
+all_in_word n = list_all (λ c. in_word (class_of c)) n
 
 unfoldable pub name_in : List Text → ℕ → Option Text
 name_in ns v = let n = get_or ns v [] in cond (is_name n && all_in_word n) (Some n) None

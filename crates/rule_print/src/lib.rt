@@ -1,2 +1,6 @@
 // A plain module as text of rules.
 #![tactic(auto)]
+
+pub mod expressions;
+pub mod levels;
+pub mod pieces;
