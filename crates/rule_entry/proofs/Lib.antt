@@ -1,0 +1,4 @@
+pub mod Parts
+pub mod Recording
+pub mod Starting
+pub mod Deciding
