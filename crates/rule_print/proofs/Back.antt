@@ -15,9 +15,9 @@ use Rattle.field.specs.declared.InfixOp.TheVariants.{Divide, DivideZ, Multiply, 
 use Rattle.source.specs.Trees.{Text, Pat, Expr, Module}
 use Rattle.source.specs.Encoding.{All, Different}
 use Rattle.rule_trees.specs.Tokens.{same_text, starts_lower, is_name, class_of, in_word, LARGEST}
-use Rattle.rule_trees.specs.Grammar.{Tree, variable, constant, negate, binary, Statement, definition, equation, Reading}
+use Rattle.rule_trees.specs.Grammar.{Tree, variable, constant, negate, binary, Statement, definition, equation}
 use Rattle.rule_trees.specs.Record.{occurring, names_of, index_of, expr_of, definitions_of, equation_of, equations_of, module_of}
-use Rattle.rule_trees.specs.Print.{PrintableName, PrintableTree, Printable, printed}
+use Rattle.rule_trees.specs.Print.{PrintableName, PrintableTree, Printable}
 use Rattle.rule_trees.proofs.Facts.{none-some}
 use Rattle.rule_trees.proofs.Prefixes.{both_true, same-is}
 use Rattle.rule_trees.proofs.Names.{same_refl, different-once}

@@ -1,10 +1,9 @@
 -- The text of a node by its form. Assumes nothing.
 use mathlib.Core.Path.{◌≡◌, refl, sym, ap, ◌∙◌, subst}
-use mathlib.Core.List.{List, [], ◌∷◌, ◌++◌, append-nil}
-use mathlib.Core.Bool.{Bool, true, false, ◌&&◌, cond}
+use mathlib.Core.List.{List, [], ◌∷◌, append-nil}
+use mathlib.Core.Bool.{true, false, ◌&&◌, cond}
 use Prim.Native.Nat.{ℕ, zero, suc, ◌+◌, ◌≤◌, ◌<◌}
 use native.Mathlib.Omega.{arith}
-use lib.Dec.{eqb}
 use lib.Signed.{lt_z}
 use lib.IntN.{nat_abs}
 use lib.ListN.{length, get_or}

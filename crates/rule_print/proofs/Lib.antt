@@ -1,3 +1,4 @@
 pub mod Back
 pub mod Texts
 pub mod Forms
+pub mod Sayings

@@ -1,12 +1,12 @@
 -- What is printed piece by piece is the text of the whole. Assumes nothing.
-use mathlib.Core.Path.{◌≡◌, refl, sym, ap, ap₂, ◌∙◌, subst}
+use mathlib.Core.Path.{◌≡◌, refl, sym, ap, ◌∙◌, subst}
 use mathlib.Core.List.{List, [], ◌∷◌, ◌++◌, append_assoc, append-nil}
 use mathlib.Core.Bool.{Bool, true, false, cond}
 use Prim.Native.Nat.{ℕ, zero, suc, ◌+◌, ◌*◌, ◌/◌, ◌%◌, ◌^◌, ◌≤◌, ◌<◌}
 use native.Mathlib.Omega.{arith}
 use lib.Dec.{leb, ltb}
 use lib.ListN.{length, length-append}
-use borrow.Author.Tests.{leb-true, leb-false, le-leb, lt-leb, ltb-true, ltb-false, lt-ltb, le-ltb}
+use borrow.Author.Tests.{le-leb, lt-leb, ltb-true, ltb-false, lt-ltb}
 use Rattle.std.specs.Prelude.{Option, Some, None, ⊤, pos, negsuc}
 use Rattle.std.specs.Option.{option_map}
 use Rattle.std.specs.Fmt.{decimal}
@@ -14,7 +14,7 @@ use Rattle.std.proofs.lemmas.Fmt.{decimal_digit, decimal_step}
 use Rattle.std.proofs.Math.Nat.{pow-succ'}
 use Rattle.field.specs.declared.InfixOp.{InfixOp}
 use Rattle.field.specs.declared.InfixOp.TheVariants.{Divide, DivideZ, Multiply, Add, Subtract, Equal, Exponentiate, IntDivide, Modulo}
-use Rattle.source.specs.Trees.{Text, Expr}
+use Rattle.source.specs.Trees.{Text}
 use Rattle.source.specs.Record as Record
 use Rattle.source.specs.Record.{expression_of}
 use Rattle.source.specs.declared.Form.{Form}
@@ -24,7 +24,7 @@ use Rattle.rule_trees.specs.Grammar.{Tree, variable, constant, negate, binary, L
 use Rattle.rule_trees.specs.Print.{operator_token, operator_level, left_level, right_level, level_of, placed, tree_tokens, digits_before, token_text, text_of}
 use Rattle.rule_trees.proofs.Facts.{none-some}
 use Rattle.rule_print.specs.Modules.{both, constant_in, operation_in, tree_in, name_in}
-use Rattle.rule_print.specs.Texts.{TEXT, Puts, placed_text, expression_text, bare_text, name_text, form_level}
+use Rattle.rule_print.specs.Texts.{TEXT, Puts, placed_text, expression_text, bare_text, form_level}
 
 -- ---- one piece behind another
 
@@ -60,7 +60,7 @@ unfolding text_of
 text-append [] vs = refl
 text-append (u ∷ us) vs = ap (λ (l : Text). token_text u ++ l) (text-append us vs) ∙ sym (append_assoc (token_text u) (text_of us) (text_of vs))
 
-one-text : (t : Token) → text_of (t ∷ []) ≡ token_text t
+pub one-text : (t : Token) → text_of (t ∷ []) ≡ token_text t
 unfolding text_of
 one-text t = append-nil (token_text t)
 

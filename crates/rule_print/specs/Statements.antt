@@ -1,10 +1,9 @@
 -- What is proved of a printed module.
-use Rattle.std.specs.Prelude.{◌≡◌, List, Some, ℕ}
+use Rattle.std.specs.Prelude.{◌≡◌, List, Some}
 use Rattle.source.specs.Trees.{Module}
-use Rattle.source.specs.Encoding.{All}
 use Rattle.rule_trees.specs.Grammar.{Statement, Reading}
 use Rattle.rule_trees.specs.Record.{names_of, module_of}
-use Rattle.rule_trees.specs.Print.{printed, Printable}
+use Rattle.rule_trees.specs.Print.{printed}
 use Rattle.rule_print.specs.Modules.{statements_in}
 
 -- a module that a text can have, with its names by first appearance in its statements, is read back from the text that is printed of it

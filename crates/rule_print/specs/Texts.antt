@@ -1,13 +1,12 @@
 -- The text of a node's expression, and what a printer with a bounded text does: all of it, or nothing that counts.
-use Rattle.std.specs.Prelude.{◌≡◌, List, [], ◌∷◌, ◌++◌, true, false, cond, ℕ, ◌+◌, ◌≤◌, ◌<◌, leb, length, Option, Some, None, ⊤, ℤ}
+use Rattle.std.specs.Prelude.{◌≡◌, List, ◌++◌, ℕ, ◌+◌, ◌≤◌, ◌<◌, length, Option, Some, None, ⊤, ℤ}
 use Rattle.std.specs.Option.{option_map}
 use Rattle.std.specs.Int.{w64}
 use Rattle.std.proofs.Common.{SFits}
-use Rattle.field.specs.declared.InfixOp.{InfixOp}
 use Rattle.source.specs.Trees.{Text, Expr}
 use Rattle.rule_trees.specs.Grammar as Grammar
-use Rattle.rule_trees.specs.Grammar.{Tree}
-use Rattle.rule_trees.specs.Print.{operator_level, level_of, placed, tree_tokens, token_text, text_of}
+use Rattle.rule_trees.specs.Grammar.{Tree, Statement}
+use Rattle.rule_trees.specs.Print.{operator_level, level_of, placed, tree_tokens, statement_tokens, token_text, text_of}
 use Rattle.rule_trees.specs.Tokens.{name}
 use Rattle.marks.specs.Indices.{rows}
 use Rattle.source.specs.Names.{name_of}
@@ -37,6 +36,9 @@ bare_text x = text_of (tree_tokens x)
 
 unfoldable pub name_text : Text → Text
 name_text n = token_text (name n)
+
+unfoldable pub statement_text : Statement → Text
+statement_text q = text_of (statement_tokens q)
 
 -- the level that a form makes; of one that no text has, any
 unfoldable pub form_level : Form → Grammar.Level

@@ -45,7 +45,7 @@ pub struct Printer<'a> {
 
 impl Printer<'_> {
     // A name with a blank behind it, if a text can have the name.
-    fn name(&self, text: &mut Text, v: usize) -> Option<()>
+    pub fn name(&self, text: &mut Text, v: usize) -> Option<()>
         ensures { Puts (option_map name_text (name_in (table_of self.now) v)) text.old.items result text.new.items }
     {
         if self.names.count <= v {
@@ -64,7 +64,7 @@ impl Printer<'_> {
 
     // A child of node k.
     #[cycle(expression)]
-    fn child(&self, text: &mut Text, k: usize, x: usize, wanted: Level) -> Option<()>
+    pub fn child(&self, text: &mut Text, k: usize, x: usize, wanted: Level) -> Option<()>
         requires { k < self.now.nodes.count }
         ensures { Puts (expression_text (table_of self.now) (level_in wanted) (tree self.now.nodes.bytes.now self.now.nodes.at k x).expression)
             text.old.items result text.new.items }

@@ -4,3 +4,4 @@
 pub mod expressions;
 pub mod levels;
 pub mod pieces;
+pub mod statements;

@@ -1,13 +1,11 @@
 -- `rule_print::expressions::constant` meets its contract. Assumes nothing.
-use mathlib.Core.Path.{◌≡◌, refl, sym, ap, subst, ◌∙◌}
-use native.Mathlib.Omega.{arith}
+use mathlib.Core.Path.{◌≡◌, refl, sym, ap, subst}
 use Rattle.std.specs.Prelude.{Some, None}
 use Rattle.std.specs.Int.{w64}
 use Rattle.std.proofs.lemmas.Int.{to_z-of_z}
 use lib.Signed.{lt_z}
 use lib.IntN.{pos, nat_abs}
 use mathlib.Core.Bool.{true, false}
-use Prim.Native.Nat.{◌≤◌}
 use Rattle.rule_trees.specs.Tokens.{number}
 use Rattle.rule_trees.specs.Print.{token_text}
 use Rattle.rule_print.specs.Texts.{Puts}

@@ -1,13 +1,10 @@
 -- `rule_print::expressions::Printer::expression` and what it calls meet their contracts. Assumes nothing.
-use mathlib.Core.Path.{◌≡◌, refl, sym, ap, subst, ◌∙◌}
-use mathlib.Core.List.{List, [], ◌∷◌}
+use mathlib.Core.Path.{refl, sym, ap, subst, ◌∙◌}
 use Prim.Native.Nat.{◌≤◌, ◌<◌}
 use native.Mathlib.Omega.{arith}
 use Rattle.std.specs.Prelude.{Some, None}
-use Rattle.source.specs.Nodes.{entry_of}
 use Rattle.source.specs.declared.Form.{Form}
-use Rattle.source.specs.declared.Node.{Node}
-use Rattle.source.specs.Record.{tree, node_tree, expression_of}
+use Rattle.source.specs.Record.{tree, node_tree}
 use Rattle.rule_trees.specs.Tokens.{opening, closing}
 use Rattle.rule_trees.specs.Grammar.{strength}
 use Rattle.rule_trees.specs.Print.{left_level, right_level, token_text}

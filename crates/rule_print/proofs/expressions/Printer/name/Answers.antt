@@ -1,5 +1,5 @@
 -- `rule_print::expressions::Printer::name` meets its contract. Assumes nothing.
-use mathlib.Core.Path.{◌≡◌, refl, sym, ap, subst, ◌∙◌}
+use mathlib.Core.Path.{refl, sym, subst, ◌∙◌}
 use mathlib.Core.List.{[], ◌∷◌}
 use Rattle.std.specs.Prelude.{Some, None}
 use Rattle.source.specs.Names.{name_of}
