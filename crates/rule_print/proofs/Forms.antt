@@ -196,18 +196,19 @@ module _ (T : ℕ → Tree) (ns : List Text) (f : Form) (old : List ℕ) where
 
 -- ---- nodes
 
-module _ (b : List ℕ) (at : ℕ) (ns : List Text) (l : Level) where
-  no-tree : (k x : ℕ) → k ≤ x → tree b at k x ≡ as_expression Expr.unit
+module _ (b : List ℕ) (at : ℕ) where
+  pub no-tree : (k x : ℕ) → k ≤ x → tree b at k x ≡ as_expression Expr.unit
   unfolding tree
   no-tree zero x h = refl
   no-tree (suc k) x h = rw (ne_eqb x k (λ e. omega arith), tree) (no-tree k x (omega arith))
 
+module _ (b : List ℕ) (at : ℕ) (ns : List Text) (l : Level) where
   unit-none : expression_text ns l Expr.unit ≡ None
   unfolding expression_text tree_in
   unit-none = refl
 
   pub child-none : (k x : ℕ) → k ≤ x → None ≡ expression_text ns l (tree b at k x).expression
-  child-none k x h = sym (ap (λ (t : Tree). expression_text ns l t.expression) (no-tree k x h) ∙ unit-none)
+  child-none k x h = sym (ap (λ (t : Tree). expression_text ns l t.expression) (no-tree b at k x h) ∙ unit-none)
 
   pub child-some : (k x : ℕ) → x < k → expression_text ns l (node_tree b at x).expression ≡ expression_text ns l (tree b at k x).expression
   child-some k x h = sym (ap (λ (t : Tree). expression_text ns l t.expression) (settled b at k x h))

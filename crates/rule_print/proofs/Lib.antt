@@ -2,3 +2,4 @@ pub mod Back
 pub mod Texts
 pub mod Forms
 pub mod Sayings
+pub mod Rows

@@ -1,3 +1,4 @@
 pub mod Modules
 pub mod Statements
 pub mod Texts
+pub mod Listed

@@ -3,5 +3,6 @@
 
 pub mod expressions;
 pub mod levels;
+pub mod listing;
 pub mod pieces;
 pub mod statements;
