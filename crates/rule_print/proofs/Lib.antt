@@ -3,3 +3,4 @@ pub mod Texts
 pub mod Forms
 pub mod Sayings
 pub mod Rows
+pub mod Whole

@@ -1,23 +1,21 @@
 -- Lists of statements. Assumes nothing.
 use mathlib.Core.Path.{◌≡◌, refl, sym, ap, ◌∙◌, subst}
-use mathlib.Core.List.{List, [], ◌∷◌, ◌++◌, append-nil}
+use mathlib.Core.List.{List, append-nil}
 use Prim.Native.Nat.{ℕ, zero, suc, ◌+◌, ◌-◌, ◌≤◌, ◌<◌}
 use native.Mathlib.Omega.{arith}
 use native.Mathlib.Numerals.{add-one}
-use lib.Dec.{eqb}
 use lib.ListN.{length}
-use borrow.Author.Tests.{ne_eqb}
-use Rattle.std.specs.Prelude.{Option, Some, None, ⊤}
+use Rattle.std.specs.Prelude.{Option, Some, None}
 use Rattle.std.specs.Option.{option_map}
-use Rattle.source.specs.Trees.{Text, Pat, Expr}
-use Rattle.source.specs.Record.{tree, node_tree, as_expression}
+use Rattle.source.specs.Trees.{Text}
+use Rattle.source.specs.Record.{tree, node_tree}
 use Rattle.source.proofs.Nodes.{settled}
 use Rattle.rule_print.specs.Modules.{both, tree_in, pattern_in, definition_in, equation_in}
 use Rattle.rule_print.specs.Texts.{TEXT, Puts, statement_text}
 use Rattle.rule_print.specs.Listed.{upto}
-use Rattle.rule_print.proofs.Texts.{then, puts-stop, puts-on}
+use Rattle.rule_print.proofs.Texts.{puts-stop, puts-on}
 use Rattle.rule_print.proofs.Forms.{no-tree}
-use Rattle.rule_trees.specs.Grammar.{Statement, definition}
+use Rattle.rule_trees.specs.Grammar.{definition}
 
 -- ---- entries
 

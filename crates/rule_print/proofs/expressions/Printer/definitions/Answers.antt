@@ -1,12 +1,9 @@
 -- `rule_print::expressions::Printer::definitions` meets its contract. Assumes nothing.
-use mathlib.Core.Path.{◌≡◌, sym, ap, subst}
+use mathlib.Core.Path.{◌≡◌, sym, subst}
 use native.Mathlib.Omega.{arith}
 use Rattle.std.specs.Prelude.{Some, None}
-use Rattle.std.specs.Option.{option_map}
-use Rattle.source.specs.Record.{tree, definition_at}
-use Rattle.source.specs.Layout.{definition_entry}
-use Rattle.rule_print.specs.Modules.{definition_in}
-use Rattle.rule_print.specs.Texts.{Puts, statement_text, table_of}
+use Rattle.source.specs.Record.{definition_at}
+use Rattle.rule_print.specs.Texts.{Puts, table_of}
 use Rattle.rule_print.specs.Listed.{definition_said, upto}
 use Rattle.rule_print.proofs.Rows.{pair, upto-none, upto-more, upto-stop}
 use Rattle.rule_print.proofs.expressions.Printer.definitions.Goals as goal

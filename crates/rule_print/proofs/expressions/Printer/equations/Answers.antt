@@ -1,12 +1,9 @@
 -- `rule_print::expressions::Printer::equations` meets its contract. Assumes nothing.
-use mathlib.Core.Path.{◌≡◌, sym, ap, subst}
+use mathlib.Core.Path.{◌≡◌, sym, subst}
 use native.Mathlib.Omega.{arith}
 use Rattle.std.specs.Prelude.{Some, None}
-use Rattle.std.specs.Option.{option_map}
-use Rattle.source.specs.Record.{tree, expression_at}
-use Rattle.source.specs.Layout.{expression_root}
-use Rattle.rule_print.specs.Modules.{equation_in}
-use Rattle.rule_print.specs.Texts.{Puts, statement_text, table_of}
+use Rattle.source.specs.Record.{expression_at}
+use Rattle.rule_print.specs.Texts.{Puts, table_of}
 use Rattle.rule_print.specs.Listed.{equation_said, upto}
 use Rattle.rule_print.proofs.Rows.{line, upto-none, upto-more, upto-stop}
 use Rattle.rule_print.proofs.expressions.Printer.equations.Goals as goal
