@@ -1,5 +1,5 @@
 -- Lines and columns, both from 1: a line ends behind its line end (10), a column is a byte.
-use Rattle.std.specs.Prelude.{List, [], ◌∷◌, cond, ℕ, ◌+◌, eqb}
+use Rattle.std.specs.Prelude.{List, [], ◌∷◌, cond, ℕ, ◌+◌, eqb, replicate}
 use Rattle.rule_message.specs.declared.TextPlace.{TextPlace}
 
 abbrev pub place : ℕ → ℕ → TextPlace
@@ -12,3 +12,10 @@ place_from l c (x ∷ xs) = cond (eqb x 10) (place_from (l + 1) 1 xs) (place_fro
 
 unfoldable pub place_of : List ℕ → TextPlace
 place_of b = place_from 1 1 b
+
+-- zeros for a text that a program reads
+abbrev pub TEXT-BYTES : ℕ
+TEXT-BYTES = 1048576
+
+unfoldable pub text_buffer : List ℕ
+text_buffer = replicate TEXT-BYTES 0

@@ -7,7 +7,7 @@ ghost use Rattle.std.specs.Prelude.{◌≡◌, ◌≤◌, length};
 ghost use Rattle.std.specs.Option.{option_map, IfSome};
 ghost use Rattle.rule_trees.specs.Prefix.{START, walk};
 ghost use Rattle.rule_scan.specs.Stages.{stage_of, Standing};
-ghost use Rattle.rule_message.specs.Places.{place_of};
+ghost use Rattle.rule_message.specs.Places.{place_of, text_buffer};
 
 use records::refusals::Refusal;
 use rule_scan::stages::{Run, Stage};
@@ -103,6 +103,14 @@ pub fn print_stop(rt: &impl Eprint, answer: Result<usize, Refusal>, text: &[u8])
     if let Some(front) = text.get(..at) {
         print_front(rt, front);
     }
+}
+
+// Zeros to read a text into. Kept as it is: a function, since a caller's proof would compute the many places of a literal one by one.
+#[tactic(auto, unfolding(crate::specs::Places::text_buffer))]
+pub fn text_buffer() -> [u8; TEXT_BYTES]
+    ensures { result ≡ text_buffer }
+{
+    [0u8; TEXT_BYTES]
 }
 
 // A text that a program does not read.

@@ -5,7 +5,7 @@
 
 use answer_record::print_answer;
 use rule_entry::rules;
-use rule_message::{TEXT_BYTES, print_long, print_stop};
+use rule_message::{TEXT_BYTES, print_long, print_stop, text_buffer};
 use source::BYTES;
 use std::io;
 use std::rt::Env;
@@ -22,7 +22,7 @@ fn write_record(rt: &(impl Print + Eprint), text: &[u8]) -> Result<usize, Failed
 
 fn run(rt: &(impl Env + Input + Print + Eprint)) -> Result<usize, Failed> {
     open_standard(rt, "usage: rules < TEXT\n")?;
-    let mut text = [0u8; TEXT_BYTES];
+    let mut text = text_buffer();
     let n = read_standard(rt, &mut text)?;
     if TEXT_BYTES <= n {
         return print_long(rt);

@@ -7,7 +7,7 @@ use answer_text::print_answer;
 use flatten_entry::buffers::{output_buffer, store_buffer};
 use records::refusals::Refusal;
 use rule_entry::rules;
-use rule_message::{TEXT_BYTES, print_long, print_stop};
+use rule_message::{TEXT_BYTES, print_long, print_stop, text_buffer};
 use source::BYTES;
 use std::io;
 use std::rt::{Env, Files};
@@ -41,7 +41,7 @@ fn flatten_text(rt: &(impl Print + Eprint), text: &[u8]) -> Result<usize, Failed
 
 fn run<R: Env + Files + Input + Print + Eprint>(rt: &R) -> Result<usize, Failed> {
     let opened = open_input(rt, "usage: rules_equalities [FILE]\n")?;
-    let mut text = [0u8; TEXT_BYTES];
+    let mut text = text_buffer();
     let n = read_opened(rt, opened, &mut text)?;
     if TEXT_BYTES <= n {
         return print_long(rt);
