@@ -74,11 +74,12 @@ fn print_expected(rt: &impl Eprint, text: &[u8], stage: Stage)
     requires { Standing text.now (length text.now) stage }
 {
     let _ = rt.eprint("expected");
-    if goes_on(text, stage) {
-        let _ = rt.eprint(", the word or number to go on");
+    let more = goes_on(text, stage);
+    if more {
+        let _ = rt.eprint(" the word or number to go on");
     }
     if let Some(place) = stage.ended(text, text.len()) {
-        print_tokens(rt, place);
+        print_tokens(rt, place, !more);
     }
     let _ = rt.eprint("\n");
 }

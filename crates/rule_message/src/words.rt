@@ -72,14 +72,16 @@ pub fn goes_on(text: &[u8], stage: Stage) -> bool
     }
 }
 
-// The tokens that may stand at the place, each behind a comma.
-pub fn print_tokens(rt: &impl Eprint, place: Place)
+// The tokens that may stand at the place, each behind " or " but for the first of all that is said.
+pub fn print_tokens(rt: &impl Eprint, place: Place, is_first: bool)
     requires { open_in place < MOST-OPEN }
 {
+    let mut is_first = is_first;
     for kind in KINDS {
         if may_stand(place, kind) {
-            let _ = rt.eprint(", ");
+            let _ = rt.eprint(if is_first { " " } else { " or " });
             let _ = rt.eprint(word(kind));
+            is_first = false;
         }
     }
 }
