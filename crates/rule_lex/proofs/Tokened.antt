@@ -11,7 +11,8 @@ use lib.ListN.{length, get_or, drop}
 use lib.Seq.{slice, drop-length}
 use Rattle.source.specs.Trees.{Text}
 use Rattle.source.specs.Encoding.{All}
-use Rattle.rule_trees.specs.Tokens.{Token, name, number, def, Class, letter, digit, blank, other, symbol, class_of, SYMBOLS, class_among, is_letter, is_digit, is_blank}
+use Rattle.rule_trees.specs.Tokens.{Token, name, number, def, Class, letter, digit, blank}
+use Rattle.rule_trees.specs.Tokens.{other, symbol, class_of, SYMBOLS, class_among, is_letter, is_digit, is_blank}
 use Rattle.rule_trees.specs.Tokens.{LARGEST, word_token, number_token, prepend, tokens_of, tokens_from, is_name, same_text, typed, ended}
 use Rattle.rule_trees.proofs.Facts.{none-some}
 use Rattle.rule_trees.proofs.Fitting.{no_symbol}

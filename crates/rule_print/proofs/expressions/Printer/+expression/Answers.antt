@@ -14,7 +14,8 @@ use Rattle.std.proofs.lemmas.Int.{to_z-of_z}
 use Rattle.rule_print.specs.Modules.{constant_in}
 use Rattle.rule_print.specs.Texts.{Puts, bare_text, level_in, form_level, expression_text, table_of}
 use Rattle.rule_print.proofs.Texts.{then, puts-stop, puts-on, form-open, form-grouped}
-use Rattle.rule_print.proofs.Forms.{shown, shown-variable, shown-constant, shown-equal, shown-other, by-form, negate-stop, negate-done, infix-stop, sign-stop, infix-done}
+use Rattle.rule_print.proofs.Forms.{shown, shown-variable, shown-constant, shown-equal, shown-other}
+use Rattle.rule_print.proofs.Forms.{by-form, negate-stop, negate-done, infix-stop, sign-stop, infix-done}
 use Rattle.rule_print.proofs.Forms.{child-none, child-some, no-node, other-node, form-node}
 use Rattle.rule_print.proofs.expressions.Printer.+expression.Goals as goal
 
