@@ -1,8 +1,8 @@
 -- The refusals in their order. Assumes nothing.
 use mathlib.Core.Path.{◌≡◌, refl, sym, ap, ap₂, ◌∙◌, subst}
-use mathlib.Core.List.{List, []}
+use mathlib.Core.List.{List}
 use mathlib.Core.Bool.{Bool, true, false, ◌&&◌, cond}
-use Prim.Native.Nat.{ℕ, ◌+◌, ◌-◌, ◌*◌, ◌≤◌, ◌<◌}
+use Prim.Native.Nat.{ℕ, ◌-◌, ◌≤◌, ◌<◌}
 use native.Mathlib.Omega.{arith}
 use lib.Dec.{leb}
 use lib.ListN.{length}
@@ -19,7 +19,7 @@ use Rattle.rule_trees.specs.Judge.{belongs}
 use Rattle.rule_trees.specs.Record.{once, names_of, definitions_of, equations_of, node_count, record_of, within_limits}
 use Rattle.rule_trees.specs.Rules.{Answer, deepest, DEEPEST, unless, written_in, rules_of, token_names}
 use Rattle.rule_trees.specs.Prefix.{START, taken}
-use Rattle.rule_trees.proofs.Facts.{none-some, false-true}
+use Rattle.rule_trees.proofs.Facts.{false-true}
 use Rattle.rule_trees.proofs.Sound.{statements-read}
 use Rattle.rule_trees.proofs.Counting.{counted, names-in-order}
 use Rattle.rule_trees.proofs.Judged.{is_some}

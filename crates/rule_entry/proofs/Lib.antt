@@ -2,3 +2,4 @@ pub mod Parts
 pub mod Recording
 pub mod Starting
 pub mod Deciding
+pub mod Room

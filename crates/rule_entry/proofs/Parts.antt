@@ -5,21 +5,19 @@ use Prim.Native.Nat.{ℕ, suc, ◌+◌, ◌-◌, ◌*◌, ◌≤◌, ◌<◌}
 use native.Mathlib.Omega.{arith}
 use native.Mathlib.Numerals.{add-one}
 use lib.ListN.{length, get_or, set, take, drop, length-append}
-use lib.Seq.{drop-cons, drop-length, sets, sets-eq, slice, length-slice, paste}
+use lib.Seq.{drop-cons, drop-length, sets, sets-eq, length-slice, paste}
 use Rattle.std.proofs.lemmas.List.{drop-take}
 use Rattle.std.proofs.lemmas.List.Edits.{paste_all}
 use Rattle.words.specs.Words.{set_word, set_words}
 use Rattle.words.proofs.Laws.{set_words-append}
-use Rattle.records.specs.SourceRecord.{NAME-BYTES}
 use Rattle.records.specs.declared.nodes.NodeEntry.{NodeEntry}
-use Rattle.source.specs.Trees.{Text}
 use Rattle.source.specs.Encoding.{All, node, pair_words, joined}
 use Rattle.rule_lex.specs.declared.Span.{Span}
 use Rattle.rule_lex.specs.Lexed.{spanned}
 use Rattle.rule_count.specs.Table.{table_of, Within}
 use Rattle.rule_build.specs.declared.desk.Roots.{Roots}
 use Rattle.rule_holding.specs.Holding.{entries, pairs}
-use Rattle.rule_entry.specs.Written.{span_size, span_pairs, text_size, Short}
+use Rattle.rule_entry.specs.Written.{span_size, span_pairs, text_size}
 
 -- ---- what is left behind the k-th
 

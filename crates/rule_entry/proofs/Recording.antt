@@ -1,7 +1,7 @@
 -- The parts that were put are the record. Assumes nothing.
-use mathlib.Core.Path.{◌≡◌, refl, sym, ap, ap₂, ◌∙◌, subst}
+use mathlib.Core.Path.{◌≡◌, sym, ap, ap₂, ◌∙◌, subst}
 use mathlib.Core.List.{List, [], ◌∷◌, ◌++◌, append-nil}
-use Prim.Native.Nat.{ℕ, suc, ◌+◌, ◌-◌, ◌*◌, ◌≤◌, ◌<◌}
+use Prim.Native.Nat.{ℕ, ◌+◌, ◌*◌, ◌≤◌}
 use native.Mathlib.Omega.{arith}
 use lib.Dec.{leb}
 use lib.ListN.{length, take, drop, length-append}
@@ -9,23 +9,22 @@ use lib.Seq.{sets, sets-eq, take_at, drop-append-add, drop-drop}
 use borrow.Author.Tests.{leb-true}
 use Rattle.words.specs.Words.{set_words, bytes_of}
 use Rattle.words.proofs.Laws.{set_words-append, set_words-bytes, length-bytes_of, length-set_words}
-use Rattle.records.specs.SourceRecord.{NAMES, NAME-BYTES, NODES, DEFINITIONS, EXPRESSIONS}
+use Rattle.records.specs.SourceRecord.{NAMES, NODES, DEFINITIONS, EXPRESSIONS}
 use Rattle.source.specs.Trees.{Text}
 use Rattle.source.specs.Encoding.{All, TextFits, pair_words, joined}
 use Rattle.rule_trees.specs.Grammar.{Statement}
 use Rattle.rule_trees.specs.Reading.{at_start}
-use Rattle.rule_trees.specs.Record.{names_of, definitions_of, equations_of, nodes_of, node_count, definition_words, equation_words, words_of, record_of, within_limits, module_of}
+use Rattle.rule_trees.specs.Record.{names_of, definitions_of, equations_of, nodes_of, node_count, words_of, record_of, within_limits, module_of}
 use Rattle.rule_trees.specs.Writing.{stack_count, stack_nodes}
 use Rattle.rule_trees.proofs.Prefixes.{both_true}
 use Rattle.rule_trees.proofs.Fitting.{reading-fits}
 use Rattle.rule_trees.proofs.Theorems.{given-reading}
 use Rattle.rule_lex.specs.declared.Span.{Span}
-use Rattle.rule_lex.specs.Lexed.{spanned}
 use Rattle.rule_count.specs.Table.{table_of, Within}
 use Rattle.rule_build.specs.declared.desk.Desk.{Desk}
 use Rattle.rule_holding.specs.Holding.{entries, pairs, stack_of, operand_count, operand_nodes, Holds}
 use Rattle.rule_entry.specs.Given.{Given}
-use Rattle.rule_entry.specs.Written.{span_size, span_pairs, text_size, Short, word_count, Few}
+use Rattle.rule_entry.specs.Written.{span_pairs, text_size, Short, word_count, Few}
 use Rattle.rule_entry.proofs.Parts.{span-length, pairs-of, size-of, spans-length, table-length, entries-length, roots-length}
 
 -- ---- words and then bytes, at the front

@@ -3,7 +3,7 @@ use mathlib.Core.Path.{◌≡◌, refl, sym, ap, ◌∙◌, subst}
 use mathlib.Core.List.{List, [], ◌∷◌, ◌++◌}
 use mathlib.Core.Bool.{Bool, true, false, cond}
 use Rattle.std.specs.Prelude.{Option, None, Some}
-use Prim.Native.Nat.{ℕ, suc, ◌+◌, ◌-◌, ◌≤◌, ◌<◌}
+use Prim.Native.Nat.{ℕ, ◌+◌, ◌≤◌, ◌<◌}
 use native.Mathlib.Omega.{arith}
 use native.Mathlib.Numerals.{add-one}
 use lib.Dec.{leb}
@@ -11,11 +11,10 @@ use lib.ListN.{length, get_or, take, drop}
 use lib.Seq.{slice, slice_empty, drop-cons, drop-length, take-suc, drop-append-le, length-take-le}
 use borrow.Author.Tests.{leb-true}
 use Rattle.source.specs.Trees.{Text}
-use Rattle.rule_trees.specs.Tokens.{Token, name, number, def, Class, letter, digit, blank, other, symbol, class_of, in_word, in_number, LARGEST, onto}
-use Rattle.rule_trees.specs.Tokens.{word_token, number_token, Run, nothing, word, digits, prepend, ended, longer, tokens_from, tokens_of, is_name, same_text}
-use Rattle.rule_trees.specs.Tokens.{typed}
+use Rattle.rule_trees.specs.Tokens.{Token, number, letter, digit, blank, class_of, in_word, in_number, LARGEST, onto}
+use Rattle.rule_trees.specs.Tokens.{word_token, number_token, nothing, word, digits, prepend, ended, tokens_from, tokens_of}
 use Rattle.rule_trees.proofs.Facts.{none-some}
-use Rattle.rule_trees.proofs.Spelling.{run_on, run-over, longer-word, longer-digits, begins, tokens-blank, tokens-symbol, tokens-other}
+use Rattle.rule_trees.proofs.Spelling.{run_on, run-over, longer-word, longer-digits, begins, tokens-blank}
 
 module _ (b : List ℕ) (i : ℕ) (inside : i < length b) where
   abbrev pub c : ℕ

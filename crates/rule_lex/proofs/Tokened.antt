@@ -11,7 +11,8 @@ use lib.ListN.{length, get_or, drop}
 use lib.Seq.{slice, drop-length}
 use Rattle.source.specs.Trees.{Text}
 use Rattle.source.specs.Encoding.{All}
-use Rattle.rule_trees.specs.Tokens.{Token, name, number, def, Class, letter, digit, blank, other, symbol, class_of, SYMBOLS, class_among, is_letter, is_digit, is_blank}
+use Rattle.rule_trees.specs.Tokens.{Token, name, number, def, Class, letter, digit, blank}
+use Rattle.rule_trees.specs.Tokens.{other, symbol, class_of, SYMBOLS, class_among, is_letter, is_digit, is_blank}
 use Rattle.rule_trees.specs.Tokens.{LARGEST, word_token, number_token, prepend, tokens_of, tokens_from, is_name, same_text, typed, ended}
 use Rattle.rule_trees.proofs.Facts.{none-some}
 use Rattle.rule_trees.proofs.Fitting.{no_symbol}
@@ -20,7 +21,6 @@ use Rattle.rule_trees.specs.Tokens.{equals, semicolon, opening, closing, caret, 
 use Rattle.rule_scan.specs.declared.kinds.Kind.{Kind}
 use Rattle.rule_scan.specs.declared.kinds.Class as Code
 use Rattle.rule_scan.specs.Kinds.{kind_of, class_in}
-use Rattle.rule_lex.specs.declared.Span.{Span}
 use Rattle.rule_lex.specs.declared.Lexeme.{Lexeme}
 use Rattle.rule_lex.specs.Lexed.{spanned, Found, Lexes, Skipped, WordTo, NumberTo}
 use Rattle.rule_lex.proofs.Lexing.{rest, letter-begins, digit-begins}

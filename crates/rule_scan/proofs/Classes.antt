@@ -1,17 +1,17 @@
 -- Bytes by their classes. Assumes nothing.
-use mathlib.Core.Path.{◌≡◌, refl, sym, ap, ◌∙◌}
+use mathlib.Core.Path.{◌≡◌, refl, sym, ◌∙◌}
 use mathlib.Core.List.{List, [], ◌∷◌}
 use mathlib.Core.Bool.{Bool, true, false, ◌&&◌, ◌||◌, cond}
 use mathlib.Core.Logic.{◌⊎◌, inl, inr}
 use Prim.Native.Nat.{ℕ, ◌≤◌}
 use native.Mathlib.Omega.{arith}
 use lib.Dec.{leb, eqb}
-use borrow.Author.Tests.{eq-eqb, ne_eqb}
-use Rattle.std.specs.Prelude.{Option, Some, None}
+use borrow.Author.Tests.{ne_eqb}
+use Rattle.std.specs.Prelude.{None}
 use Rattle.std.specs.Option.{option_map_or}
 use Rattle.std.specs.Char.{is_ascii_alphabetic, is_ascii_digit}
 use Rattle.rule_trees.specs.Tokens.{Token, Class, letter, digit, blank, other, symbol, between, is_lower, is_letter, is_digit, is_blank, class_of}
-use Rattle.rule_trees.specs.Tokens.{SYMBOLS, class_among, in_word, in_number}
+use Rattle.rule_trees.specs.Tokens.{SYMBOLS, class_among, in_number}
 use Rattle.rule_trees.proofs.Fitting.{digit-bounds}
 use Rattle.rule_scan.specs.declared.kinds.Kind.{Kind}
 use Rattle.rule_scan.specs.declared.kinds.Class as Code

@@ -26,7 +26,7 @@ use Rattle.rule_scan.specs.declared.kinds.Kind.{Kind}
 use Rattle.rule_scan.specs.declared.stages.Run.{Run}
 use Rattle.rule_scan.specs.declared.stages.Stage.{Stage}
 use Rattle.rule_scan.specs.Kinds.{kind_of, sample}
-use Rattle.rule_scan.specs.Stages.{run_of, stage_of, StartsBelow, started, Standing, staged, word_longer, number_longer}
+use Rattle.rule_scan.specs.Stages.{run_of, stage_of, StartsBelow, Standing, staged, word_longer, number_longer}
 use Rattle.rule_scan.proofs.Judging.{by-kind}
 use Rattle.rule_scan.proofs.Steps.{Steps}
 

@@ -10,17 +10,15 @@ use lib.Dec.{leb, ltb, eqb}
 use lib.ListN.{length, get_or, drop}
 use lib.Seq.{drop-cons, drop-length}
 use borrow.Author.Tests.{leb-true, leb-false, ltb-true, ltb-false}
-use Rattle.std.specs.Prelude.{Option, Some, None, Result, Ok, Err}
+use Rattle.std.specs.Prelude.{Option, Some, None, Ok, Err}
 use Rattle.std.proofs.Common.{Less, Equal, Greater}
 use Rattle.std.specs.Ordering.{is_lt, nat_cmp, ord_max}
-use Rattle.rule_trees.specs.declared.Place.{Place}
 use Rattle.rule_trees.specs.declared.Place.TheVariants.{Starting}
 use Rattle.rule_trees.specs.Judge.{open_in, belongs}
 use Rattle.rule_trees.specs.Prefix.{Stage, hopeful, byte_step, walk, complete, START, taken}
 use Rattle.rule_trees.specs.Rules.{opened, deepest}
 use Rattle.rule_trees.proofs.Prefixes.{walk-decides}
 use Rattle.rule_trees.proofs.Depth.{OpenStage, byte-open}
-use Rattle.rule_scan.specs.declared.Outside.{Outside}
 use Rattle.rule_scan.specs.declared.stages.Stage as Code
 use Rattle.rule_scan.specs.declared.stages.Run.{Run}
 use Rattle.rule_scan.specs.Stages.{stage_of, Standing, staged}

@@ -1,6 +1,7 @@
 // The judge: from place to place, by the kind of a token.
 ghost use Rattle.std.specs.Prelude.{◌≡◌, ◌<◌};
-ghost use Rattle.rule_trees.specs.Judge.{open_in, operand_judge, equals_judge, semicolon_judge, closing_judge, behind_judge, start_judge, def_judge, name_judge, judged, may_end};
+ghost use Rattle.rule_trees.specs.Judge.{open_in, operand_judge, equals_judge, semicolon_judge, closing_judge};
+ghost use Rattle.rule_trees.specs.Judge.{behind_judge, start_judge, def_judge, name_judge, judged, may_end};
 ghost use Rattle.rule_trees.specs.Prefix.{takes_name, takes_number};
 ghost use Rattle.rule_scan.specs.Kinds.{sample, MOST-OPEN};
 

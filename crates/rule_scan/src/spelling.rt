@@ -25,7 +25,7 @@ fn starts_lower(word: &[u8]) -> bool
     word[0].is_ascii_lowercase()
 }
 
-fn is_name(word: &[u8]) -> bool
+pub fn is_name(word: &[u8]) -> bool
     ensures { result ≡ is_name word.now }
 {
     if !starts_lower(word) {

@@ -58,7 +58,9 @@ other-number false n a h k e = h (cc)
 never-forty : (b : List ℕ) (room : ℕ) (qs : List Statement) → written_in b room qs ≡ Err OutsideGrammar → ⊥
 unfolding written_in
 never-forty b room qs =
-    other-number _ Nesting _ (λ e. absurd (let z : ◌≡◌ {A = ℕ} 0 1 = cc in omega arith)) (other-number _ Count _ (λ e. absurd (let z : ◌≡◌ {A = ℕ} 0 1 = cc in omega arith)) (other-number _ Output _ (λ e. absurd (let z : ◌≡◌ {A = ℕ} 0 1 = cc in omega arith)) (λ e. not_written (sym e))))
+    other-number _ Nesting _ (λ e. let z : ◌≡◌ {A = ℕ} 0 1 = cc in omega arith)
+    (other-number _ Count _ (λ e. let z : ◌≡◌ {A = ℕ} 0 1 = cc in omega arith)
+    (other-number _ Output _ (λ e. let z : ◌≡◌ {A = ℕ} 0 1 = cc in omega arith) (λ e. not_written (sym e))))
 
 pub refuses-outside : RefusesOutside
 unfolding rules_of
@@ -67,11 +69,13 @@ refuses-outside b room = (outside, inside)
     outside : rules_of b room ≡ Err OutsideGrammar → (qs : List Statement) → Reading b qs → ⊥
     outside e qs r =
         never-forty b room qs
-        (sym (ap (λ (o : Option (List Statement)). elim o as (λ _. Answer) [ None ↦ Err OutsideGrammar | Some ps ↦ written_in b room ps ]) (reading-given b qs r)) ∙ e)
+        (sym (ap (λ (o : Option (List Statement)). elim o as (λ _. Answer) [ None ↦ Err OutsideGrammar | Some ps ↦ written_in b room ps ])
+        (reading-given b qs r)) ∙ e)
 
     inside : ((qs : List Statement) → Reading b qs → ⊥) → rules_of b room ≡ Err OutsideGrammar
     inside f = go (reading_of b) refl
       where
-        go : (o : Option (List Statement)) → reading_of b ≡ o → (elim o as (λ _. Answer) [ None ↦ Err OutsideGrammar | Some qs ↦ written_in b room qs ]) ≡ Err OutsideGrammar
+        go : (o : Option (List Statement)) → reading_of b ≡ o
+            → (elim o as (λ _. Answer) [ None ↦ Err OutsideGrammar | Some qs ↦ written_in b room qs ]) ≡ Err OutsideGrammar
         go None h = refl
         go (Some qs) h = absurd (f qs (given-reading b qs h))

@@ -98,7 +98,8 @@ module _ (qs : List Statement) (b : List ℕ) (c0 : names b ≡ length (names_of
       let f : expressions b ≡ 0 + length (equations_of (names_of qs) qs) = omega arith in
       let g : nodes b ≡ 0 + node_count (names_of qs) qs = omega arith in
       eq-eqb
-      (by_nodes b (nodes_offset b) (nodes b) k + (by_definitions b (definitions_offset b) (definitions b) k + by_expressions b (expressions_offset b) (expressions b) k)) 1
+      (by_nodes b (nodes_offset b) (nodes b) k
+      + (by_definitions b (definitions_offset b) (definitions b) k + by_expressions b (expressions_offset b) (expressions b) k)) 1
       (omega (
         arith,
         ap (λ (i : ℕ). by_nodes b (nodes_offset b) i k) g,

@@ -45,17 +45,17 @@ completion (WantsAtom seen d) = typed "x " ++ closed_by seen d
 completion (HasOperand seen d) = closed_by seen d
 
 closed-accepts : (seen : Bool) (d : ℕ) → accepts (stage nothing (HasOperand seen d)) (closed_by seen d) ≡ true
-unfolding closed_by accepts verdict tokens_from prepend ended longer class_of class_among is_letter is_digit is_blank is_lower between word_token is_name same_text
-    starts_lower is_reserved in_word accepted_from judged behind_judge equals_judge semicolon_judge closing_judge operand_judge may_end byte_step begun run_ends
-    on_stage at_place
+unfolding closed_by accepts verdict tokens_from prepend ended longer class_of class_among is_letter is_digit is_blank is_lower between word_token is_name
+    same_text starts_lower is_reserved in_word accepted_from judged behind_judge equals_judge semicolon_judge closing_judge operand_judge may_end byte_step
+    begun run_ends on_stage at_place
 closed-accepts seen (suc d) = step-exact (stage nothing (HasOperand seen (suc d))) (code ")") (closed_by seen d) ∙ closed-accepts seen d
 closed-accepts true zero = refl
 closed-accepts false zero = refl
 
 completion-accepts : (p : Place) → accepts (stage nothing p) (completion p) ≡ true
-unfolding completion accepts verdict tokens_from prepend ended longer class_of class_among is_letter is_digit is_blank is_lower between word_token is_name same_text
-    starts_lower is_reserved in_word accepted_from judged start_judge def_judge name_judge behind_judge equals_judge semicolon_judge closing_judge operand_judge may_end
-    byte_step begun run_ends behind on_stage at_place walk unless_hopeless hopeful leads_name takes_name
+unfolding completion accepts verdict tokens_from prepend ended longer class_of class_among is_letter is_digit is_blank is_lower between word_token is_name
+    same_text starts_lower is_reserved in_word accepted_from judged start_judge def_judge name_judge behind_judge equals_judge semicolon_judge closing_judge
+    operand_judge may_end byte_step begun run_ends behind on_stage at_place walk unless_hopeless hopeful leads_name takes_name
 completion-accepts Starting = refl
 completion-accepts BehindDef = refl
 completion-accepts BehindName = refl
@@ -128,7 +128,8 @@ name-goes-on w p h k =
 -- a word that leads to a name and is none is reserved or empty: one letter more makes it a name
 reserved-longer : (w : Text) → is_reserved w ≡ true → is_name (w ++ typed "x") ≡ true
 unfolding is_name is_reserved starts_lower is_lower between same_text
-reserved-longer w h = go (same_text w (typed "def")) (same_text w (typed "fresh")) (same_text w (typed "iter")) (same_text w (typed "fold")) refl refl refl refl h
+reserved-longer w h =
+    go (same_text w (typed "def")) (same_text w (typed "fresh")) (same_text w (typed "iter")) (same_text w (typed "fold")) refl refl refl refl h
   where
     it-is : (u : String) → same_text w (typed u) ≡ true → is_name (typed u ++ typed "x") ≡ true → is_name (w ++ typed "x") ≡ true
     it-is u e k = subst (λ x. is_name (x ++ typed "x") ≡ true) (sym (same-is w (typed u) e)) k

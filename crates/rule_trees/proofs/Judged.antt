@@ -242,7 +242,8 @@ accepted-agrees {done} {s} (t ∷ ts) r =
         → ((u : State) → Represents (done ++ (t ∷ [])) u → accepted_from (place_of u) ts ≡ is_some (statements_from u ts))
         → accepted_from (place_of at_start) ts ≡ is_some (statements_from at_start ts)
         → (elim (place_next n) as (λ _. Bool) [ None ↦ false | Some q ↦ accepted_from q ts ])
-        ≡ is_some (elim n as (λ _. Option (List Statement)) [ refused ↦ None | goes u ↦ statements_from u ts | gives q ↦ before q (statements_from at_start ts) ])
+        ≡ is_some (elim n as (λ _. Option (List Statement))
+        [ refused ↦ None | goes u ↦ statements_from u ts | gives q ↦ before q (statements_from at_start ts) ])
     go refused k f g = refl
     go (goes u) k f g = f u k
     go (gives q) k f g = g ∙ sym (before-some q (statements_from at_start ts))

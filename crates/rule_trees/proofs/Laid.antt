@@ -89,7 +89,8 @@ module _ (ns : List Text) where
 
     -- an equation before them
     laid-equation : (s k i : ℕ) (x y : Tree) (qs : List Statement) → s + expr_count (equation_of ns x y) ≤ nodes
-        → ExprAt b at (length ns) s (expr_count (equation_of ns x y)) (equation_of ns x y) → expression_root b es i ≡ root_of s (expr_count (equation_of ns x y))
+        → ExprAt b at (length ns) s (expr_count (equation_of ns x y)) (equation_of ns x y)
+        → expression_root b es i ≡ root_of s (expr_count (equation_of ns x y))
         → LaidAt b at nodes ds es (s + expr_count (equation_of ns x y)) k (i + 1) qs → LaidAt b at nodes ds es s k i (equation x y ∷ qs)
     unfolding node_count definitions_use equations_use definitions_of equations_of rows
     laid-equation s k i x y qs few z e r =

@@ -1,4 +1,4 @@
--- The names of a reading: each once, each known by its index, each as document 01 wants names.
+-- The names of a reading: each once, each known by its index, each as a source record has them.
 use mathlib.Core.Path.{◌≡◌, refl, sym, ◌∙◌, subst}
 use mathlib.Core.List.{List, [], ◌∷◌}
 use mathlib.Core.Bool.{Bool, true, false, cond}

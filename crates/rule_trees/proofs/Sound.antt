@@ -209,7 +209,8 @@ having-right h s r opening = tt
 having-right {fs = fs} {x = x} h s r closing =
     settled-right closing (having_step x fs closing) (settled s sum atom r (omega arith) (omega arith)) (λ ts us k a b c. closed-right a b)
 having-right {ts} {us} {fs = fs} {x = x} h s r caret =
-    subst (λ d. Represents d (wanting_atom (raising x ∷ fs))) (sym (append_assoc ts us (caret ∷ []))) (is_wanting_atom {l = power} (omega arith) (in_power h s r))
+    subst (λ d. Represents d (wanting_atom (raising x ∷ fs))) (sym (append_assoc ts us (caret ∷ [])))
+    (is_wanting_atom {l = power} (omega arith) (in_power h s r))
 having-right {fs = fs} {x = x} h s r (factor o) =
     settled-right (factor o) (having_step x fs (factor o)) (settled s product atom r (omega arith) (omega arith)) (λ ts us k a b c. factor-right o c a b)
 having-right {fs = fs} {x = x} h s r (term o) =
@@ -285,7 +286,8 @@ pub from-reads : {done : List Token} {s : State} (ts : List Token) {qs : List St
     → Lists (done ++ ts) qs
 unfolding statements_from
 from-reads [] r e = end_reads r e
-from-reads {done} {s} (t ∷ ts) {qs} r e = go (step s t) (step_right r t) e (λ u k f. from-reads {s = u} ts k f) (λ rs f. from-reads {s = at_start} ts is_start f)
+from-reads {done} {s} (t ∷ ts) {qs} r e =
+    go (step s t) (step_right r t) e (λ u k f. from-reads {s = u} ts k f) (λ rs f. from-reads {s = at_start} ts is_start f)
   where
     go : (n : Next) → Right (done ++ (t ∷ [])) n
         → ◌≡◌ {A = Option (List Statement)} (elim n [ refused ↦ None | goes u ↦ statements_from u ts | gives q ↦ before q (statements_from at_start ts) ])

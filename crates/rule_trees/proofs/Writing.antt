@@ -33,7 +33,8 @@ module _ (ns : List Text) (s : ℕ) where
   pub taken-nodes : (f : Frame) (x : Tree) (fs : Stack) → 1 ≤ holds f
       → pending_nodes ns s (applied f x) fs ≡ pending_nodes ns s x (f ∷ fs) ++ top_node ns (s + stack_count ns fs) f x
   unfolding pending_nodes applied stack_nodes stack_count frame_nodes frame_count top_node expr_of expr_nodes holds
-  taken-nodes (raising y) x fs h = pair-written (stack_nodes ns s fs) (expr_nodes (s + stack_count ns fs) (expr_of ns y)) (stack_count ns fs) (count_of ns y) x _
+  taken-nodes (raising y) x fs h =
+      pair-written (stack_nodes ns s fs) (expr_nodes (s + stack_count ns fs) (expr_of ns y)) (stack_count ns fs) (count_of ns y) x _
   taken-nodes negating x fs h =
       let c = stack_count ns fs in
       let e : s + c ≡ s + (c + 0) = omega arith in

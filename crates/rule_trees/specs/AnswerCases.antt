@@ -54,9 +54,9 @@ expected [] = []
 expected (s ∷ ss) = s.bytes ∷ expected ss
 
 pub stops-hold : stopped stops ≡ expected stops
-unfolding between is_lower is_letter is_digit is_blank class_among class_of same_text starts_lower is_reserved is_name word_token onto number_token in_word in_number
-    longer operand_judge closing_judge equals_judge semicolon_judge behind_judge start_judge def_judge name_judge judged behind run_ends takes_name takes_number
-    leads_name hopeful unless_hopeless at_place begun byte_step taken
+unfolding between is_lower is_letter is_digit is_blank class_among class_of same_text starts_lower is_reserved is_name word_token onto number_token in_word
+    in_number longer operand_judge closing_judge equals_judge semicolon_judge behind_judge start_judge def_judge name_judge judged behind run_ends takes_name
+    takes_number leads_name hopeful unless_hopeless at_place begun byte_step taken
 stops-hold = refl
 
 -- ---- the words of "x = 1; def x = 2;": one name, a definition, an equation, five nodes in the order of the text
@@ -72,8 +72,8 @@ pub mixed-words : words_of (equation (variable (typed "x")) (constant 1) ∷ def
     21 ∷ 0 ∷ 0 ∷ 0 ∷
     7 ∷ 2 ∷ 0 ∷ 0 ∷
     []
-unfolding words_of names_of occurring names_in once without same_text index_of expr_of definitions_of equation_of equations_of node_count definition_words equation_words
-    nodes_of expr_count expr_nodes pat_nodes root_of pair_words low_word high_word
+unfolding words_of names_of occurring names_in once without same_text index_of expr_of definitions_of equation_of equations_of node_count definition_words
+    equation_words nodes_of expr_count expr_nodes pat_nodes root_of pair_words low_word high_word
 mixed-words = refl
 
 -- ---- refusals in their order
@@ -113,9 +113,9 @@ answers [] = []
 answers (t ∷ ts) = t.answer ∷ answers ts
 
 pub tries-hold : tried tries ≡ answers tries
-unfolding between is_lower is_letter is_digit is_blank class_among class_of same_text starts_lower is_reserved is_name word_token onto number_token in_word in_number
-    prepend ended longer tokens_from tokens_of factor_of term_of strength holds applied reduced operand_step closed equated finished having_step start_step
-    def_step name_step step ends before statements_from statements_of reading_of words_of names_of occurring names_in once without index_of expr_of definitions_of
-    equation_of equations_of node_count definition_words equation_words nodes_of expr_count expr_nodes pat_nodes root_of pair_words low_word high_word
-    bytes_of joined record_of within_limits opened deepest unless written_in rules_of repeated
+unfolding between is_lower is_letter is_digit is_blank class_among class_of same_text starts_lower is_reserved is_name word_token onto number_token in_word
+    in_number prepend ended longer tokens_from tokens_of factor_of term_of strength holds applied reduced operand_step closed equated finished having_step
+    start_step def_step name_step step ends before statements_from statements_of reading_of words_of names_of occurring names_in once without index_of expr_of
+    definitions_of equation_of equations_of node_count definition_words equation_words nodes_of expr_count expr_nodes pat_nodes root_of pair_words low_word
+    high_word bytes_of joined record_of within_limits opened deepest unless written_in rules_of repeated
 tries-hold = refl

@@ -68,7 +68,7 @@ meanings (c ∷ cs) = c.meaning ∷ meanings cs
 
 -- every case holds
 pub cases-hold : read cases ≡ meanings cases
-unfolding between is_lower is_letter is_digit is_blank class_among class_of same_text starts_lower is_reserved is_name word_token onto number_token in_word in_number
-    prepend ended longer tokens_from tokens_of factor_of term_of strength holds applied reduced operand_step closed equated finished having_step start_step
-    def_step name_step step ends before statements_from statements_of reading_of
+unfolding between is_lower is_letter is_digit is_blank class_among class_of same_text starts_lower is_reserved is_name word_token onto number_token in_word
+    in_number prepend ended longer tokens_from tokens_of factor_of term_of strength holds applied reduced operand_step closed equated finished having_step
+    start_step def_step name_step step ends before statements_from statements_of reading_of
 cases-hold = refl

@@ -1,4 +1,4 @@
--- The grammar of rules: which tokens are which statements. For a reader with document 02, request (ii), beside it.
+-- The grammar of rules: which tokens are which statements. For a reader with docs/RECORDS.md, "Rules as text", beside it.
 use Rattle.std.specs.Prelude.{List, [], ◌∷◌, ◌++◌, ℕ, ◌≤◌}
 use Rattle.field.specs.declared.InfixOp.{InfixOp}
 use Rattle.field.specs.declared.InfixOp.TheVariants.{Exponentiate}

@@ -1,4 +1,4 @@
--- The source record of a reading: its module, and the words that carry it. For a reader with document 02, request (ii), and document 01, "Source record".
+-- The source record of a reading: its module, and the words that carry it. For a reader with docs/RECORDS.md, "Rules as text" and "Source record", beside it.
 use Rattle.std.specs.Prelude.{List, [], ◌∷◌, ◌++◌, Bool, cond, ◌&&◌, ℕ, suc, ◌+◌, pos, leb, length}
 use Rattle.words.specs.Words.{bytes_of}
 use Rattle.field.specs.declared.InfixOp.TheVariants.{Equal}

@@ -1,4 +1,4 @@
--- What `rules` answers: a source record, or the first of the numbers 40, 41, 2 and 33. For a reader with document 02, request (ii), beside it.
+-- What `rules` answers: a source record, or the first of the numbers 40, 41, 2 and 33. For a reader with docs/RECORDS.md, "Rules as text", beside it.
 use Rattle.std.specs.Prelude.{List, [], ◌∷◌, Bool, true, false, cond, ℕ, suc, ◌+◌, ◌-◌, max, leb, eqb, length, None, Some, Result, Ok, Err}
 use Prim.Native.Char.{code}
 use Rattle.records.specs.declared.refusals.Refusal.{Refusal}

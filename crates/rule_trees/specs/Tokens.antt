@@ -1,4 +1,4 @@
--- The tokens of a text. For a reader with document 02, request (ii), beside it.
+-- The tokens of a text. For a reader with docs/RECORDS.md, "Rules as text", beside it.
 use Rattle.std.specs.Prelude.{◌≡◌, List, [], ◌∷◌, ◌++◌, Bool, true, false, not, ◌&&◌, ◌||◌, cond, ℕ, ◌+◌, ◌-◌, ◌*◌, leb, eqb, length, Option, None, Some}
 use Prim.Native.Char.{code}
 use Prim.Native.String.{String}

@@ -1,5 +1,5 @@
 -- `rule_entry::keeps_limits` meets its contract. Assumes nothing.
-use Rattle.std.proofs.Common.{refl, sym, ap, ◌∙◌}
+use Rattle.std.proofs.Common.{sym, ◌∙◌}
 use borrow.Author.Tests.{lt-leb}
 use Rattle.rule_entry.proofs.Deciding.{limits-kept, limits-broken, definitions-broken, true-false}
 use Rattle.rule_entry.proofs.keeps_limits.Goals as goal

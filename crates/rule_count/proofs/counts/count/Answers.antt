@@ -1,10 +1,7 @@
 -- `rule_count::counts::count` meets its contract. Assumes nothing.
-use mathlib.Core.Path.{◌≡◌, refl, sym, ap, subst, ◌∙◌}
 use native.Mathlib.Omega.{arith}
-use Rattle.std.specs.Prelude.{Some, None}
-use Rattle.rule_lex.specs.Lexed.{Lexes}
 use Rattle.rule_lex.proofs.Tokened.{goes-on}
-use Rattle.rule_count.proofs.Totals.{Counted, counted-start, counted-step, counted-end}
+use Rattle.rule_count.proofs.Totals.{counted-step, counted-end}
 use Rattle.rule_count.proofs.counts.count.Goals as goal
 
 pub loop-token-smaller : goal.loop-token-smaller

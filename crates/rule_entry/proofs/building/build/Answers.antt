@@ -1,6 +1,6 @@
 -- `rule_entry::building::build` meets its contract. Assumes nothing.
 use Rattle.std.proofs.Common.{arith}
-use Rattle.rule_entry.proofs.Starting.{Turning, begins, roomy, found, found-inside, turn, last_turn, given-names}
+use Rattle.rule_entry.proofs.Starting.{begins, roomy, found-inside, turn, last_turn, given-names}
 use Rattle.rule_entry.proofs.building.build.Goals as goal
 
 pub loop-token-init : goal.loop-token-init

@@ -1,4 +1,4 @@
-use Rattle.std.proofs.Common.{◌≡◌, ◌+◌, ◌*◌, ◌≤◌, length, drop}
+use Rattle.std.proofs.Common.{◌≡◌, ◌+◌, ◌*◌, drop}
 use Rattle.words.specs.Words.{set_words}
 use Rattle.rule_holding.specs.Holding.{pairs}
 use Rattle.rule_entry.proofs.writing.put_roots.Given as goal

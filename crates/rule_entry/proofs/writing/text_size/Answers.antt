@@ -1,6 +1,5 @@
 -- `rule_entry::writing::text_size` meets its contract. Assumes nothing.
 use Rattle.std.proofs.Common.{arith, refl, get_or}
-use Rattle.records.specs.SourceRecord.{NAME-BYTES}
 use Rattle.rule_lex.specs.declared.Span.{Span}
 use Rattle.rule_entry.specs.Written.{ShortSpan}
 use Rattle.rule_entry.proofs.Parts.{all-left, size-left, size-none}

@@ -1,10 +1,9 @@
 -- `rule_scan::stages::begin` meets its contract. Assumes nothing.
-use mathlib.Core.Path.{◌≡◌, sym, ap, subst, ◌∙◌}
-use Prim.Native.Nat.{ℕ, ◌+◌}
+use mathlib.Core.Path.{sym, ap, subst, ◌∙◌}
+use Prim.Native.Nat.{◌+◌}
 use lib.ListN.{get_or}
 use Rattle.std.specs.Prelude.{Option, Some, None}
 use Rattle.rule_trees.specs.Prefix.{begun}
-use Rattle.rule_trees.specs.Tokens.{class_of}
 use Rattle.rule_trees.specs.declared.Place.{Place}
 use Rattle.std.specs.Option.{option_map}
 use Rattle.rule_scan.specs.Stages.{stage_of}

@@ -1,6 +1,5 @@
 -- `rule_scan::stages::Stage::ended` meets its contract. Assumes nothing.
-use mathlib.Core.Path.{◌≡◌, sym, ap, ◌∙◌}
-use Rattle.std.specs.Prelude.{Option, Some, None}
+use mathlib.Core.Path.{sym, ap, ◌∙◌}
 use Rattle.std.specs.Option.{option_map}
 use Rattle.rule_trees.specs.Tokens.{word_token}
 use Rattle.rule_scan.specs.Kinds.{kind_of}

@@ -1,9 +1,8 @@
 -- `rule_scan::stages::Stage::next` meets its contract. Assumes nothing.
-use mathlib.Core.Path.{◌≡◌, sym, ap, subst, ◌∙◌}
+use mathlib.Core.Path.{sym, subst, ◌∙◌}
 use Prim.Native.Nat.{◌+◌}
 use lib.ListN.{get_or}
 use Rattle.rule_trees.specs.Prefix.{byte_step}
-use Rattle.rule_trees.specs.Tokens.{class_of}
 use Rattle.rule_scan.specs.Stages.{stage_of}
 use Rattle.rule_scan.proofs.Classes.{number-class, digit-byte}
 use Rattle.rule_scan.proofs.Steps.{Steps}

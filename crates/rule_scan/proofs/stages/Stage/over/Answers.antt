@@ -1,5 +1,5 @@
 -- `rule_scan::stages::Stage::over` meets its contract. Assumes nothing.
-use mathlib.Core.Path.{◌≡◌, sym, ap, ◌∙◌}
+use mathlib.Core.Path.{sym, ap, ◌∙◌}
 use Prim.Native.Nat.{◌+◌}
 use lib.ListN.{get_or}
 use Rattle.std.specs.Option.{option_map}
