@@ -7,7 +7,7 @@ use crate::NODE_WORDS;
 use words::word_at;
 
 // A node's words: its kind, and a, b and c.
-#[derive(Clone, Copy)]
+#[derive(Clone, Copy, Default)]
 pub struct NodeEntry {
     pub kind: u32,
     pub a: u32,

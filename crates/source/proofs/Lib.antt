@@ -5,6 +5,6 @@ pub mod Publics
 pub mod Nodes
 pub mod Accepted
 mod Worked
-mod Spans
-mod Written
+pub mod Spans
+pub mod Written
 pub mod ReadBack

@@ -33,7 +33,7 @@ use Rattle.records.specs.SourceRecord.{HEADER}
 
 -- ---- a test that holds of each index holds of all
 
-every_holds : (n : ℕ) (p : ℕ → Bool) → ((k : ℕ) → k < n → p k ≡ true) → every n p ≡ true
+pub every_holds : (n : ℕ) (p : ℕ → Bool) → ((k : ℕ) → k < n → p k ≡ true) → every n p ≡ true
 unfolding every
 every_holds zero p h = refl
 every_holds (suc n) p h = rw (every_holds n p (λ k l. h k (omega arith)), h n (omega arith))
@@ -60,19 +60,19 @@ module _ (b : List ℕ) (at names nodes list : ℕ) where
       let f : k + 0 ≡ k = omega arith in
       record { span = rw e (span_none b at names s); fits = λ h. rw f h; uses = λ j. rw f (omega arith); read = refl }
 
-  definition-fits : (k x y : ℕ) → (definition_entry b list k).pattern ≡ x → (definition_entry b list k).value ≡ y → pattern_fits b at nodes x ≡ true →
+  pub definition-fits : (k x y : ℕ) → (definition_entry b list k).pattern ≡ x → (definition_entry b list k).value ≡ y → pattern_fits b at nodes x ≡ true →
       expression_fits b at nodes y ≡ true → definitions_fit b at nodes list k ≡ true → definitions_fit b at nodes list (k + 1) ≡ true
   unfolding definitions_fit
   definition-fits k x y e f p q h =
       let fits : ℕ → Bool = λ i. pattern_fits b at nodes (definition_entry b list i).pattern && expression_fits b at nodes (definition_entry b list i).value in
       every_more k fits h (rw (e, f, p, q))
 
-  definition-uses : (k x y j : ℕ) → (definition_entry b list k).pattern ≡ x → (definition_entry b list k).value ≡ y →
+  pub definition-uses : (k x y j : ℕ) → (definition_entry b list k).pattern ≡ x → (definition_entry b list k).value ≡ y →
       by_definitions b list (k + 1) j ≡ by_definitions b list k j + (same x j + same y j)
   unfolding by_definitions
   definition-uses k x y j e f = total-more k (λ i. same (definition_entry b list i).pattern j + same (definition_entry b list i).value j) ∙ rw (e, f)
 
-  definition-read : (k x y : ℕ) {p : Pat} {z : Expr} → (definition_entry b list k).pattern ≡ x → (definition_entry b list k).value ≡ y →
+  pub definition-read : (k x y : ℕ) {p : Pat} {z : Expr} → (definition_entry b list k).pattern ≡ x → (definition_entry b list k).value ≡ y →
       (tree b at nodes x).pattern ≡ p → (tree b at nodes y).expression ≡ z → definition_at b at nodes list k ≡ (p, z)
   unfolding definition_at
   definition-read k x y e f p q = rw (e, f, p, q)
@@ -144,16 +144,16 @@ module _ (b : List ℕ) (at names nodes list : ℕ) where
       let f : k + 0 ≡ k = omega arith in
       record { span = rw e (span_none b at names s); fits = λ h. rw f h; uses = λ j. rw f (omega arith); read = refl }
 
-  expression-fits : (k x : ℕ) → expression_root b list k ≡ x → expression_fits b at nodes x ≡ true → expressions_fit b at nodes list k ≡ true →
+  pub expression-fits : (k x : ℕ) → expression_root b list k ≡ x → expression_fits b at nodes x ≡ true → expressions_fit b at nodes list k ≡ true →
       expressions_fit b at nodes list (k + 1) ≡ true
   unfolding expressions_fit
   expression-fits k x e p h = every_more k (λ i. expression_fits b at nodes (expression_root b list i)) h (rw e p)
 
-  expression-uses : (k x j : ℕ) → expression_root b list k ≡ x → by_expressions b list (k + 1) j ≡ by_expressions b list k j + same x j
+  pub expression-uses : (k x j : ℕ) → expression_root b list k ≡ x → by_expressions b list (k + 1) j ≡ by_expressions b list k j + same x j
   unfolding by_expressions
   expression-uses k x j e = total-more k (λ i. same (expression_root b list i) j) ∙ rw e
 
-  expression-read : (k x : ℕ) {z : Expr} → expression_root b list k ≡ x → (tree b at nodes x).expression ≡ z → expression_at b at nodes list k ≡ z
+  pub expression-read : (k x : ℕ) {z : Expr} → expression_root b list k ≡ x → (tree b at nodes x).expression ≡ z → expression_at b at nodes list k ≡ z
   unfolding expression_at
   expression-read k x e p = ap (λ (i : ℕ). (tree b at nodes i).expression) e ∙ p
 
@@ -318,31 +318,31 @@ module-is : (m : Module) {ns : List Text} {ps : List ℕ} {ds : List (Pat × Exp
     → xs ≡ m.expressions → record { names = ns; publics = ps; definitions = ds; expressions = xs } ≡ m
 module-is m p q r s = λ i. record { names = p i; publics = q i; definitions = r i; expressions = s i }
 
-from_zero : (b : List ℕ) (i : ℕ) (ws : List ℕ) → Holds b i ws → Holds b (i + 0) ws
+pub from_zero : (b : List ℕ) (i : ℕ) (ws : List ℕ) → Holds b i ws → Holds b (i + 0) ws
 from_zero b i ws h j l = let e : i + 0 + j ≡ i + j = omega arith in rw e (h j l)
 
 -- nothing of nothing
-no-nodes : (b : List ℕ) (at names : ℕ) → nodes_fit b at names 0 ≡ true
+pub no-nodes : (b : List ℕ) (at names : ℕ) → nodes_fit b at names 0 ≡ true
 unfolding nodes_fit
 no-nodes b at names = every-none _
 
-no-uses : (b : List ℕ) (at j : ℕ) → by_nodes b at 0 j ≡ 0
+pub no-uses : (b : List ℕ) (at j : ℕ) → by_nodes b at 0 j ≡ 0
 unfolding by_nodes total
 no-uses b at j = refl
 
-none-defined : (b : List ℕ) (at nodes list : ℕ) → definitions_fit b at nodes list 0 ≡ true
+pub none-defined : (b : List ℕ) (at nodes list : ℕ) → definitions_fit b at nodes list 0 ≡ true
 unfolding definitions_fit
 none-defined b at nodes list = every-none _
 
-no-definitions : (b : List ℕ) (list j : ℕ) → by_definitions b list 0 j ≡ 0
+pub no-definitions : (b : List ℕ) (list j : ℕ) → by_definitions b list 0 j ≡ 0
 unfolding by_definitions total
 no-definitions b list j = refl
 
-none-listed : (b : List ℕ) (at nodes list : ℕ) → expressions_fit b at nodes list 0 ≡ true
+pub none-listed : (b : List ℕ) (at nodes list : ℕ) → expressions_fit b at nodes list 0 ≡ true
 unfolding expressions_fit
 none-listed b at nodes list = every-none _
 
-no-expressions : (b : List ℕ) (list j : ℕ) → by_expressions b list 0 j ≡ 0
+pub no-expressions : (b : List ℕ) (list j : ℕ) → by_expressions b list 0 j ≡ 0
 unfolding by_expressions total
 no-expressions b list j = refl
 
@@ -400,6 +400,25 @@ module _ (m : Module) (w : Writable m) (b : List ℕ) (c0 : names b ≡ length m
     publics-back =
         ap (λ (i : ℕ). rows i 0 (public_at b (publics_offset b))) c1
         ∙ publics-read b (publics_offset b) 0 m.publics (from_zero b (publics_offset b) m.publics hu)
+
+  -- whatever the order of the nodes
+  pub lists-read-back : Holds b 5 (pair_words 0 m.names) → drop (text_offset b) b ≡ joined m.names → Holds b (publics_offset b) m.publics
+      → nodes_fit b (nodes_offset b) (names b) (nodes b) ≡ true → definitions_fit b (nodes_offset b) (nodes b) (definitions_offset b) (definitions b) ≡ true
+      → expressions_fit b (nodes_offset b) (nodes b) (expressions_offset b) (expressions b) ≡ true → used_once b ≡ true
+      → rows (definitions b) 0 (definition_at b (nodes_offset b) (nodes b) (definitions_offset b)) ≡ m.definitions
+      → rows (expressions b) 0 (expression_at b (nodes_offset b) (nodes b) (expressions_offset b)) ≡ m.expressions → source_of b ≡ Read.module-of m
+  unfolding shaped module_of
+  lists-read-back hp text hu nodes-good definitions-good expressions-good once ds xs =
+      let all-passed : Passed b = record {
+        header = header-long;
+        counts = counts-few;
+        lists = lists-whole;
+        names-fit = names-fit hp text;
+        names-differ = names-different hp text;
+        shapes = rw (nodes-good, publics-good hu, definitions-good, expressions-good);
+        used-once = once;
+      } in
+      accepts-passed b all-passed ∙ ap Read.module-of (module-is m (names-read hp text) (publics-back hu) ds xs)
 
   module _ (hd : Holds b (definitions_offset b) (definitions_words 0 m.definitions))
       (he : Holds b (expressions_offset b) (expressions_words (definitions_count m.definitions) m.expressions))
@@ -472,29 +491,13 @@ module _ (m : Module) (w : Writable m) (b : List ℕ) (c0 : names b ≡ length m
           no-expressions b (expressions_offset b) k,
         )))
 
-    module _ (hp : Holds b 5 (pair_words 0 m.names)) (text : drop (text_offset b) b ≡ joined m.names) (hu : Holds b (publics_offset b) m.publics) where
-      all-passed : Passed b
-      unfolding shaped
-      all-passed = record {
-        header = header-long;
-        counts = counts-few;
-        lists = lists-whole;
-        names-fit = names-fit hp text;
-        names-differ = names-different hp text;
-        shapes = rw (nodes-good, publics-good hu, definitions-good, expressions-good);
-        used-once = once;
-      }
-
-      module-back : module_of b ≡ m
-      unfolding module_of
-      module-back = module-is m (names-read hp text) (publics-back hu) definitions-back expressions-back
-
-      pub words-read-back : source_of b ≡ Read.module-of m
-      words-read-back = accepts-passed b all-passed ∙ ap Read.module-of module-back
+    pub words-read-back : Holds b 5 (pair_words 0 m.names) → drop (text_offset b) b ≡ joined m.names → Holds b (publics_offset b) m.publics
+        → source_of b ≡ Read.module-of m
+    words-read-back hp text hu = lists-read-back hp text hu nodes-good definitions-good expressions-good once definitions-back expressions-back
 
 -- ---- the record itself
 
-pairs-length : (o : ℕ) (ts : List Text) → length (pair_words o ts) ≡ NAME-WORDS * length ts
+pub pairs-length : (o : ℕ) (ts : List Text) → length (pair_words o ts) ≡ NAME-WORDS * length ts
 unfolding pair_words
 pairs-length o [] = refl
 pairs-length o (t ∷ ts) = omega (arith, pairs-length (o + length t) ts)
@@ -522,7 +525,7 @@ expressions-nodes s [] = refl
 expressions-nodes s (x ∷ xs) = simp length-append (omega (arith, expr-length s x, expressions-nodes (s + expr_count x) xs))
 
 -- words before text
-bytes-held : (ws text : List ℕ) → Holds (bytes_of ws ++ text) 0 ws
+pub bytes-held : (ws text : List ℕ) → Holds (bytes_of ws ++ text) 0 ws
 unfolding word_at
 bytes-held ws text j l =
     let z : 0 + j ≡ j = omega arith in
@@ -531,7 +534,7 @@ bytes-held ws text j l =
     let y : 4 * j + 0 ≡ 4 * j = omega arith in
     ap (word_at (bytes_of ws ++ text)) z ∙ rw (rw y at (f 0 (omega arith)), f 1 (omega arith), f 2 (omega arith), f 3 (omega arith)) (word_at-bytes_of ws j)
 
-moved : (b : List ℕ) (i k : ℕ) (ws : List ℕ) → i ≡ k → Holds b k ws → Holds b i ws
+pub moved : (b : List ℕ) (i k : ℕ) (ws : List ℕ) → i ≡ k → Holds b k ws → Holds b i ws
 moved b i k ws e h j l = ap (λ (n : ℕ). word_at b (n + j)) e ∙ h j l
 
 words-length : (m : Module) → length (record_words m) ≡

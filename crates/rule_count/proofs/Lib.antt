@@ -1,0 +1,3 @@
+pub mod Totals
+pub mod Tables
+pub mod Gathering

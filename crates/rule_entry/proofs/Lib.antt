@@ -1,0 +1,5 @@
+pub mod Parts
+pub mod Recording
+pub mod Starting
+pub mod Deciding
+pub mod Room

@@ -1,0 +1,2 @@
+// What the desk holds of a reading, token by token.
+#![tactic(auto)]

@@ -1,0 +1,6 @@
+pub mod Back
+pub mod Texts
+pub mod Forms
+pub mod Sayings
+pub mod Rows
+pub mod Whole

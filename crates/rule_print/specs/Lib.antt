@@ -1,0 +1,5 @@
+pub mod Modules
+pub mod Statements
+pub mod Texts
+pub mod Listed
+pub mod Printed

@@ -1,0 +1,3 @@
+pub mod Kinds
+pub mod Stages
+pub mod Scan

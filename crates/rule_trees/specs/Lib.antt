@@ -1,0 +1,12 @@
+pub mod Tokens
+pub mod Grammar
+pub mod Reading
+pub mod Judge
+pub mod Prefix
+pub mod Record
+pub mod Rules
+pub mod Print
+pub mod Writing
+pub mod Statements
+pub mod Cases
+pub mod AnswerCases
