@@ -21,6 +21,6 @@ unfolding update on_values negated is_answer is_whole number_of halves ends is_n
 rules_of m ρ = sides (Meaning.defined (start ρ) m.definitions) m.expressions
 
 unfoldable pub plain_of : Module → Bool
-unfolding is_plain is_plain_body is_arithmetic is_free is_plain_name is_plain_pattern is_plain_expr is_equal is_plain_equation are_plain_publics are_plain_definitions
-    are_plain_equations found same_text named registered
+unfolding is_plain is_plain_body is_arithmetic is_free is_plain_name is_plain_pattern is_plain_expr is_equal is_plain_equation are_plain_publics
+    are_plain_definitions are_plain_equations found same_text named registered
 plain_of m = is_plain m

@@ -78,7 +78,8 @@ module _ {F : ℕ → Type 0} where
   number-equates {a} b s u y ta tb e =
       then-case (refuse_if (not (is_number a && is_number b)) 16) _ s y u e λ o s0 zeroth e0.
       then-case (make 1) _ s y u (past (not (is_number a && is_number b)) 16 _ s y u e) λ o1 s1 first e1.
-      let n = both_true (is_number a) (is_number b) (not-false (is_number a && is_number b) (passed (not (is_number a && is_number b)) 16 s o s0 zeroth).test) in
+      let t = (passed (not (is_number a && is_number b)) 16 s o s0 zeroth).test in
+      let n = both_true (is_number a) (is_number b) (not-false (is_number a && is_number b) t) in
       numbers-equated a b s s1 u ta (tree-term n.1 tb) (make_same 1 s o1 s1 first) (equation-back a b s1 y u e1)
 
   -- nil and nil

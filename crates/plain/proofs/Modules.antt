@@ -144,7 +144,8 @@ module _ (B : ℕ → Bool) (N : ℕ) (beyond : (x : ℕ) → N ≤ x → B x �
         equations = refl;
         says = λ t τ a n. record { agree = a; valued = tt };
       })
-  definitions-kept {F} {Γ} {lo = lo} {hi = hi} l s u y (definition {p = p} {v = d} {ds = ds} sd more) (spans_definition {one = one} {two = two} sa sp rest) hn e k f i =
+  definitions-kept {F} {Γ} {lo = lo} {hi = hi} l s u y (definition {p = p} {v = d} {ds = ds} sd more) (spans_definition {one = one} {two = two} sa sp rest)
+      hn e k f i =
       then-case (evaluate_def l (p, d)) _ s y u e λ o s2 whole e2.
       bind-case (evaluate_binding (evaluate l) p d empty) _ s o s2 whole λ env v first e1.
       bind-case (evaluate l d) _ s env v first λ w s1 zeroth e0.
@@ -318,7 +319,7 @@ module _ (B : ℕ → Bool) (N : ℕ) (beyond : (x : ℕ) → N ≤ x → B x �
         ids = tt;
         says = λ t τ a n. record { valued = a.valued; sides = refl; whole = tt };
       })
-  equations-kept {F} {Γ} {lo = lo} {hi = hi} l s u y (equation {a = a} {b = b} {es = es} p q more) (spans_equation {one = mid} {two = two} sp sq rest) hn e k f i =
+  equations-kept {F} {Γ} {lo = lo} {hi = hi} l s u y (equation {a = a} {b = b} {es = es} p q more) (spans_equation {two = two} sp sq rest) hn e k f i =
       then-case (evaluate l (binary Equal a b)) _ s y u e λ o s1 first e1.
       let x = equation-kept l a b s s1 o p q sp sq (le_trans (equations-le rest) hn) first k f i in
       let z = equations-kept l s1 u y more rest hn e1 x.tidy (λ v h. open-later B N beyond v x.later x.bindings (f v h))

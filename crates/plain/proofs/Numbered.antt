@@ -321,8 +321,8 @@ module _ (B : ℕ → Bool) where
       let v' = all_split Bound (pattern_ids n) (binders d) v.1 in
       spans_let (expr-spans lo w.0 p w.1 v.0) (pattern-spread w.0 w'.0 pp w'.1 v'.0) (expr-spans w'.0 hi q w'.2 v'.1)
 
-  pub definitions-spans : {ds : List (Pat × Expr)} (lo hi : ℕ) → PlainDefinitions Any ds → Rises lo (definition_binders ds) hi → All Bound (definition_binders ds)
-      → SpansDefinitions B lo ds hi
+  pub definitions-spans : {ds : List (Pat × Expr)} (lo hi : ℕ) → PlainDefinitions Any ds → Rises lo (definition_binders ds) hi
+      → All Bound (definition_binders ds) → SpansDefinitions B lo ds hi
   unfolding definition_binders
   definitions-spans lo hi p_none r b = spans_none r
   definitions-spans lo hi (p_definition {p = n} {v = c} {ds = ds} pp p more) r b =

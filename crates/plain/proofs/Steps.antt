@@ -230,7 +230,8 @@ module _ (B : ℕ → Bool) (N : ℕ) (beyond : (x : ℕ) → N ≤ x → B x �
           let result : Val.number (infix_of P o (elem P m) (elem P n)) ≡ num k = ap Val.number (ap₂ (infix_of P o) cm cn ∙ q) in
           subst (Made B N beyond lo s u (binary o (constant m) (constant n))) b.value (record {
             shape = counted B N beyond h w (of_term (of_constant ck));
-            says = λ t c r z hz. counted-says B N beyond t (now t s) (binary o (constant m) (constant n)) h r (of_term (of_constant ck)) (ap num ck ∙ sym result);
+            says = λ t c r z hz.
+                counted-says B N beyond t (now t s) (binary o (constant m) (constant n)) h r (of_term (of_constant ck)) (ap num ck ∙ sym result);
           })
 
   infix-defined : (ev : Expr → Run Expr) (lo : ℕ) (o : InfixOp) {a b : Expr} (s u : State) (v : Expr) → Term (Open B N beyond s) a → Term (Open B N beyond s) b

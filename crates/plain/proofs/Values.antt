@@ -134,7 +134,8 @@ unfolding joined value number_of
 joined-value σ o none b u v f p q e = absurd (none-some f e)
 joined-value σ o (some a) none u v f p q e = absurd (none-some f e)
 joined-value σ o (some a) (some b) u v f p q e =
-    ap₂ (λ (u v : Val). Val.number (on_values o (number_of u) (number_of v))) (p a refl) (q b refl) ∙ ap (λ (f : Flat). Val.number (value σ f)) (some-path _ f e)
+    ap₂ (λ (u v : Val). Val.number (on_values o (number_of u) (number_of v))) (p a refl) (q b refl)
+    ∙ ap (λ (f : Flat). Val.number (value σ f)) (some-path _ f e)
 
 opposed-value : (σ : Assignment) (a : Option Flat) (u : Val) (f : Flat) → ((g : Flat) → a ≡ some g → u ≡ Val.number (value σ g))
     → opposed a ≡ some f → Val.number (negated (number_of u)) ≡ Val.number (value σ f)
@@ -228,7 +229,8 @@ cond-case false u v Q f g = g refl
 pub binary-value : (t : Table) (o : InfixOp) (a b : Expr) (x y z : ℤ) → value_of t a ≡ num x → value_of t b ≡ num y → infix_of P o x y ≡ Some z
     → value_of t (binary o a b) ≡ num z
 unfolding value_of
-binary-value t o a b x y z p q e = ap Val.number (on_values_lem o (number_of (value_of t a)) (number_of (value_of t b)) x y (number-of _ x p) (number-of _ y q) ∙ e)
+binary-value t o a b x y z p q e =
+    ap Val.number (on_values_lem o (number_of (value_of t a)) (number_of (value_of t b)) x y (number-of _ x p) (number-of _ y q) ∙ e)
 
 -- infix_op keeps the value
 module _ (t : Table) (a b : Expr) (x y z : ℤ) (p : value_of t a ≡ num x) (q : value_of t b ≡ num y) (cx : elem P x ≡ x) (cy : elem P y ≡ y) where

@@ -17,8 +17,8 @@ use Rattle.source.specs.Forms.{on_infix}
 use Rattle.flat.specs.Rules.{All}
 use Rattle.flat.specs.Meaning.{update, on_values, negated}
 use Rattle.numbering.specs.Numbering.{Ids, registered}
-use Rattle.plain.specs.Plain.{is_arithmetic, is_plain_name, is_plain_pattern, is_plain_expr, is_equal, is_plain_equation, are_plain_definitions, are_plain_equations}
-use Rattle.plain.specs.Plain.{is_plain_body}
+use Rattle.plain.specs.Plain.{is_arithmetic, is_plain_name, is_plain_pattern, is_plain_expr, is_equal, is_plain_equation}
+use Rattle.plain.specs.Plain.{are_plain_definitions, are_plain_equations, is_plain_body}
 use Rattle.plain.specs.Values.{Val, is_answer, is_whole, number_of, components}
 use Rattle.plain.specs.Meaning.{Equal-sides}
 use Rattle.plain.specs.Meaning
