@@ -153,11 +153,11 @@ unused = record {
 }
 
 pub left-aside : NoDivisorZero unused (λ n. pos 5) → ⊥
-unfolding answer_of update on_values write value_of Meaning.defined NotZeroInEquation
+unfolding answer_of rules_of
 left-aside h =
     let valued = h.0.0.2 in
     nothing-value valued.0 valued.1
 
 pub not-left-aside : NoDivisorZero unused (λ n. pos 0)
-unfolding answer_of update on_values write value_of Meaning.defined NotZeroInEquation
+unfolding answer_of rules_of
 not-left-aside = (((tt, tt, (_, refl)), tt), tt)
