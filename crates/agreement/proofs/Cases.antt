@@ -7,7 +7,6 @@ use Rattle.field.specs.declared.InfixOp.TheVariants.{Divide, DivideZ, Multiply, 
 use Rattle.flat.specs.Trees.{Flat, Definition}
 use Rattle.constraint.specs.declared.Term.{Term}
 use Rattle.constraint.specs.Trees.{Side, Equality}
-use Rattle.pass_trees.specs.Passes
 use Rattle.pass_trees.specs.Passes.{Outcome, cut, refused}
 use Rattle.eval_trees.proofs.Cases.{Case, cases}
 use Rattle.flat.specs.Places.{bare_definitions}

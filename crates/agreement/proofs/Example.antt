@@ -13,7 +13,6 @@ use Rattle.field.proofs.Primality.{P-prime}
 use Rattle.field.proofs.Values.{not-zero-value, add-answer, multiply-answer, has-value-where}
 use Rattle.constraint.specs.declared.Term.{Term}
 use Rattle.constraint.specs.Trees.{Side, ConstraintModule}
-use Rattle.pass_trees.specs.Passes
 use Rattle.pass_trees.specs.Passes.{cut}
 use Rattle.plain.specs.Meaning.{NoDivisorZero}
 use Rattle.plain.proofs.Compute.{rules_of}

@@ -13,7 +13,6 @@ use Rattle.field.proofs.Answers.{nothing-value}
 use Rattle.std.specs.Prelude.{Some}
 use Rattle.field.specs.declared.InfixOp.TheVariants.{Divide, DivideZ, Multiply, Add, Subtract, Equal, Exponentiate, IntDivide, Modulo}
 use Rattle.source.specs.Trees.{variable_p, Expr, binary, negate, constant, variable, letting, Module}
-use Rattle.pass_trees.specs.Passes
 use Rattle.pass_trees.specs.Passes.{Outcome, cut, refused}
 use Rattle.eval_trees.proofs.Compute.{answer_of}
 use Rattle.plain.specs.Plain.{is_plain}

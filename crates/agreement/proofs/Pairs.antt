@@ -12,7 +12,6 @@ use Rattle.field.proofs.Primality.{P-prime}
 use Rattle.field.proofs.Values.{not-zero-value, add-answer, subtract-answer, has-value-where}
 use Rattle.constraint.specs.declared.Term.{Term}
 use Rattle.constraint.specs.Trees.{Side, ConstraintModule}
-use Rattle.pass_trees.specs.Passes
 use Rattle.pass_trees.specs.Passes.{cut}
 use Rattle.plain.specs.Meaning.{NoDivisorZero}
 use Rattle.plain.proofs.Compute.{rules_of}
@@ -45,7 +44,7 @@ is_cut = refl
 -- it has no divisor
 no-divisor : (ρ : ℕ → ℤ) → NoDivisorZero shifts ρ
 unfolding rules_of
-no-divisor ρ = ((((tt, tt, (_, add-answer P (ρ 0) (ρ 1))), (tt, tt, (_, subtract-answer P (ρ 0) (ρ 1)))), tt), (((tt, tt), (tt, tt)), tt))
+no-divisor ρ = ((((tt, tt, (_, add-answer P (ρ 4) (ρ 5))), (tt, tt, (_, subtract-answer P (ρ 4) (ρ 5)))), tt), (((tt, tt), (tt, tt)), tt))
 
 pub shifts-agree : (ρ : ℕ → ℤ) → ((x : ℕ) → elem P (ρ x) ≡ ρ x) → Agrees shifts equalities ρ
 shifts-agree ρ elements = agreement shifts (plain-has-plain-body shifts shifts-plain) 65535 equalities is_cut ρ elements (no-divisor ρ)

@@ -13,7 +13,7 @@ use Rattle.source.specs.Trees.{Pat, Expr, product, cons, Env, empty}
 use Rattle.flat.specs.Trees.{Definition, defines}
 use Rattle.flat.specs.Meaning.{Assignment, update}
 use Rattle.numbering.specs.Inputs.{member, binding}
-use Rattle.eval_trees.specs.Environments.{look_up, Options, kept, present}
+use Rattle.eval_trees.specs.Environments.{look_up, Options, present}
 use Rattle.eval_trees.specs.State.{State, gives, Run}
 use Rattle.eval_trees.specs.Expand.{expand_pattern_variables}
 use Rattle.eval_trees.specs.Flatten.{flatten_binding}

@@ -1,10 +1,9 @@
 -- Two values are equal, with every element there, just if every component is.
 use mathlib.Core.Path.{◌≡◌, refl, sym, ap, ap₂, subst, ◌∙◌}
-use mathlib.Core.Bool.{Bool, true, false, cond, ◌&&◌}
+use mathlib.Core.Bool.{true, cond, ◌&&◌}
 use mathlib.Core.List.{List, [], ◌∷◌, ◌++◌}
-use lib.IntN.{ℤ}
 use Rattle.field.specs.Operations.{Answer}
-use Rattle.std.specs.Prelude.{Some, None}
+use Rattle.std.specs.Prelude.{None}
 use Rattle.field.proofs.Answers.{nothing-value}
 use Rattle.flat.specs.Rules.{All}
 use Rattle.plain.specs.Values.{Val, is_answer, is_whole, number_of, halves, ends, is_nil, components}

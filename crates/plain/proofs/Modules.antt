@@ -32,7 +32,7 @@ use Rattle.plain.specs.Meaning.{DefinitionsValued, EquationsValued}
 use Rattle.plain.specs.Meaning
 use Rattle.plain.proofs.Values.{false-true, table}
 use Rattle.plain.proofs.Terms.{run, RunValued, now, Scoped, Spread, spread-le, Spans, spans-le}
-use Rattle.plain.proofs.Ordering.{defines-head, defines-tail, defines-case, not-true, From, Ordered, OnceInOrder, order}
+use Rattle.plain.proofs.Ordering.{defines-head, defines-tail, defines-case, not-true, From, OnceInOrder, order}
 use Rattle.plain.proofs.States.{Input, Settled, Open, Tidy, Later, Alike, Shape, InScope, Agree, Kept, settled-later, open-later}
 use Rattle.plain.proofs.States.{later-trans, later-refl, later-by, later-same, alike-refl, alike-trans}
 use Rattle.plain.proofs.States.{tidy-up, tidy-by, tree-later, tree-kept}

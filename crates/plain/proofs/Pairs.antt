@@ -19,17 +19,17 @@ use Rattle.plain.proofs.Compute.{rules_of, plain_of}
 
 -- ---- a rule for up and one for down: pub a, b; def (up, down) = (s + t, s - t); (up, down) = (a, b)
 
--- s is name 0, t 1, up 2, down 3, a 4, b 5
+-- a is name 0, b 1, up 2, down 3, s 4, t 5
 abbrev pub shifts : Module
 shifts = record {
-  names = (115 ∷ []) ∷ (116 ∷ []) ∷ (117 ∷ []) ∷ (100 ∷ []) ∷ (97 ∷ []) ∷ (98 ∷ []) ∷ [];
-  publics = 4 ∷ 5 ∷ [];
+  names = (97 ∷ []) ∷ (98 ∷ []) ∷ (117 ∷ 112 ∷ []) ∷ (100 ∷ 111 ∷ 119 ∷ 110 ∷ []) ∷ (115 ∷ []) ∷ (116 ∷ []) ∷ [];
+  publics = 0 ∷ 1 ∷ [];
   definitions = (
     product_p (variable_p 2) (variable_p 3),
-    product (binary Add (variable 0) (variable 1)) (binary Subtract (variable 0) (variable 1)),
+    product (binary Add (variable 4) (variable 5)) (binary Subtract (variable 4) (variable 5)),
   )
       ∷ [];
-  expressions = binary Equal (product (variable 2) (variable 3)) (product (variable 4) (variable 5)) ∷ [];
+  expressions = binary Equal (product (variable 2) (variable 3)) (product (variable 0) (variable 1)) ∷ [];
 }
 
 -- a is v9, b v10, s v11, t v12
@@ -58,24 +58,24 @@ pub shifts-makes : evaluated 65535 (numbered shifts) ≡ flat shifts-made
 unfolding answer_of
 shifts-makes = refl
 
--- s = 5 and t = 2: up is 7 and down 3
-pub shifting : ℕ → ℤ → ℕ → ℤ
-shifting x z y = cond (eqb y x) z (cond (eqb y 0) (pos 5) (cond (eqb y 1) (pos 2) (cond (eqb y 4) (pos 7) (pos 3))))
+-- s = 5 and t = 2, so that up is 7 and down 3; a = 7, and b as given
+pub shifting : ℤ → ℕ → ℤ
+shifting b x = cond (eqb x 1) b (cond (eqb x 4) (pos 5) (cond (eqb x 5) (pos 2) (pos 7)))
 
-shifts-hold : rules_of shifts (shifting 5 (pos 3)) ≡ (Some (pos 7), Some (pos 7)) ∷ (Some (pos 3), Some (pos 3)) ∷ []
+shifts-hold : rules_of shifts (shifting (pos 3)) ≡ (Some (pos 7), Some (pos 7)) ∷ (Some (pos 3), Some (pos 3)) ∷ []
 unfolding answer_of rules_of shifting
 shifts-hold = refl
 
-pub shifts-fulfilled : Holds shifts (shifting 5 (pos 3))
+pub shifts-fulfilled : Holds shifts (shifting (pos 3))
 unfolding answer_of rules_of shifting
 shifts-fulfilled = ((pos 7, refl, refl), ((pos 3, refl, refl), tt))
 
 -- one component that fails is enough: b = 4
-shifts-fail : rules_of shifts (shifting 5 (pos 4)) ≡ (Some (pos 7), Some (pos 7)) ∷ (Some (pos 3), Some (pos 4)) ∷ []
+shifts-fail : rules_of shifts (shifting (pos 4)) ≡ (Some (pos 7), Some (pos 7)) ∷ (Some (pos 3), Some (pos 4)) ∷ []
 unfolding answer_of rules_of shifting
 shifts-fail = refl
 
-pub shifts-not-fulfilled : Holds shifts (shifting 5 (pos 4)) → ⊥
+pub shifts-not-fulfilled : Holds shifts (shifting (pos 4)) → ⊥
 unfolding answer_of rules_of shifting
 shifts-not-fulfilled h =
     let w = h.1.0 in
