@@ -226,7 +226,7 @@ module _ (m : Module) (plain : is_plain_body m ≡ true) where
       );
     }
 
-    module _ (ρ : ℕ → ℤ) (no_zero : NoDivisorZero m ρ) (υ : Assignment) (υ-elements : Elements υ) (gives : Gives m ρ υ) where
+    module _ (ρ : ℕ → ℤ) (no_zero : NoDivisorZero m ρ) (υ : Assignment) (gives : Gives m ρ υ) where
       agreed : Pointwise (Agreed (start ρ) (table υ)) (inputs m) (input_ids (numbered m))
       agreed = pointwise-map (λ x i h. ap num h) (inputs m) (input_ids (numbered m)) gives
 
@@ -234,14 +234,19 @@ module _ (m : Module) (plain : is_plain_body m ≡ true) where
       unfolding found
       nothing_bound = record { local = λ x i h. absurd (none-some i h); names = λ x h. refl; ids = λ i h. refl }
 
-      record Evaluated : Type 0 where
-        pub in-turn : InTurnValued υ f.definitions
-        pub same-sides : flat_sides (worked_out f.definitions υ) f.equations ≡ sides (Meaning.defined (start ρ) m.definitions) m.expressions
-        pub valued : AllValued m ρ
+      -- the numbered module under υ and the module under ρ
+      record Meant : Type 0 where
+        pub definitions-not-zero : Meaning.NotZeroInDefinitions (table υ) (numbered m).definitions
+        pub equations-not-zero : Rules.All (Meaning.NotZeroInEquation (Meaning.defined (table υ) (numbered m).definitions)) (numbered m).expressions
+        pub same-sides : sides (Meaning.defined (table υ) (numbered m).definitions) (numbered m).expressions
+            ≡ sides (Meaning.defined (start ρ) m.definitions) m.expressions
+        pub definitions-valued : Meaning.DefinitionsValued (table υ) (numbered m).definitions → Meaning.DefinitionsValued (start ρ) m.definitions
+        pub equations-valued : Meaning.EquationsValued (Meaning.defined (table υ) (numbered m).definitions) (numbered m).expressions
+            → Meaning.EquationsValued (Meaning.defined (start ρ) m.definitions) m.expressions
 
-      kept : Evaluated
+      meant : Meant
       unfolding numbered number_module_variables ◌>>=◌ return inputs input_ids free_in_module
-      kept =
+      meant =
           let g = (number_publics m.publics (registered m.names)).1 in
           let p = publics-step m.publics (registered m.names) (registered-well m.names) in
           let ds = definitions-step m.definitions [] [] [] g p.grown.well (empty-scope g) in
@@ -251,31 +256,43 @@ module _ (m : Module) (plain : is_plain_body m ≡ true) where
           definitions-mean definitions-plain [] [] [] g (start ρ) (table υ) (start ρ) (table υ) p.grown.well (empty-scope g) nothing_bound k.0 in
           let em = equations-mean equations-plain (defining m.definitions []) _ _ _ (Meaning.defined (start ρ) m.definitions)
           (Meaning.defined (table υ) (numbered m).definitions) (start ρ) (table υ) ds.step.grown.well ds.scope dm.means k.1 in
-          let u = evaluated-back capacity (numbered m) f e in
-          let made = bare-kept.says υ υ-elements (dm.not-zero no_zero.0) (em.not-zero no_zero.1) in
-          let kp = subst (Modules.Worked bound N beyond υ _ _) (sym u.is) (kept-placed bound N beyond _ _ υ _ _ u.made made) in
           record {
-            in-turn = kp.in-turn;
-            same-sides = kp.same-sides ∙ em.means;
-            valued = (dm.valued kp.definitions-valued, em.valued kp.equations-valued);
+            definitions-not-zero = dm.not-zero no_zero.0;
+            equations-not-zero = em.not-zero no_zero.1;
+            same-sides = em.means;
+            definitions-valued = dm.valued;
+            equations-valued = em.valued;
           }
 
-      pub says-the-same : SaysTheSame m ρ f υ (worked_out f.definitions υ)
-      says-the-same =
+      -- all values are there, whatever υ is
+      pub valued : AllValued m ρ
+      valued =
+          let v = bare-kept.valued υ meant.definitions-not-zero meant.equations-not-zero in
+          (meant.definitions-valued v.0, meant.equations-valued v.1)
+
+      kept : Elements υ → Modules.Worked bound N beyond υ (numbered m).definitions (numbered m).expressions f
+      kept υ-elements =
+          let u = evaluated-back capacity (numbered m) f e in
+          subst (Modules.Worked bound N beyond υ _ _) (sym u.is)
+          (kept-placed bound N beyond _ _ υ _ _ u.made (bare-kept.says υ υ-elements meant.definitions-not-zero meant.equations-not-zero))
+
+      pub says-the-same : Elements υ → SaysTheSame m ρ f υ (worked_out f.definitions υ)
+      says-the-same υ-elements =
+          let k = kept υ-elements in
+          let same = k.same-sides ∙ meant.same-sides in
           let r = sides-hold (worked_out f.definitions υ) f.equations in
           record {
             elements = worked-elements f.definitions υ υ-elements;
             inputs-kept = λ i h. worked-keeps f.definitions υ i (plain_flat.inputs-undefined i h).1;
-            no-zero-divisor = no-zero-in-turn f.definitions υ kept.in-turn;
-            definitions-hold = definitions-hold f.definitions υ plain_flat.well-formed.ordered kept.in-turn;
-            equations-agree =
-                ((λ h. r.0 (subst (Rules.All Equal-sides) (sym kept.same-sides) h)), (λ h. subst (Rules.All Equal-sides) kept.same-sides (r.1 h)));
+            no-zero-divisor = no-zero-in-turn f.definitions υ k.in-turn;
+            definitions-hold = definitions-hold f.definitions υ plain_flat.well-formed.ordered k.in-turn;
+            equations-agree = ((λ h. r.0 (subst (Rules.All Equal-sides) (sym same) h)), (λ h. subst (Rules.All Equal-sides) same (r.1 h)));
           }
 
 -- THE THEOREM
 pub plain-modules-agree : PlainModulesAgree
 plain-modules-agree m plain capacity f e =
-    (plain_flat m plain capacity f e, (λ ρ elements no_zero υ υ-elements gives. says-the-same m plain capacity f e ρ no_zero υ υ-elements gives))
+    (plain_flat m plain capacity f e, (λ ρ elements no_zero υ υ-elements gives. says-the-same m plain capacity f e ρ no_zero υ gives υ-elements))
 
 -- ---- the inputs' elements by id, 0 elsewhere
 
@@ -302,6 +319,5 @@ by-id-gives m ρ =
 
 -- an accepted module in which no divisor is zero has all its values
 pub all-valued : (m : Module) → is_plain_body m ≡ true → (capacity : ℕ) (f : FlatModule) → evaluated capacity (numbered m) ≡ flat f
-    → (ρ : ℕ → ℤ) → ((x : ℕ) → elem P (ρ x) ≡ ρ x) → NoDivisorZero m ρ → AllValued m ρ
-all-valued m plain capacity f e ρ elements no_zero =
-    (kept m plain capacity f e ρ no_zero (by-id m ρ) (by-id-elements m ρ elements) (by-id-gives m ρ)).valued
+    → (ρ : ℕ → ℤ) → NoDivisorZero m ρ → AllValued m ρ
+all-valued m plain capacity f e ρ no_zero = valued m plain capacity f e ρ no_zero (by-id m ρ) (by-id-gives m ρ)

@@ -27,8 +27,9 @@ use Rattle.plain.specs.Meaning.{Table, write, value_of}
 use Rattle.plain.proofs.Values.{false-true, num, table, update_same, update_other}
 use Rattle.plain.proofs.Terms.{of_term, run, RunValued, now, Tree, of_pair, of_cons, tree-map, Spread, spread_variable, spread_nil}
 use Rattle.plain.proofs.Terms.{spread_pair, spread_cons, spread-le}
+use Rattle.plain.proofs.Fits.{Fits, fits-as, pair-fits, cons-fits}
 use Rattle.plain.proofs.Ordering.{Ordered}
-use Rattle.plain.proofs.States.{expr-path, Input, Settled, Open, Tidy, Later, Stands, InScope, Agree, settled-later}
+use Rattle.plain.proofs.States.{expr-path, Input, Settled, Open, Tidy, Later, Stands, InScope, Agree, Suits, settled-later}
 use Rattle.plain.proofs.States.{tree-kept, found-tree}
 use Rattle.plain.proofs.Patterns.{Within, matched, match-fits, matched-stay, matched-distinct, capture-tree, Block, flatten-fits}
 use Rattle.plain.proofs.Expansion.{Covers, cov_variable, cov_nil, cov_pair, cov_cons, Expanded, pattern-expanded}
@@ -68,6 +69,26 @@ written E σ v τ Γ (cov_pair {p = p} c d) q f x u m e =
 written E σ v τ Γ (cov_cons {p = p} c d) q f x u m e =
     written E σ (ends v).1 (write p (ends v).0 τ) (binding p Γ) d (ap (λ (v : Val). (ends v).1) q)
     (written E σ (ends v).0 τ Γ c (ap (λ (v : Val). (ends v).0) q) f) x u m e
+
+-- and where a value fits, what it writes fits
+fitting : (E : ℕ → Option Expr) {p : Pat} {w : Expr} (v : Val) (τ : Table) (Γ : List ℕ) → Covers E p w → Fits v w
+    → ((x : ℕ) (u : Expr) → member x Γ ≡ true → E x ≡ some u → Fits (τ x) u)
+    → (x : ℕ) (u : Expr) → member x (binding p Γ) ≡ true → E x ≡ some u → Fits (write p v τ x) u
+unfolding write binding member halves ends
+fitting E v τ Γ (cov_variable {x = y} {w = w} c) q f x u m e = go (eqb x y) refl m
+  where
+    go : (b : Bool) → eqb x y ≡ b → (b || member x Γ) ≡ true → Fits (update τ y v x) u
+    go true b m =
+        let z = eqb-true x y b in
+        subst (Fits (update τ y v x)) (expr-path w u (sym c ∙ sym (ap E z) ∙ e)) (fits-as (ap (update τ y v) z ∙ update_same τ y v) q)
+    go false b m = fits-as (update_other τ y v x (eqb-false x y b)) (f x u m e)
+fitting E v τ Γ cov_nil q f x u m e = f x u m e
+fitting E v τ Γ (cov_pair {p = p} c d) q f x u m e = pair-fits q _ (λ v1 v2 z a b.
+    fitting E (halves v).1 (write p (halves v).0 τ) (binding p Γ) d (fits-as (ap (λ (v : Val). (halves v).1) z) b)
+    (fitting E (halves v).0 τ Γ c (fits-as (ap (λ (v : Val). (halves v).0) z) a) f) x u m e)
+fitting E v τ Γ (cov_cons {p = p} c d) q f x u m e = cons-fits q _ (λ v1 v2 z a b.
+    fitting E (ends v).1 (write p (ends v).0 τ) (binding p Γ) d (fits-as (ap (λ (v : Val). (ends v).1) z) b)
+    (fitting E (ends v).0 τ Γ c (fits-as (ap (λ (v : Val). (ends v).0) z) a) f) x u m e)
 
 -- other ids are as they were
 pub write-other : {B : ℕ → Bool} {lo hi : ℕ} {p : Pat} (x : ℕ) (v : Val) (τ : Table) → Spread B lo p hi → B x ≡ false → write p v τ x ≡ τ x
@@ -247,16 +268,16 @@ module _ (B : ℕ → Bool) (N : ℕ) (beyond : (x : ℕ) → N ≤ x → B x �
     tree : Tree (Open B N beyond u) w
     tree = tree-map entered-open t
 
+    low-out : (x : ℕ) → x < lo → Within B lo hi s.next v.next x → ⊥
+    low-out x h (inl q) = omega (arith, q.1)
+    low-out x h (inr q) = omega (arith, q.0, spread-le sp, k.above)
+
     pub entered-scope : (Γ : List ℕ) → InScope B N beyond lo Γ s → InScope B N beyond hi (binding p Γ) u
     entered-scope Γ i = covered u Γ names sp tree (record {
       inside = λ x m.
           let o = i.inside x m in
           record { by = o.by; found = others x (low-out x o.low) ∙ o.found; tree = tree-map entered-open o.tree; low = o.low };
     })
-      where
-        low-out : (x : ℕ) → x < lo → Within B lo hi s.next v.next x → ⊥
-        low-out x h (inl q) = omega (arith, q.1)
-        low-out x h (inr q) = omega (arith, q.0, spread-le sp, k.above)
 
     pub entered-valued : (t : Assignment) → RunValued t s.definitions → RunValued t u.definitions
     entered-valued t h = subst (RunValued t) (sym ds) (b.valued t h)
@@ -273,7 +294,11 @@ module _ (B : ℕ → Bool) (N : ℕ) (beyond : (x : ℕ) → N ≤ x → B x �
           tree-kept B N beyond a entered-later (found-tree B N beyond i x e m before) ∙ g.inside x e m before);
       free = λ x h. ap num (entered-later.kept a x (f x h).settled) ∙ g.free x h ∙ sym (write-other x c τ sp (f x h).settled.free);
     }
-      where
-        low-out : (x : ℕ) → x < lo → Within B lo hi s.next v.next x → ⊥
-        low-out x h (inl q) = omega (arith, q.1)
-        low-out x h (inr q) = omega (arith, q.0, spread-le sp, k.above)
+
+    pub entered-suits : {F : ℕ → Type 0} (Γ : List ℕ) (τ : Table) (c : Val) → ((x : ℕ) → F x → Open B N beyond s x) → InScope B N beyond lo Γ s → Fits c w
+        → Suits B N beyond F Γ τ s → Suits B N beyond F (binding p Γ) (write p c τ) u
+    entered-suits Γ τ c f i q g = record {
+      inside = fitting (λ x. look_up x u.bindings) c τ Γ names q
+          (λ x e m h. let o = i.inside x m in g.inside x e m (sym (others x (low-out x o.low)) ∙ h));
+      free = λ x h. fits-as (write-other x c τ sp (f x h).settled.free) (g.free x h);
+    }

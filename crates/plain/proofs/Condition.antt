@@ -43,7 +43,7 @@ valued-not-zero m plain ρ v = (
 )
 
 pub divisors-pinned : DivisorsPinned
-divisors-pinned m plain ρ = (valued-not-zero m plain ρ, (λ capacity f e elements n. all-valued m plain capacity f e ρ elements n))
+divisors-pinned m plain ρ = (valued-not-zero m plain ρ, (λ capacity f e n. all-valued m plain capacity f e ρ n))
 
 -- lists of names, in the words of numbering
 named-all : (Q : ℕ → Type 0) (xs : List ℕ) → Rules.All Q xs → All Q xs

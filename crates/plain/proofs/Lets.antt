@@ -17,6 +17,7 @@ use Rattle.flat.specs.Trees.{Definition, defines}
 use Rattle.flat.specs.Meaning.{Assignment, on_values, negated}
 use Rattle.numbering.specs.Inputs.{member, binding}
 use Rattle.eval_trees.specs.Environments.{look_up, Options, to_options, present}
+use Rattle.eval_trees.specs.Forms.{is_number}
 use Rattle.eval_trees.specs.State.{State, gives, Run, refuse, make}
 use Rattle.eval_trees.specs.Closures.{exchange_map}
 use Rattle.eval_trees.specs.Evaluation.{evaluate, step, bound_to, evaluate_binding, enter_let, finish_lets, let_chain}
@@ -31,13 +32,14 @@ use Rattle.plain.proofs.Terms.{run, RunValued, now, of_constant, of_variable, Tr
 use Rattle.plain.proofs.Terms.{Scoped, s_constant, s_bound, s_free, s_negate, s_binary, s_nil, s_pair, s_cons, s_let, Spread, spread-le, Spans}
 use Rattle.plain.proofs.Terms.{spans_constant, spans_variable, spans_nil, spans_negate, spans_binary, spans_pair, spans_cons, spans_let, spans-le}
 use Rattle.plain.proofs.Terms.{term-number}
+use Rattle.plain.proofs.Fits.{Fits, f_number, f_nil, f_pair, f_cons, fits-whole, fits-number, fits-as, Numeric, numeric-free, term-is-number}
 use Rattle.plain.proofs.Ordering.{Ordered}
-use Rattle.plain.proofs.States.{Input, Settled, Open, Tidy, Later, Alike, Shape, InScope, Agree, Says, Kept, Keeps, settled-later, open-later}
+use Rattle.plain.proofs.States.{Input, Settled, Open, Tidy, Later, Alike, Shape, InScope, Agree, Says, Suits, Kept, Keeps, settled-later, open-later}
 use Rattle.plain.proofs.States.{later-trans, later-by, tidy-up, tree-later, tree-kept, counted, counted-says}
-use Rattle.plain.proofs.States.{following, scope-later, agree-later}
+use Rattle.plain.proofs.States.{following, scope-later, agree-later, suits-later}
 use Rattle.plain.proofs.Steps.{infix-made, negate-made, variable-found}
 use Rattle.plain.proofs.Patterns.{capture-tree}
-use Rattle.plain.proofs.Bindings.{value-bound, entered-later, entered-open, entered-tidy, entered-scope, entered-agree, entered-more}
+use Rattle.plain.proofs.Bindings.{value-bound, entered-later, entered-open, entered-tidy, entered-scope, entered-agree, entered-suits, entered-more}
 
 module _ (B : ℕ → Bool) (N : ℕ) (beyond : (x : ℕ) → N ≤ x → B x ≡ false) where
   -- a tree's value is there whole
@@ -60,6 +62,8 @@ module _ (B : ℕ → Bool) (N : ℕ) (beyond : (x : ℕ) → N ≤ x → B x �
     pub more : (x : ℕ) → look_up x u.bindings ≡ none → look_up x s.bindings ≡ none
     pub back : (x : ℕ) → restored x new (look_up x u.bindings) ≡ restored x acc (look_up x s.bindings)
     pub says : (t : Assignment) (τ : Table) → Agree B N beyond t F Γ τ s → NotZeroIn τ d → EnterSays t τ F Γ p d u
+    pub fits : (τ : Table) → Suits B N beyond F Γ τ s → NotZeroIn τ d
+        → (is_whole (value_of τ d) ≡ true) × Suits B N beyond F (binding p Γ) (write p (value_of τ d) τ) u
 
   enter-kept : (ev : Expr → Run Expr) → Keeps B N beyond ev → (F : ℕ
       → Type 0) (Γ : List ℕ) (lo one hi : ℕ) (p : Pat) (d : Expr) (acc new : Options) (s u : State)
@@ -100,6 +104,12 @@ module _ (B : ℕ → Bool) (N : ℕ) (beyond : (x : ℕ) → N ≤ x → B x �
                   (λ x h. old x S.later S.bindings (f x h)) scope1 q.value g1;
               whole = says-whole t S.tree q;
             };
+        fits = λ τ g nz.
+            let q = K.fits τ g nz in (
+              fits-whole q,
+              entered-suits B N beyond one hi p w s1 v u' env sp h_n S.tidy S.tree b refl refl refl look Γ τ (value_of τ d)
+                  (λ x h. old x S.later S.bindings (f x h)) scope1 q (suits-later B N beyond τ S.bindings g),
+            );
       }))
 
   -- ---- a chain of lets: all they bound is as it was
@@ -115,6 +125,7 @@ module _ (B : ℕ → Bool) (N : ℕ) (beyond : (x : ℕ) → N ≤ x → B x �
     pub tree : Tree (λ x. Settled B N beyond u x × (look_up x s.bindings ≡ none)) v
     pub back : (x : ℕ) → look_up x u.bindings ≡ restored x acc (look_up x s.bindings)
     pub says : (t : Assignment) (τ : Table) → Agree B N beyond t F Γ τ s → NotZeroIn τ e → Says B N beyond t τ e u v
+    pub fits : (τ : Table) → Suits B N beyond F Γ τ s → NotZeroIn τ e → Fits (value_of τ e) v
 
   finish-kept : (ev : Expr → Run Expr) (F : ℕ → Type 0) (Γ : List ℕ) (hi : ℕ) (e : Expr) (acc : Options) (s u : State) (v : Expr)
       → ((w : Expr) (s1 : State) → ev e s ≡ gives w s1 → Kept B N beyond F Γ hi e s s1 w) → finish_lets ev acc e s ≡ gives v u → Chain F Γ hi e acc s u v
@@ -141,6 +152,7 @@ module _ (B : ℕ → Bool) (N : ℕ) (beyond : (x : ℕ) → N ≤ x → B x �
         says = λ t τ a nz.
             let q = K.says t τ a nz in
             record { valued = subst (RunValued t) (sym x.definitions) q.valued; value = tree-kept B N beyond t over S.tree ∙ q.value };
+        fits = K.fits;
       }))
 
   chain-kept : (ev : Expr → Run Expr) → Keeps B N beyond ev → {F : ℕ
@@ -182,9 +194,15 @@ module _ (B : ℕ → Bool) (N : ℕ) (beyond : (x : ℕ) → N ≤ x → B x �
             let a = n.says t τ g nz.0 in
             let q = r.says t (write p (value_of τ d) τ) a.agree nz.1 in
             record { valued = q.valued; value = q.value ∙ sym (through-whole (value_of τ d) (λ w. value_of (write p w τ) body) a.whole) };
+        fits = λ τ g nz.
+            let a = n.fits τ g nz.0 in
+            fits-as (through-whole (value_of τ d) (λ w. value_of (write p w τ) body) a.0) (r.fits (write p (value_of τ d) τ) a.1 nz.1);
       }
 
   -- ---- a level
+
+  some-none : (e : Expr) → some e ≡ none → ⊥
+  some-none e q = let o : ◌≡◌ {A = ℕ} 0 1 = cc in omega arith
 
   module _ (ev : Expr → Run Expr) (ih : Keeps B N beyond ev) (F : ℕ → Type 0) (Γ : List ℕ) (lo hi : ℕ) (s u : State) (v : Expr) (hn : hi ≤ N)
       (k : Tidy B N beyond lo s) (f : (x : ℕ) → F x → Open B N beyond s x) (i : InScope B N beyond lo Γ s) where
@@ -197,7 +215,9 @@ module _ (B : ℕ → Bool) (N : ℕ) (beyond : (x : ℕ) → N ≤ x → B x �
         let c = elem-elem P P-above m in
         subst (Kept B N beyond F Γ hi (constant m) s u) b.value (record {
           shape = counted B N beyond h (tidy-up B N beyond l k) (of_term (of_constant c));
+          number = λ n. term-is-number {F = F} (of_constant c);
           says = λ t τ a nz. counted-says B N beyond t τ (constant m) h a.valued (of_term (of_constant c)) (ap num c);
+          fits = λ τ g nz. f_number (term-is-number {F = F} (of_constant c));
         })
 
     nil-kept : lo ≤ hi → step ev nil s ≡ gives v u → Kept B N beyond F Γ hi nil s u v
@@ -207,7 +227,9 @@ module _ (B : ℕ → Bool) (N : ℕ) (beyond : (x : ℕ) → N ≤ x → B x �
         let h = same_by (same_refl s) b.state in
         subst (Kept B N beyond F Γ hi nil s u) b.value (record {
           shape = counted B N beyond h (tidy-up B N beyond l k) of_nil;
+          number = λ n. elim n [ ];
           says = λ t τ a nz. counted-says B N beyond t τ nil h a.valued of_nil refl;
+          fits = λ τ g nz. f_nil;
         })
 
     bound-kept : (x : ℕ) → lo ≤ hi → member x Γ ≡ true → step ev (variable x) s ≡ gives v u → Kept B N beyond F Γ hi (variable x) s u v
@@ -218,7 +240,9 @@ module _ (B : ℕ → Bool) (N : ℕ) (beyond : (x : ℕ) → N ≤ x → B x �
         let h = same_by (same_refl s) b.state in
         subst (Kept B N beyond F Γ hi (variable x) s u) b.value (record {
           shape = counted B N beyond h (tidy-up B N beyond l k) o.tree;
+          number = λ n. absurd (some-none o.by (sym o.found ∙ (f x (numeric-free n)).unbound));
           says = λ t τ a nz. counted-says B N beyond t τ (variable x) h a.valued o.tree (a.inside x o.by m o.found);
+          fits = λ τ g nz. g.inside x o.by m o.found;
         })
 
     free-kept : (x : ℕ) → lo ≤ hi → F x → step ev (variable x) s ≡ gives v u → Kept B N beyond F Γ hi (variable x) s u v
@@ -228,7 +252,9 @@ module _ (B : ℕ → Bool) (N : ℕ) (beyond : (x : ℕ) → N ≤ x → B x �
         let h = same_by (same_refl s) b.state in
         subst (Kept B N beyond F Γ hi (variable x) s u) b.value (record {
           shape = counted B N beyond h (tidy-up B N beyond l k) (of_term (of_variable (f x m)));
+          number = λ n. term-is-number {F = F} (of_variable m);
           says = λ t τ a nz. counted-says B N beyond t τ (variable x) h a.valued (of_term (of_variable (f x m))) (a.free x m);
+          fits = λ τ g nz. g.free x m;
         })
 
     negate-kept : (d : Expr) → Scoped F Γ d → Spans B lo d hi → step ev (negate d) s ≡ gives v u → Kept B N beyond F Γ hi (negate d) s u v
@@ -240,6 +266,10 @@ module _ (B : ℕ → Bool) (N : ℕ) (beyond : (x : ℕ) → N ≤ x → B x �
         let M = negate-made B N beyond ev hi s1 u v S.tree e1 S.tidy in
         record {
           shape = following B N beyond S.later S.bindings S.equations M.0.shape;
+          number = λ n. M.0.number;
+          fits = λ τ g nz.
+              let z = fits-number (K.fits τ g nz) (term-is-number M.1) in
+              fits-as (ap Val.number (negated-value _ z.0 (number-of _ z.0 z.1))) (f_number M.0.number);
           says = λ t τ a nz.
               let q = K.says t τ a nz in
               let z = term-number (run t s1.definitions) M.1 in
@@ -253,6 +283,7 @@ module _ (B : ℕ → Bool) (N : ℕ) (beyond : (x : ℕ) → N ≤ x → B x �
       left : Tree (Open B N beyond s2) w
       says : (t : Assignment) (τ : Table) → Agree B N beyond t F Γ τ s → NotZeroIn τ d → NotZeroIn τ e'
           → RunValued t s2.definitions × (value_of (now t s2) w ≡ value_of τ d) × (value_of (now t s2) w' ≡ value_of τ e')
+      fits : (τ : Table) → Suits B N beyond F Γ τ s → NotZeroIn τ d → NotZeroIn τ e' → Fits (value_of τ d) w × Fits (value_of τ e') w'
 
     parts : (mid : ℕ) (d e' : Expr) (s1 s2 : State) (w w' : Expr) → Scoped F Γ d → Scoped F Γ e' → Spans B lo d mid → Spans B mid e' hi → ev d s ≡ gives w s1
         → ev e' s1 ≡ gives w' s2 → Parts d e' s1 s2 w w'
@@ -269,6 +300,7 @@ module _ (B : ℕ → Bool) (N : ℕ) (beyond : (x : ℕ) → N ≤ x → B x �
               let x = K.says t τ a na in
               let y = K'.says t τ (agree-later B N beyond t τ S.later S.bindings f i x.valued a) nb in
               (y.valued, tree-kept B N beyond t S'.later S.tree ∙ x.value, y.value);
+          fits = λ τ g na nb. (K.fits τ g na, K'.fits τ (suits-later B N beyond τ S.bindings g) nb);
         }
 
     binary-kept : (o : InfixOp) (mid : ℕ) (d e' : Expr) → is_arithmetic o ≡ true → Scoped F Γ d → Scoped F Γ e'
@@ -282,6 +314,8 @@ module _ (B : ℕ → Bool) (N : ℕ) (beyond : (x : ℕ) → N ≤ x → B x �
         let M = infix-made B N beyond ev ih hi hn o s2 u v ar c.left S.tree e2 S.tidy in
         record {
           shape = following B N beyond S.later S.bindings S.equations M.shape;
+          number = λ n. M.number;
+          fits = λ τ g nz. fits-as (ap Val.number nz.2.1) (f_number M.number);
           says = λ t τ a nz.
               let h = c.says t τ a nz.0 nz.1 in
               let same = ap₂ (λ (x y : Val). Val.number (on_values o (number_of x) (number_of y))) h.1 h.2 in
@@ -304,6 +338,8 @@ module _ (B : ℕ → Bool) (N : ℕ) (beyond : (x : ℕ) → N ≤ x → B x �
         subst (Kept B N beyond F Γ hi (product d e') s u) b.value (record {
           shape = following B N beyond S.later S.bindings S.equations (counted B N beyond h S.tidy m);
           says = λ t τ a nz. let r = c.says t τ a nz.0 nz.1 in counted-says B N beyond t τ (product d e') h r.0 m (ap₂ Val.pair r.1 r.2);
+          number = λ n. elim n [ ];
+          fits = λ τ g nz. let r = c.fits τ g nz.0 nz.1 in f_pair r.0 r.1;
         })
 
     cons-kept : (mid : ℕ) (d e' : Expr) → Scoped F Γ d → Scoped F Γ e' → Spans B lo d mid → Spans B mid e' hi
@@ -321,11 +357,13 @@ module _ (B : ℕ → Bool) (N : ℕ) (beyond : (x : ℕ) → N ≤ x → B x �
         subst (Kept B N beyond F Γ hi (cons d e') s u) b.value (record {
           shape = following B N beyond S.later S.bindings S.equations (counted B N beyond h S.tidy m);
           says = λ t τ a nz. let r = c.says t τ a nz.0 nz.1 in counted-says B N beyond t τ (cons d e') h r.0 m (ap₂ Val.cons r.1 r.2);
+          number = λ n. elim n [ ];
+          fits = λ τ g nz. let r = c.fits τ g nz.0 nz.1 in f_cons r.0 r.1;
         })
 
-    let-kept : (e : Expr) → Chain F Γ hi e [] s u v → Kept B N beyond F Γ hi e s u v
+    let-kept : (e : Expr) → (Numeric F e → is_number v ≡ true) → Chain F Γ hi e [] s u v → Kept B N beyond F Γ hi e s u v
     unfolding restored
-    let-kept e c =
+    let-kept e no-number c =
         let a : Alike B N beyond s u = record { at = c.back } in
         record {
           shape = record {
@@ -343,7 +381,9 @@ module _ (B : ℕ → Bool) (N : ℕ) (beyond : (x : ℕ) → N ≤ x → B x �
             equations = c.equations;
             tree = tree-map (λ x h. record { settled = h.0; unbound = a.at x ∙ h.1 }) c.tree;
           };
+          number = no-number;
           says = c.says;
+          fits = c.fits;
         }
 
   step_keeps : (ev : Expr → Run Expr) → Keeps B N beyond ev → Keeps B N beyond (step ev)
@@ -360,7 +400,7 @@ module _ (B : ℕ → Bool) (N : ℕ) (beyond : (x : ℕ) → N ≤ x → B x �
       go (s_pair {a = d} {b = e'} p q) (spans_pair {mid = mid} sp sq) g = pair-kept ev ih F Γ lo hi s u v hn k f i mid d e' p q sp sq g
       go (s_cons {a = d} {b = e'} p q) (spans_cons {mid = mid} sp sq) g = cons-kept ev ih F Γ lo hi s u v hn k f i mid d e' p q sp sq g
       go (s_let {p = p} {v = d} {b = body} sd sb) (spans_let pd pp pb) g =
-          let-kept ev ih F Γ lo hi s u v hn k f i (letting p d body)
+          let-kept ev ih F Γ lo hi s u v hn k f i (letting p d body) (λ n. elim n [ ])
           (chain-kept ev ih lo hi false [] s u v (s_let sd sb) (spans_let pd pp pb) hn g k f i)
 
   -- every level

@@ -2,6 +2,7 @@ pub mod Compute
 pub mod Pairs
 pub mod Values
 pub mod Terms
+pub mod Fits
 pub mod Ordering
 pub mod States
 pub mod Whole

@@ -11,7 +11,7 @@ use borrow.Author.Tests.{ne_eqb}
 use Rattle.field.specs.Operations.{Answer, HasValue}
 use Rattle.std.specs.Prelude.{Some}
 use Rattle.field.specs.declared.InfixOp.TheVariants.{Equal}
-use Rattle.source.specs.Trees.{Pat, Expr, unit, binary, Env, empty}
+use Rattle.source.specs.Trees.{Pat, Expr, unit, binary, variable, Env, empty}
 use Rattle.source.specs.Forms.{on_infix}
 use Rattle.flat.specs.Trees.{Flat, Definition, Equation, FlatModule, defines}
 use Rattle.flat.specs.Rules.{All, Every}
@@ -31,14 +31,15 @@ use Rattle.plain.specs.Meaning.{Table, write, value_of, values_of, sides_of, sid
 use Rattle.plain.specs.Meaning.{DefinitionsValued, EquationsValued}
 use Rattle.plain.specs.Meaning
 use Rattle.plain.proofs.Values.{false-true, table}
-use Rattle.plain.proofs.Terms.{run, RunValued, now, Scoped, Spread, spread-le, Spans, spans-le}
+use Rattle.plain.proofs.Terms.{run, RunValued, now, of_variable, Scoped, Spread, spread-le, Spans, spans-le}
+use Rattle.plain.proofs.Fits.{Fits, f_number, fits-whole, term-is-number}
 use Rattle.plain.proofs.Ordering.{defines-head, defines-tail, defines-case, not-true, From, OnceInOrder, order}
-use Rattle.plain.proofs.States.{Input, Settled, Open, Tidy, Later, Alike, Shape, InScope, Agree, Kept, settled-later, open-later}
+use Rattle.plain.proofs.States.{Input, Settled, Open, Tidy, Later, Alike, Shape, InScope, Agree, Suits, Kept, settled-later, open-later}
 use Rattle.plain.proofs.States.{later-trans, later-refl, later-by, later-same, alike-refl, alike-trans}
 use Rattle.plain.proofs.States.{tidy-up, tidy-by, tree-later, tree-kept}
-use Rattle.plain.proofs.States.{scope-later, agree-later, input-open}
-use Rattle.plain.proofs.Bindings.{value-bound, entered-open, entered-tidy, entered-scope, entered-agree}
-use Rattle.plain.proofs.Lets.{says-whole, key}
+use Rattle.plain.proofs.States.{scope-later, agree-later, suits-later, input-open}
+use Rattle.plain.proofs.Bindings.{value-bound, entered-open, entered-tidy, entered-scope, entered-agree, entered-suits}
+use Rattle.plain.proofs.Lets.{key}
 use Rattle.plain.proofs.Equations.{flat_sides, flat-sides-append, reverse-append, all_append, Equates, tree-equates}
 
 -- definitions in order, each in the scope of those before; Δ is the scope behind them
@@ -121,16 +122,13 @@ sides-value Q σ υ h (e ∷ es) w =
 module _ (B : ℕ → Bool) (N : ℕ) (beyond : (x : ℕ) → N ≤ x → B x ≡ false) where
   -- ---- definitions
 
-  pub record DefinitionsSay (t : Assignment) (τ : Table) (F : ℕ → Type 0) (Δ : List ℕ) (ds : List (Pat × Expr)) (u : State) : Type 0 where
-    pub agree : Agree B N beyond t F Δ (Meaning.defined τ ds) u
-    pub valued : DefinitionsValued τ ds
-
   pub record Behind (F : ℕ → Type 0) (Γ Δ : List ℕ) (hi : ℕ) (ds : List (Pat × Expr)) (s u : State) : Type 0 where
     pub tidy : Tidy B N beyond hi u
     pub opens : (x : ℕ) → Open B N beyond s x → Open B N beyond u x
     pub scope : InScope B N beyond hi Δ u
     pub equations : u.equations ≡ s.equations
-    pub says : (t : Assignment) (τ : Table) → Agree B N beyond t F Γ τ s → NotZeroInDefinitions τ ds → DefinitionsSay t τ F Δ ds u
+    pub says : (t : Assignment) (τ : Table) → Agree B N beyond t F Γ τ s → NotZeroInDefinitions τ ds → Agree B N beyond t F Δ (Meaning.defined τ ds) u
+    pub fits : (τ : Table) → Suits B N beyond F Γ τ s → NotZeroInDefinitions τ ds → Suits B N beyond F Δ (Meaning.defined τ ds) u × DefinitionsValued τ ds
 
   definitions-kept : {F : ℕ → Type 0} {Γ Δ : List ℕ} {lo hi : ℕ} {ds : List (Pat × Expr)} (l : ℕ) (s u : State) (y : Done) → ScopedDefinitions F Γ ds Δ
       → SpansDefinitions B lo ds hi → hi ≤ N → evaluate_defs l ds s ≡ gives y u → Tidy B N beyond lo s → ((x : ℕ) → F x → Open B N beyond s x)
@@ -142,7 +140,8 @@ module _ (B : ℕ → Bool) (N : ℕ) (beyond : (x : ℕ) → N ≤ x → B x �
         opens = λ x h. h;
         scope = scope-later B N beyond m (later-refl B N beyond s) (alike-refl B N beyond s) i;
         equations = refl;
-        says = λ t τ a n. record { agree = a; valued = tt };
+        says = λ t τ a n. a;
+        fits = λ τ g n. (g, tt);
       })
   definitions-kept {F} {Γ} {lo = lo} {hi = hi} l s u y (definition {p = p} {v = d} {ds = ds} sd more) (spans_definition {one = one} {two = two} sa sp rest)
       hn e k f i =
@@ -174,8 +173,13 @@ module _ (B : ℕ → Bool) (N : ℕ) (beyond : (x : ℕ) → N ≤ x → B x �
             let a1 = agree-later B N beyond t τ S.later S.bindings f i q.valued a in
             let a2 = entered-agree B N beyond one two p w s1 v s2 env sp h_n S.tidy S.tree b r.next r.provers r.definitions look Γ t τ
             (value_of τ d) (λ x h. open-later B N beyond x S.later S.bindings (f x h)) scope1 q.value a1 in
-            let z = tail.says t (write p (value_of τ d) τ) a2 n.1 in
-            record { agree = z.agree; valued = (says-whole B N beyond t S.tree q, z.valued) };
+            tail.says t (write p (value_of τ d) τ) a2 n.1;
+        fits = λ τ g n.
+            let q = K.fits τ g n.0 in
+            let g2 = entered-suits B N beyond one two p w s1 v s2 env sp h_n S.tidy S.tree b r.next r.provers r.definitions look Γ τ
+            (value_of τ d) (λ x h. open-later B N beyond x S.later S.bindings (f x h)) scope1 q (suits-later B N beyond τ S.bindings g) in
+            let z = tail.fits (write p (value_of τ d) τ) g2 n.1 in
+            (z.0, (fits-whole q, z.1));
       }
 
   -- ---- equations
@@ -197,7 +201,6 @@ module _ (B : ℕ → Bool) (N : ℕ) (beyond : (x : ℕ) → N ≤ x → B x �
   pub record EquationsSay (t : Assignment) (τ : Table) (es : List Expr) (u : State) (new : List Equation) : Type 0 where
     pub valued : RunValued t u.definitions
     pub sides : flat_sides (run t u.definitions) new ≡ Meaning.sides τ es
-    pub whole : EquationsValued τ es
 
   pub record Equations (F : ℕ → Type 0) (Γ : List ℕ) (hi : ℕ) (es : List Expr) (s u : State) : Type 0 where
     pub tidy : Tidy B N beyond hi u
@@ -207,6 +210,7 @@ module _ (B : ℕ → Bool) (N : ℕ) (beyond : (x : ℕ) → N ≤ x → B x �
     pub equations : u.equations ≡ reverse_aux new s.equations
     pub ids : All (Ids u) new
     pub says : (t : Assignment) (τ : Table) → Agree B N beyond t F Γ τ s → All (NotZeroInEquation τ) es → EquationsSay t τ es u new
+    pub fits : (τ : Table) → Suits B N beyond F Γ τ s → All (NotZeroInEquation τ) es → EquationsValued τ es
 
   -- one equation
   module _ (F : ℕ → Type 0) (Γ : List ℕ) (lo one two : ℕ) (l : ℕ) (a b : Expr) (s s1 s2 s3 u : State) (w w' : Expr) (sp : Spans B lo a one)
@@ -242,8 +246,11 @@ module _ (B : ℕ → Bool) (N : ℕ) (beyond : (x : ℕ) → N ≤ x → B x �
         record {
           valued = subst (RunValued t) (sym (h.definitions ∙ E.definitions)) q'.valued;
           sides = sides-later t over E.new new-ids ∙ E.sides (run t s2.definitions) ∙ ap₂ components left q'.value ∙ sym (append-nil _);
-          whole = (says-whole B N beyond t S.tree q, says-whole B N beyond t S'.tree q', tt);
         }
+
+    equation-fits : (τ : Table) → Suits B N beyond F Γ τ s → All (NotZeroInEquation τ) (binary Equal a b ∷ []) → EquationsValued τ (binary Equal a b ∷ [])
+    unfolding values_of NotZeroInEquation on_infix
+    equation-fits τ g nz = (fits-whole (K.fits τ g nz.0.0), fits-whole (K'.fits τ (suits-later B N beyond τ S.bindings g) nz.0.1), tt)
 
     one_equation : Equations F Γ two (binary Equal a b ∷ []) s u
     one_equation = record {
@@ -254,6 +261,7 @@ module _ (B : ℕ → Bool) (N : ℕ) (beyond : (x : ℕ) → N ≤ x → B x �
       equations = h.equations ∙ E.equations ∙ ap (reverse_aux E.new) (S'.equations ∙ S.equations);
       ids = ids-later over E.new new-ids;
       says = equation-says;
+      fits = equation-fits;
     }
 
   equation-kept : {F : ℕ → Type 0} {lo one two : ℕ} {Γ : List ℕ} (l : ℕ) (a b : Expr) (s u : State) (v : Expr) → Scoped F Γ a → Scoped F Γ b → Spans B lo a one
@@ -291,7 +299,6 @@ module _ (B : ℕ → Bool) (N : ℕ) (beyond : (x : ℕ) → N ≤ x → B x �
         record {
           valued = d.valued;
           sides = sides-behind (run t s1.definitions) (run t u.definitions) τ e es x.new z.new (sides-later t z.later x.new x.ids) c.sides d.sides;
-          whole = (c.whole.0, c.whole.1, d.whole);
         }
 
     both_equations : Equations F Γ hi (e ∷ es) s u
@@ -303,6 +310,9 @@ module _ (B : ℕ → Bool) (N : ℕ) (beyond : (x : ℕ) → N ≤ x → B x �
       equations = z.equations ∙ ap (reverse_aux z.new) x.equations ∙ reverse-append x.new z.new s.equations;
       ids = all_append _ x.new z.new (ids-later z.later x.new x.ids) z.ids;
       says = both-say;
+      fits = λ τ g n.
+          let c = x.fits τ g (n.0, tt) in
+          (c.0, c.1, z.fits τ (suits-later B N beyond τ x.bindings g) n.1);
     }
 
   equations-kept : {F : ℕ → Type 0} {Γ : List ℕ} {lo hi : ℕ} {es : List Expr} (l : ℕ) (s u : State) (y : Done) → ScopedEquations F Γ es
@@ -317,7 +327,8 @@ module _ (B : ℕ → Bool) (N : ℕ) (beyond : (x : ℕ) → N ≤ x → B x �
         new = [];
         equations = refl;
         ids = tt;
-        says = λ t τ a n. record { valued = a.valued; sides = refl; whole = tt };
+        says = λ t τ a n. record { valued = a.valued; sides = refl };
+        fits = λ τ g n. tt;
       })
   equations-kept {F} {Γ} {lo = lo} {hi = hi} l s u y (equation {a = a} {b = b} {es = es} p q more) (spans_equation {two = two} sp sq rest) hn e k f i =
       then-case (evaluate l (binary Equal a b)) _ s y u e λ o s1 first e1.
@@ -386,8 +397,6 @@ module _ (B : ℕ → Bool) (N : ℕ) (beyond : (x : ℕ) → N ≤ x → B x �
   pub record Worked (t : Assignment) (ds : List (Pat × Expr)) (es : List Expr) (f : FlatModule) : Type 0 where
     pub in-turn : InTurnValued t f.definitions
     pub same-sides : flat_sides (worked_out f.definitions t) f.equations ≡ sides (Meaning.defined (table t) ds) es
-    pub definitions-valued : DefinitionsValued (table t) ds
-    pub equations-valued : EquationsValued (Meaning.defined (table t) ds) es
 
   -- a settled id is an input, or defined
   settled-from : (s : State) (v : ℕ) → Settled B N beyond s v → From (Input B N beyond) (reverse s.definitions) v
@@ -431,6 +440,9 @@ module _ (B : ℕ → Bool) (N : ℕ) (beyond : (x : ℕ) → N ≤ x → B x �
     pub in_order : InOrder (Input B N beyond) f
     pub says : (t : Assignment) → Elements t → NotZeroInDefinitions (table t) m.definitions
         → All (NotZeroInEquation (Meaning.defined (table t) m.definitions)) m.expressions → Worked t m.definitions m.expressions f
+    pub valued : (t : Assignment) → NotZeroInDefinitions (table t) m.definitions
+        → All (NotZeroInEquation (Meaning.defined (table t) m.definitions)) m.expressions
+        → DefinitionsValued (table t) m.definitions × EquationsValued (Meaning.defined (table t) m.definitions) m.expressions
 
   -- a plain numbered module that is accepted
   pub module-kept : (l capacity lo mid : ℕ) (m : Numbered) (Δ : List ℕ) (f : FlatModule) → m.next ≡ N → B 0 ≡ true → B 2 ≡ true → B 5 ≡ true
@@ -454,13 +466,16 @@ module _ (B : ℕ → Bool) (N : ℕ) (beyond : (x : ℕ) → N ≤ x → B x �
         says = λ t c nd ne.
             let a = D.says t (table t)
             (record { elements = c; valued = tt; inside = λ x w i h. absurd (false-true i); free = λ x h. refl }) nd in
-            let q = Q.says t (Meaning.defined (table t) m.definitions) a.agree ne in
+            let q = Q.says t (Meaning.defined (table t) m.definitions) a ne in
             record {
               in-turn = in-turn-valued t g.state.definitions q.valued;
               same-sides = ap (λ (w : Assignment). flat_sides w Q.new) (worked-reverse t g.state.definitions) ∙ q.sides;
-              definitions-valued = a.valued;
-              equations-valued = q.whole;
             };
+        valued = λ t nd ne.
+            let free : (x : ℕ) → Input B N beyond x → Fits (table t x) (variable x) =
+            λ x h. f_number (term-is-number {F = Input B N beyond} (of_variable h)) in
+            let a = D.fits (table t) (record { inside = λ x w i h. absurd (false-true i); free = free }) nd in
+            (a.1, Q.fits (Meaning.defined (table t) m.definitions) a.0 ne);
       })
 
 -- in the words of a lent record

@@ -54,8 +54,6 @@ module _ (B : ℕ → Bool) (N : ℕ) (beyond : (x : ℕ) → N ≤ x → B x �
     same-sides = ap (λ (w : Assignment). flat_sides w (place_equations qs f.equations)) (worked-placed ps f.definitions t)
         ∙ sides-placed qs f.equations _
         ∙ k.same-sides;
-    definitions-valued = k.definitions-valued;
-    equations-valued = k.equations-valued;
   }
 
 -- ---- order

@@ -7,16 +7,18 @@ use Prim.Native.Nat.{ℕ, ◌<◌, ◌≤◌}
 use native.Mathlib.Nat.{le_refl, le_trans}
 use native.Mathlib.Omega.{arith}
 use lib.IntN.{ℤ}
-use Rattle.source.specs.Trees.{Expr}
+use Rattle.source.specs.Trees.{Expr, variable}
 use Rattle.flat.specs.Trees.{Definition, defines}
 use Rattle.flat.specs.Meaning.{Assignment, Elements}
 use Rattle.numbering.specs.Inputs.{member}
 use Rattle.eval_trees.specs.Environments.{look_up}
+use Rattle.eval_trees.specs.Forms.{is_number}
 use Rattle.eval_trees.specs.State.{State, gives, Run}
 use Rattle.eval_trees.proofs.Runs.{Same}
 use Rattle.plain.specs.Meaning.{Table, value_of, NotZeroIn}
 use Rattle.plain.proofs.Values.{false-true, num}
 use Rattle.plain.proofs.Terms.{run, RunValued, now, Term, of_constant, of_variable, of_negate, Tree, tree-map, tree-value, Scoped, Spans}
+use Rattle.plain.proofs.Fits.{Fits, Numeric}
 use Rattle.plain.proofs.Ordering.{From, Ordered, not-true, Uses, uses-constant, uses-variable, uses-negate}
 
 pub expr-path : (a b : Expr) → some a ≡ some b → a ≡ b
@@ -87,8 +89,15 @@ module _ (B : ℕ → Bool) (N : ℕ) (beyond : (x : ℕ) → N ≤ x → B x �
     pub valued : RunValued t u.definitions
     pub value : value_of (now t u) v ≡ value_of τ e
 
+  -- τ has a value for each id that fits what the id stands for
+  pub record Suits (F : ℕ → Type 0) (Γ : List ℕ) (τ : Table) (s : State) : Type 0 where
+    pub inside : (x : ℕ) (w : Expr) → member x Γ ≡ true → look_up x s.bindings ≡ some w → Fits (τ x) w
+    pub free : (x : ℕ) → F x → Fits (τ x) (variable x)
+
   pub record Kept (F : ℕ → Type 0) (Γ : List ℕ) (hi : ℕ) (e : Expr) (s u : State) (v : Expr) : Type 0 where
     pub shape : Shape hi s u v
+    pub number : Numeric F e → is_number v ≡ true
+    pub fits : (τ : Table) → Suits F Γ τ s → NotZeroIn τ e → Fits (value_of τ e) v
     pub says : (t : Assignment) (τ : Table) → Agree t F Γ τ s → NotZeroIn τ e → Says t τ e u v
 
   -- what is promised of an evaluation
@@ -100,6 +109,7 @@ module _ (B : ℕ → Bool) (N : ℕ) (beyond : (x : ℕ) → N ≤ x → B x �
   -- of an expression made of terms, by what the state says itself
   pub record Made (lo : ℕ) (s u : State) (e v : Expr) : Type 0 where
     pub shape : Shape lo s u v
+    pub number : is_number v ≡ true
     pub says : (t : Assignment) → Elements t → RunValued t s.definitions → (z : ℤ) → value_of (now t s) e ≡ num z → Says t (now t s) e u v
 
   -- ---- laws
@@ -224,6 +234,9 @@ module _ (B : ℕ → Bool) (N : ℕ) (beyond : (x : ℕ) → N ≤ x → B x �
         tree-kept t l (found-tree i x w m before) ∙ g.inside x w m before;
     free = λ x h. ap num (l.kept t x (f x h).settled) ∙ g.free x h;
   }
+
+  pub suits-later : {F : ℕ → Type 0} {Γ : List ℕ} {s u : State} (τ : Table) → Alike s u → Suits F Γ τ s → Suits F Γ τ u
+  suits-later τ a g = record { inside = λ x w m e. g.inside x w m (sym (a.at x) ∙ e); free = g.free }
 
   -- expressions made of terms need no table but the state's own
   pub own-scope : (lo : ℕ) (s : State) → InScope lo [] s

@@ -44,6 +44,7 @@ use Rattle.plain.proofs.Values.{infix-elemental, cond-case, binary-value, infix-
 use Rattle.plain.proofs.Terms.{run, RunValued, now, run-elements, variable-not, negate-not, Term, of_constant, of_variable, of_negate}
 use Rattle.plain.proofs.Terms.{Tree, of_term, Scoped, s_constant, s_binary, Spans, spans_constant, spans_binary, term-spans, infix-spans, term-map}
 use Rattle.plain.proofs.Terms.{term-scoped, tree-scoped, tree-spans, infix-scoped, term-elemental, tree-elemental, term-number, tree-term}
+use Rattle.plain.proofs.Fits.{Numeric, n_binary, term-numeric, infix-numeric, term-is-number}
 use Rattle.plain.proofs.Ordering.{same, defines-head, defines-tail, defines-case, not-true, From, Ordered, Uses, infix-uses}
 use Rattle.plain.proofs.States.{Input, Settled, Open, Tidy, Later, Alike, Shape, Says, Keeps, Made, open-later, later-trans, alike-trans}
 use Rattle.plain.proofs.States.{later-same, alike_same, tidy-same, valued-same, tree-kept, counted, counted-says, following, own-scope}
@@ -187,6 +188,7 @@ module _ (B : ℕ → Bool) (N : ℕ) (beyond : (x : ℕ) → N ≤ x → B x �
     new-made : Made B N beyond lo s u e v
     new-made = record {
       shape = defined-shape;
+      number = ap is_number d.value ∙ term-is-number {F = Open B N beyond u} (of_variable drawn-open);
       says = λ t c r z h. record { valued = pushed-valued s u i d.tree t z d.definitions (tree-says t z h) r; value = defined-value t z h };
     }
 
@@ -200,6 +202,7 @@ module _ (B : ℕ → Bool) (N : ℕ) (beyond : (x : ℕ) → N ≤ x → B x �
       → Made B N beyond lo s u e v → Made B N beyond lo s u e' v
   made-as e e' f m = record {
     shape = m.shape;
+    number = m.number;
     says = λ t c r z h. let q = m.says t c r z (f t c z h) in record { valued = q.valued; value = q.value ∙ f t c z h ∙ sym h };
   }
 
@@ -208,6 +211,7 @@ module _ (B : ℕ → Bool) (N : ℕ) (beyond : (x : ℕ) → N ≤ x → B x �
       → Made B N beyond lo u w e v → Made B N beyond lo s w e' v
   made-following e' h f m = record {
     shape = following B N beyond (later-same B N beyond h) (alike_same B N beyond h) h.equations m.shape;
+    number = m.number;
     says = λ t c r z k.
         let q = m.says t c (valued-same B N beyond t h r) z (f t c z k) in
         record { valued = q.valued; value = q.value ∙ f t c z k ∙ sym k };
@@ -230,6 +234,7 @@ module _ (B : ℕ → Bool) (N : ℕ) (beyond : (x : ℕ) → N ≤ x → B x �
           let result : Val.number (infix_of P o (elem P m) (elem P n)) ≡ num k = ap Val.number (ap₂ (infix_of P o) cm cn ∙ q) in
           subst (Made B N beyond lo s u (binary o (constant m) (constant n))) b.value (record {
             shape = counted B N beyond h w (of_term (of_constant ck));
+            number = term-is-number {F = Open B N beyond u} (of_constant ck);
             says = λ t c r z hz.
                 counted-says B N beyond t (now t s) (binary o (constant m) (constant n)) h r (of_term (of_constant ck)) (ap num ck ∙ sym result);
           })
@@ -253,16 +258,25 @@ module _ (B : ℕ → Bool) (N : ℕ) (beyond : (x : ℕ) → N ≤ x → B x �
   -- ---- an expression made of terms, evaluated at once
 
   made-kept : (ev : Expr → Run Expr) → Keeps B N beyond ev → (lo : ℕ) (e : Expr) (s u : State) (v : Expr) → lo ≤ N → Scoped (Open B N beyond s) [] e
-      → Spans B lo e lo → ev e s ≡ gives v u → Tidy B N beyond lo s → Made B N beyond lo s u e v
-  made-kept ev ih lo e s u v l sc sp h w =
+      → Spans B lo e lo → Numeric (Open B N beyond s) e → ev e s ≡ gives v u → Tidy B N beyond lo s → Made B N beyond lo s u e v
+  made-kept ev ih lo e s u v l sc sp n h w =
       let k = ih (Open B N beyond s) [] lo lo e s u v sc sp l h w (λ x f. f) (own-scope B N beyond lo s) in
-      record { shape = k.shape; says = λ t c r z q. k.says t (now t s) (own-table B N beyond t s c r) (not-zero (now t s) e (number-whole _ z q)) }
+      record {
+        shape = k.shape;
+        number = k.number n;
+        says = λ t c r z q. k.says t (now t s) (own-table B N beyond t s c r) (not-zero (now t s) e (number-whole _ z q));
+      }
 
   whole-scoped : {F : ℕ → Type 0} {a r : Expr} (c : Bool) → Term F a → Tree F r
       → Scoped F [] (cond c (infix_op Multiply (infix_op Multiply r r).0 a) ((infix_op Multiply r r).0, 0)).0
   unfolding is_arithmetic
   whole-scoped true p q = infix-scoped Multiply refl (infix-scoped Multiply refl (tree-scoped q) (tree-scoped q)) (term-scoped p)
   whole-scoped false p q = infix-scoped Multiply refl (tree-scoped q) (tree-scoped q)
+
+  whole-numeric : {F : ℕ → Type 0} {a r : Expr} (c : Bool) → Numeric F a → Numeric F r
+      → Numeric F (cond c (infix_op Multiply (infix_op Multiply r r).0 a) ((infix_op Multiply r r).0, 0)).0
+  whole-numeric true p q = infix-numeric Multiply (infix-numeric Multiply q q) p
+  whole-numeric false p q = infix-numeric Multiply q q
 
   whole-spans : {F : ℕ → Type 0} {a r : Expr} (m : ℕ) (c : Bool) → Term F a → Tree F r
       → Spans B m (cond c (infix_op Multiply (infix_op Multiply r r).0 a) ((infix_op Multiply r r).0, 0)).0 m
@@ -305,6 +319,7 @@ module _ (B : ℕ → Bool) (N : ℕ) (beyond : (x : ℕ) → N ≤ x → B x �
     squares-made : Made B N beyond lo s u (binary Exponentiate a (constant (pos n))) v
     squares-made = record {
       shape = following B N beyond squares-later squares-alike (h5.equations ∙ one.shape.equations ∙ h2.equations) two.shape;
+      number = two.number;
       says = squares-says;
     }
 
@@ -329,6 +344,7 @@ module _ (B : ℕ → Bool) (N : ℕ) (beyond : (x : ℕ) → N ≤ x → B x �
       let h = same_by (make_same 1 s y w first) b.state in
       subst (Made B N beyond lo s u (binary Exponentiate a (constant (pos 0)))) b.value (record {
         shape = counted B N beyond h k (of_term (of_constant one-element));
+        number = term-is-number {F = Open B N beyond u} (of_constant one-element);
         says = λ t el r z q. counted-says B N beyond t (now t s) _ h r (of_term (of_constant one-element))
             (constant-says (run t s.definitions) (pos 1) one-element
             ∙ ap num (sym (power_zero P P-prime _))
@@ -339,6 +355,7 @@ module _ (B : ℕ → Bool) (N : ℕ) (beyond : (x : ℕ) → N ≤ x → B x �
       let h = same_by (same_refl s) b.state in
       subst (Made B N beyond lo s u (binary Exponentiate a (constant (pos 1)))) b.value (record {
         shape = counted B N beyond h k (of_term ta);
+        number = term-is-number ta;
         says = λ t el r z q.
             let w = term-number (run t s.definitions) ta in
             let cx = (term-elemental ta).at (run t s.definitions) (run-elements t el s.definitions) w.0 w.1 in
@@ -355,13 +372,13 @@ module _ (B : ℕ → Bool) (N : ℕ) (beyond : (x : ℕ) → N ≤ x → B x �
       let h5 = same-trans (make_same _ s3 y4 s4 fourth) (make_same _ s4 y5 s5 fifth) in
       let t2 = term-later (later-same B N beyond h2) (alike_same B N beyond h2) ta in
       let one = made-kept ev ih lo (binary Exponentiate a (constant (pos (suc (suc n) / 2)))) s2 s3 r ll (s_binary refl (term-scoped t2) s_constant)
-      (spans_binary (term-spans lo t2) (spans_constant (le_refl lo))) third (tidy-same B N beyond h2 k) in
+      (spans_binary (term-spans lo t2) (spans_constant (le_refl lo))) n_binary third (tidy-same B N beyond h2 k) in
       let l5 = later-trans B N beyond one.shape.later (later-same B N beyond h5) in
       let a5 = alike-trans B N beyond one.shape.bindings (alike_same B N beyond h5) in
       let t5 = term-later l5 a5 t2 in
       let r5 = tree-later B N beyond (later-same B N beyond h5) (alike_same B N beyond h5) one.shape.tree in
-      let two = made-kept ev ih lo _ s5 u v ll (whole-scoped (eqb (suc (suc n) % 2) 1) t5 r5) (whole-spans lo (eqb (suc (suc n) % 2) 1) t5 r5) e5
-      (tidy-same B N beyond h5 one.shape.tidy) in
+      let two = made-kept ev ih lo _ s5 u v ll (whole-scoped (eqb (suc (suc n) % 2) 1) t5 r5) (whole-spans lo (eqb (suc (suc n) % 2) 1) t5 r5)
+      (whole-numeric (eqb (suc (suc n) % 2) 1) (term-numeric t5) (term-numeric (tree-term one.number r5))) e5 (tidy-same B N beyond h5 one.shape.tidy) in
       squares-made lo a r v (suc (suc n)) s s2 s3 s5 u (omega arith) c ta h2 one h5 two
   power-made ev ih lo ll {a = a} (negsuc n) s u v c ta e k =
       then-case (make 3) _ s v u e λ y1 s1 first e1.
@@ -371,7 +388,7 @@ module _ (B : ℕ → Bool) (N : ℕ) (beyond : (x : ℕ) → N ≤ x → B x �
       inverted-made lo a v n s s2 u c ta h2
       (made-kept ev ih lo (binary Divide (constant (pos 1)) (binary Exponentiate a (constant (pos (suc n))))) s2 u v ll
       (s_binary refl s_constant (s_binary refl (term-scoped t2) s_constant))
-      (spans_binary (spans_constant (le_refl lo)) (spans_binary (term-spans lo t2) (spans_constant (le_refl lo)))) e2 (tidy-same B N beyond h2 k))
+      (spans_binary (spans_constant (le_refl lo)) (spans_binary (term-spans lo t2) (spans_constant (le_refl lo)))) n_binary e2 (tidy-same B N beyond h2 k))
 
   power-infix : (ev : Expr → Run Expr) → Keeps B N beyond ev → (lo : ℕ) → lo ≤ N → {a b : Expr} (s u : State) (v : Expr) → Term (Open B N beyond s) a
       → Term (Open B N beyond s) b → evaluate_power ev a b s ≡ gives v u → Tidy B N beyond lo s → Made B N beyond lo s u (binary Exponentiate a b) v
@@ -439,6 +456,7 @@ module _ (B : ℕ → Bool) (N : ℕ) (beyond : (x : ℕ) → N ≤ x → B x �
       let h = same_by (make_same 1 s y w first) b.state in (
         subst (Made B N beyond lo s u (negate a)) b.value (record {
           shape = counted B N beyond h k (of_term (negated-term m));
+          number = term-is-number (negated-term m);
           says = λ t el r z q. counted-says B N beyond t (now t s) (negate a) h r (of_term (negated-term m)) (negation-value (run t s.definitions) m);
         }),
         m,

@@ -72,7 +72,6 @@ DivisorsPinned =
     (AllValued m ρ → NoDivisorZero m ρ)
     × ((capacity : ℕ) (f : FlatModule) →
     evaluated capacity (numbered m) ≡ flat f →
-    ((x : ℕ) → elem P (ρ x) ≡ ρ x) →
     NoDivisorZero m ρ →
     AllValued m ρ)
 
