@@ -31,7 +31,6 @@ use Rattle.plain.specs.Statements.{IsInput, Gives, PlainFlat, SaysTheSame, Plain
 use Rattle.plain.proofs.Values.{false-true, both_true, num, table}
 use Rattle.plain.proofs.Ordering.{not-true}
 use Rattle.plain.proofs.States.{Input}
-use Rattle.plain.proofs.Equations.{flat_sides}
 use Rattle.plain.proofs.Modules.{ScopedDefinitions, ScopedEquations, SpansDefinitions, SpansEquations, InTurnValued, InOrder, ModuleKept, module-kept}
 use Rattle.plain.proofs.Modules.{input-undefined, ordered, known, ids-below, defined-ids, every_map}
 use Rattle.plain.proofs.Modules

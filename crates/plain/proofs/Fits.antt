@@ -1,5 +1,5 @@
 -- A value and a tree of one shape, whatever the elements: that all is there in a value needs no more than this of evaluation.
-use mathlib.Core.Path.{◌≡◌, refl, sym, ap, ap₂, subst, ◌∙◌}
+use mathlib.Core.Path.{◌≡◌, refl, sym, ap₂, subst}
 use mathlib.Core.Bool.{true, ◌&&◌}
 use lib.IntN.{ℤ}
 use Prim.Native.Nat.{ℕ}

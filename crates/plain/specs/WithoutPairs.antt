@@ -128,8 +128,8 @@ NotZeroInEquation t e = on_infix e (λ o a b. NotZeroIn t a × NotZeroIn t b) (U
 abbrev pub NoDivisorZero : Module → (ℕ → ℤ) → Type 0
 NoDivisorZero m ρ = NotZeroInDefinitions (start ρ) m.definitions × All (NotZeroInEquation (defined (start ρ) m.definitions)) m.expressions
 
--- A PLAIN MODULE WITHOUT PAIRS IS ONE WITH PAIRS AND LISTS TOO, and means the same. Its names always have a value: what pins the condition on divisors asks
--- nothing more of it (`DivisorsPinned`, specs/Statements.antt, asks that it is accepted)
+-- A PLAIN MODULE WITHOUT PAIRS AND LISTS IS PLAIN, and means the same by the wider definitions. Every pattern fits: so what pins the condition on divisors
+-- need not ask that it is accepted (`DivisorsPinned`, specs/Statements.antt)
 pub record SameMeaning (m : Module) (ρ : ℕ → ℤ) : Type 0 where
   pub holds : Holds m ρ ↔ Meaning.Holds m ρ
   pub no-divisor-zero : NoDivisorZero m ρ ↔ Meaning.NoDivisorZero m ρ
