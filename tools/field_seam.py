@@ -18,8 +18,10 @@ ROOT = os.path.join(os.path.dirname(os.path.abspath(__file__)), "..", "crates")
 # tables of cases, examples worked out on numerals, and the numbers of the operators
 COMPUTED = {
     "agreement/proofs/Cases.antt",
+    "agreement/proofs/Compute.antt",
     "agreement/proofs/Example.antt",
     "agreement/proofs/Operators.antt",
+    "agreement/proofs/Pairs.antt",
     "eval_trees/proofs/Cases.antt",
     "eval_trees/proofs/Compute.antt",
     "eval_trees/proofs/Limits.antt",
@@ -28,6 +30,7 @@ COMPUTED = {
     "flatten_entry/proofs/Cases.antt",
     "pass_trees/proofs/Example.antt",
     "plain/proofs/Example.antt",
+    "plain/proofs/Pairs.antt",
 }
 
 USE = re.compile(r"^(?:pub )?(?:ghost )?use (Rattle\.[^{;\s]+?)(?:\.\{([^}]*)\})?(?: as (\S+?))?;?$", re.M)

@@ -71,12 +71,13 @@ def write(oracle, twin):
         w.put_small(*chosen)
     w.put_all([*damaged([r for r in generated(oracle, 30101, 60, "mixed") if len(r) < 900])])
     plain(w, 9000000, 150)
+    plain(w, 9500000, 150, pairs=True)
     write_counts(w)
 
 
-def plain(w, seed, n):
+def plain(w, seed, n, pairs=False):
     """Plain modules, each with equalities that agree with its equations."""
-    chosen = plain_modules(seed, n)
+    chosen = plain_modules(seed, n, pairs=pairs)
     records = [record_of(m) for m in chosen]
     for m, record, answer in zip(chosen, records, w.answers(records)):
         if judged(m, answer)[1]:

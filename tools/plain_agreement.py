@@ -1,10 +1,12 @@
 #!/usr/bin/env python3
 """Checks on random plain modules that the equalities of the constraint record hold exactly when the module's equations do.
 
-    python3 tools/plain_agreement.py TWIN PROGRAM SEED N [--ops LIST] [--widen] [--jobs J]
+    python3 tools/plain_agreement.py TWIN PROGRAM SEED N [--ops LIST] [--pairs] [--widen] [--jobs J]
 
 TWIN is built by oracle/build.sh, PROGRAM is test_flatten. Each seed from SEED on gives a plain module (document 01, "Plain modules") and elements for its
-inputs under which no divisor is zero; half of the equations are made to hold. The module is worked out from the top as document 01 says, by the evaluator below. Its
+inputs under which no divisor is zero; half of the equations are made to hold. With --pairs it has pairs and lists too: in
+definitions, lets and equations, nested, with names that stand twice in a pattern; one in ten has a last equation that does not fit (16, 18), and has to be
+refused with that number. The module is worked out from the top as document 01 says, by the evaluator below. Its
 constraint record is the Rust's, and test_flatten shows that the port's is the same, byte by byte; its equalities are solved from the inputs upward. They have
 to determine every variable in them, and to hold exactly when the equations do. Printed are the counts of modules whose equations
 hold, of those whose do not, and of refused ones (an exponent that is no constant); and what fails. The exit status says whether any does. With --ops, as
@@ -20,7 +22,7 @@ import sys
 
 from compare_source import BATCH, replay
 from source_records import answers, model, module_record, widened
-from trees import ADD, C, D, DIV, DIVZ, EQ, EXP, I, IDIV, L, MOD, MUL, SUB, V
+from trees import ADD, C, D, DIV, DIVZ, EQ, EXP, I, IDIV, L, MOD, MUL, N, PV, SUB, V
 
 P = 2147483647
 NEGATE, COPY = 9, 10
@@ -64,21 +66,44 @@ OPERATIONS = {
 }
 
 
+def names_of(p):
+    """The names of a pattern, from left to right."""
+    return [p[1]] if p[0] == "pvar" else [] if p[0] == "pnil" else names_of(p[1]) + names_of(p[2])
+
+
+def written(p, v, table):
+    """The table with a pattern's names written from left to right: a name twice means its last place."""
+    if p[0] == "pvar":
+        return {**table, p[1]: v}
+    return table if p[0] == "pnil" else written(p[2], v[2], written(p[1], v[1], table))
+
+
 def value(e, table):
-    """An expression's value; an operation without value is an error, used or not."""
+    """An expression's value: an element, nil, a pair or a list; an operation without value is an error, used or not."""
     if e[0] == "const":
         return element(e[1])
     if e[0] == "var":
         return table[e[1]]
+    if e[0] == "nil":
+        return e
+    if e[0] in ("prod", "cons"):
+        return (e[0], value(e[1], table), value(e[2], table))
     if e[0] == "neg":
         return element(-value(e[1], table))
     if e[0] == "let":
-        return value(e[3], {**table, e[1][1]: value(e[2], table)})
+        return value(e[3], written(e[1], value(e[2], table), table))
     return OPERATIONS[e[1]](value(e[2], table), value(e[3], table))
+
+
+def shape_of(v):
+    """A value without its elements."""
+    return "number" if isinstance(v, int) else v if v[0] == "nil" else (v[0], shape_of(v[1]), shape_of(v[2]))
 
 
 class Module:
     """A random plain module with elements for its inputs: publics, definitions, expressions."""
+
+    NOT_CONSTANT = "x"  # an exponent that is refused with 11
 
     def __init__(self, seed, ops=()):
         self.rng = rng = random.Random("plain %d" % seed)
@@ -86,12 +111,19 @@ class Module:
         self.inputs = {n: element(rng.choice((0, 1, -1, rng.randrange(-9, 10), rng.randrange(P)))) for n in sorted({*INPUTS, *NAMES})}
         self.publics = [rng.choice(INPUTS + NAMES) for _ in range(rng.choice((0, 0, 1, 2, 5)))]
         self.table, self.definitions = dict(self.inputs), []
+        self.number = 0  # of the refusal to expect, where it does not fit
+        self.make()
+
+    def make(self):
+        rng = self.rng
         for _ in range(rng.choice((0, 1, 2, 3, 5, 8))):
-            name, e = rng.choice(NAMES), self.expression(rng.randrange(4))
-            self.definitions.append(D(name, e))
-            self.table[name] = value(e, self.table)
+            self.define(PV(rng.choice(NAMES)), self.expression(rng.randrange(4)))
         self.equations = [self.equation(rng.random() < 0.75) for _ in range(rng.choice((0, 1, 1, 2, 3)))]
-        self.aside = DIVZ in ops and self.over_zero()
+        self.aside = DIVZ in self.ops and self.over_zero()
+
+    def define(self, pattern, e):
+        self.definitions.append((pattern, e))
+        self.table = written(pattern, value(e, self.table), self.table)
 
     def over_zero(self):
         """One equation more, a name | 0 = 0; whether it has no value."""
@@ -134,7 +166,7 @@ class Module:
 
     def exponent(self):
         n = self.rng.choice(EXPONENTS)
-        odd = (("neg", C(-n)), I(ADD, C(n - 5), C(5)), L("k", C(n), V("k")), I(EXP, C(n), C(1)), V("x"))
+        odd = (("neg", C(-n)), I(ADD, C(n - 5), C(5)), L("k", C(n), V("k")), I(EXP, C(n), C(1)), V(self.NOT_CONSTANT))
         return C(n) if self.rng.random() < 0.8 else self.rng.choice(odd)
 
     def equation(self, holds):
@@ -160,24 +192,131 @@ class Module:
                 ids[e[1]] = draw()
             elif e[0] == "neg":
                 walk(e[1], bound)
+            elif e[0] in ("prod", "cons"):
+                walk(e[1], bound)
+                walk(e[2], bound)
             elif e[0] == "infix":
                 walk(e[2], bound)
                 walk(e[3], bound)
             elif e[0] == "let":
                 walk(e[2], bound)
+                walk(e[3], bound | drawn_for(e[1]))
+
+        def drawn_for(pattern):
+            names = names_of(pattern)
+            for _ in names:
                 draw()
-                walk(e[3], bound | {e[1][1]})
+            return frozenset(names)
 
         defined = frozenset()
         for name in self.publics:
             walk(V(name), defined)
         for pattern, e in self.definitions:
             walk(e, defined)
-            draw()
-            defined |= {pattern[1]}
+            defined |= drawn_for(pattern)
         for e in self.equations:
             walk(e, defined)
         return ids
+
+
+class Pairs(Module):
+    """The same with pairs and lists. What is chosen first is a shape: "number", nil, or a pair or cons of shapes."""
+
+    NOT_CONSTANT = "w"  # a name that no pattern has
+
+    def make(self):
+        rng = self.rng
+        for _ in range(rng.choice((0, 1, 2, 3, 5))):
+            shape = self.shape(rng.randrange(4))
+            self.define(self.pattern(shape), self.shaped(shape, rng.randrange(3)))
+        self.equations = [self.pair_equation(rng.random() < 0.75) for _ in range(rng.choice((1, 1, 2, 3)))]
+        self.aside = False
+        if rng.random() < 0.1:
+            self.misfit()
+
+    def shape(self, depth):
+        if depth == 0 or self.rng.random() < 0.2:
+            return self.rng.choice(("number", "number", N))
+        return (self.rng.choice(("prod", "cons")), self.shape(depth - 1), self.shape(depth - 1))
+
+    def pattern(self, shape):
+        """A pattern that fits: names are few, so that some stand twice."""
+        if shape == "number" or self.rng.random() < 0.25:
+            return PV(self.rng.choice(NAMES))
+        if shape == N:
+            return ("pnil",)
+        return ("p" + shape[0], self.pattern(shape[1]), self.pattern(shape[2]))
+
+    def shaped(self, shape, depth):
+        """An expression of a shape that has a value by the table."""
+        while True:
+            e = self.some(shape, depth, self.table)
+            try:
+                value(e, self.table)
+                return e
+            except NoValue:
+                pass
+
+    def some(self, shape, depth, table):
+        """One whose variables have the shapes that the table says."""
+        rng = self.rng
+        fitting = [n for n in table if shape_of(table[n]) == shape]
+        if fitting and shape != "number" and rng.random() < 0.4:
+            return V(rng.choice(fitting))
+        if depth > 0 and rng.random() < 0.3:
+            inner = self.shape(rng.randrange(3))
+            pattern, bound = self.pattern(inner), self.some(inner, depth - 1, table)
+            return L(pattern, bound, self.some(shape, depth - 1, written(pattern, sample(inner), table)))
+        if shape == "number":
+            return self.any(rng.randrange(depth + 1), fitting or ["x"])
+        if shape == N:
+            return N
+        return (shape[0], self.some(shape[1], depth, table), self.some(shape[2], depth, table))
+
+    def any(self, depth, names):
+        """Arithmetic, on names that are numbers."""
+        return super().any(depth, [n for n in names if n not in self.table or isinstance(self.table[n], int)] or ["z"])
+
+    def pair_equation(self, holds):
+        rng = self.rng
+        shape = self.shape(rng.randrange(4))
+        left, right = self.shaped(shape, rng.randrange(3)), self.shaped(shape, rng.randrange(2))
+        if holds:
+            right = rng.choice((left, constants(value(left, self.table)), made_equal(left, right, self.table)))
+        return I(EQ, left, right) if rng.random() < 0.5 else I(EQ, right, left)
+
+    def misfit(self):
+        """A last equation that evaluation refuses: sides or a pattern of another shape, arithmetic on what is no number."""
+        rng = self.rng
+        shape = self.shape(2)
+        while shape == "number":
+            shape = self.shape(2)
+        e = self.shaped(shape, 1)
+        other = rng.choice([s for s in ("number", N, ("prod", N, "number"), ("cons", "number", N)) if s != shape and (s == "number" or s[0] != shape[0])])
+        pattern = ("pnil",) if shape == N else ("p" + shape[0], PV("k"), PV("l"))
+        self.number, equation = rng.choice((
+            (16, I(EQ, e, self.shaped(other, 1))), (16, I(EQ, L(pattern, self.shaped(other, 1), C(1)), C(1))),
+            (18, I(EQ, I(rng.choice((DIV, MUL, ADD, SUB, EXP)), e, C(2)), C(1))), (18, I(EQ, ("neg", e), C(1))),
+        ))
+        self.equations.append(equation)
+
+
+def sample(shape):
+    """A value of a shape, whatever its elements."""
+    return 1 if shape == "number" else shape if shape == N else (shape[0], sample(shape[1]), sample(shape[2]))
+
+
+def constants(v):
+    """The expression of a value."""
+    return C(v) if isinstance(v, int) else v if v == N else (v[0], constants(v[1]), constants(v[2]))
+
+
+def made_equal(left, right, table):
+    """A right side that has the left one's value: where both are written as pairs, component by component."""
+    if left[0] == right[0] and left[0] in ("prod", "cons"):
+        return (left[0], made_equal(left[1], right[1], table), made_equal(left[2], right[2], table))
+    v, w = value(left, table), value(right, table)
+    return I(ADD, right, C(element(v - w))) if isinstance(v, int) else constants(v)
 
 
 def equalities_of(record):
@@ -218,8 +357,8 @@ def solved(equalities, known):
 
 def judged(module, answer):
     """What a module came to, and whether that is a failure."""
-    if answer.number:
-        return "refused %d" % answer.number, answer.number not in ((11, 17) if module.aside else (11,))
+    if answer.number or module.number:
+        return "refused %d" % answer.number, answer.number not in ((11, 17) if module.aside else (11, module.number) if module.number else (11,))
     ids, holds = module.input_ids(), module.holds()
     _, _, provers, _, kept = struct.unpack_from("<5I", answer.record)
     try:
@@ -235,8 +374,8 @@ def lengths(answer):
     return [(16 * answer.made, len(answer.record or b""))]
 
 
-def modules(start, count, ops=()):
-    return [Module(s, ops) for s in range(start, start + count)]
+def modules(start, count, ops=(), pairs=False):
+    return [(Pairs if pairs else Module)(s, ops) for s in range(start, start + count)]
 
 
 def record_of(m):
@@ -250,12 +389,13 @@ def main():
     p.add_argument("seed", type=int)
     p.add_argument("n", type=int)
     p.add_argument("--ops", type=lambda text: [int(n) for n in text.split(",")], default=[])
+    p.add_argument("--pairs", action="store_true")
     p.add_argument("--widen", action="store_true")
     p.add_argument("--jobs", type=int, default=2)
     a = p.parse_args()
     counts, failures, equalities = collections.Counter(), 0, 0
     for start in range(a.seed, a.seed + a.n, BATCH):
-        made = modules(start, min(BATCH, a.seed + a.n - start), a.ops)
+        made = modules(start, min(BATCH, a.seed + a.n - start), a.ops, a.pairs)
         records = [widened(record_of(m), m.rng, kept=True) if a.widen else record_of(m) for m in made]
         known = answers(a.twin, records, 5, a.jobs, "cons")
         for k, (m, answer) in enumerate(zip(made, known)):

@@ -2,16 +2,14 @@
 use mathlib.Core.Path.{◌≡◌, refl, sym, ap, ◌∙◌}
 use mathlib.Core.Bool.{Bool, true, false}
 use mathlib.Core.List.{List, [], ◌∷◌}
-use mathlib.Core.Option.{Option, none, some}
 use Prim.Native.Nat.{ℕ}
 use native.Mathlib.Omega.{arith}
-use lib.IntN.{ℤ, pos}
+use lib.IntN.{ℤ}
 use Rattle.field.specs.Prime.{P}
 use Rattle.field.specs.Element.{elem}
-use Rattle.field.proofs.Units.{zero-element}
 use Rattle.source.specs.Trees.{Module}
 use Rattle.flat.specs.Trees.{FlatModule, defines}
-use Rattle.flat.specs.Meaning.{Assignment, Elements, worked_out}
+use Rattle.flat.specs.Meaning.{Assignment, worked_out}
 use Rattle.constraint.specs.Trees.{ConstraintModule}
 use Rattle.constraint.specs.Meaning as Constraints
 use Rattle.pass_trees.specs.Passes.{member, classify_defs, counted, cut, cut_of}
@@ -21,18 +19,16 @@ use Rattle.pass_trees.specs.Statements.{KeepsMeaning}
 use Rattle.pass_trees.proofs.Lists.{all_map, all-those, every_map, every-both, defines-those}
 use Rattle.pass_trees.proofs.Classified.{all_both}
 use Rattle.pass_trees.proofs.Agreement.{cut-keeps-meaning-at, inputs-given}
-use Rattle.numbering.specs.Numbering.{names_of, numbered}
+use Rattle.numbering.specs.Numbering.{numbered}
 use Rattle.numbering.specs.Inputs.{inputs, input_ids}
 use Rattle.numbering.specs.Statements.{Pointwise}
 use Rattle.numbering.specs.Statements
-use Rattle.numbering.proofs.Lists.{all-member, members, pointwise-map}
-use Rattle.numbering.proofs.Names.{name_of, falling-named}
-use Rattle.numbering.proofs.Facts.{module-step}
+use Rattle.numbering.proofs.Lists.{all-member, members}
 use Rattle.eval_trees.specs.Evaluation.{Evaluated, flat, refusal, evaluated}
 use Rattle.plain.specs.Plain.{is_plain_body}
 use Rattle.plain.specs.Meaning.{NoDivisorZero}
 use Rattle.plain.specs.Statements.{IsInput, Gives, Known, PlainFlat, SaysTheSame}
-use Rattle.plain.proofs.Agreement.{plain-modules-agree}
+use Rattle.plain.proofs.Agreement.{plain-modules-agree, by-id, by-id-elements, by-id-gives}
 use Rattle.agreement.specs.Flattened.{passed, flattened_of}
 use Rattle.agreement.specs.Statement.{Solves, Agrees, Agreement}
 
@@ -84,28 +80,6 @@ module _ (m : Module) (f : FlatModule) (w : PlainFlat m f) where
       same [] (i ∷ is) p q = absurd p
       same (x ∷ xs) [] p q = absurd p
       same (x ∷ xs) (i ∷ is) p q = (q.0 ∙ sym p.0, same xs is p.1 q.1)
-
--- the inputs' elements by id, 0 elsewhere
-named-or : (ℕ → ℤ) → Option ℕ → ℤ
-named-or ρ none = pos 0
-named-or ρ (some x) = ρ x
-
-pub by-id : Module → (ℕ → ℤ) → Assignment
-by-id m ρ i = named-or ρ (name_of i (names_of m).globals)
-
-pub by-id-elements : (m : Module) (ρ : ℕ → ℤ) → ((x : ℕ) → elem P (ρ x) ≡ ρ x) → Elements (by-id m ρ)
-unfolding by-id named-or
-by-id-elements m ρ c i = go (name_of i (names_of m).globals)
-  where
-    go : (o : Option ℕ) → elem P (named-or ρ o) ≡ named-or ρ o
-    go none = zero-element
-    go (some x) = c x
-
-pub by-id-gives : (m : Module) (ρ : ℕ → ℤ) → Gives m ρ (by-id m ρ)
-unfolding by-id named-or
-by-id-gives m ρ =
-    let s = (module-step m).rest in
-    pointwise-map (λ x i e. ap (named-or ρ) (falling-named _ _ s.grown.well.falling x i e)) (inputs m) (input_ids (numbered m)) s.free
 
 -- for an evaluated plain module
 module _ (m : Module) (plain : is_plain_body m ≡ true) (capacity : ℕ) (f : FlatModule) (e : evaluated capacity (numbered m) ≡ flat f) (c : ConstraintModule)

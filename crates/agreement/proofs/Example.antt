@@ -11,16 +11,15 @@ use Rattle.field.specs.Element.{elem}
 use Rattle.field.specs.Operations.{sum, product}
 use Rattle.field.proofs.Primality.{P-prime}
 use Rattle.field.proofs.Values.{not-zero-value, add-answer, multiply-answer, has-value-where}
-use Rattle.flat.specs.Meaning.{update, on_values}
 use Rattle.constraint.specs.declared.Term.{Term}
-use Rattle.constraint.specs.Trees.{at_place, Side, ConstraintModule}
-use Rattle.pass_trees.specs.Passes
+use Rattle.constraint.specs.Trees.{Side, ConstraintModule}
 use Rattle.pass_trees.specs.Passes.{cut}
-use Rattle.eval_trees.proofs.Compute.{answer_of}
-use Rattle.plain.specs.Meaning.{write, through, value_of, NotZeroInEquation, NoDivisorZero}
+use Rattle.plain.specs.Meaning.{NoDivisorZero}
+use Rattle.plain.proofs.Compute.{rules_of}
 use Rattle.plain.proofs.Condition.{plain-has-plain-body}
 use Rattle.plain.proofs.Example.{source, is-plain}
-use Rattle.agreement.specs.Flattened.{passed, flattened_of}
+use Rattle.agreement.specs.Flattened.{flattened_of}
+use Rattle.agreement.proofs.Compute.{list_of}
 use Rattle.agreement.specs.Statement.{Agrees}
 use Rattle.agreement.proofs.Agreement.{agreement}
 
@@ -40,20 +39,12 @@ equalities = record {
 }
 
 is_cut : flattened_of 65535 source ≡ cut equalities
-unfolding answer_of flattened_of passed update Passes.member Passes.keep_if Passes.those Passes.most Passes.is_never Passes.is_witness Passes.mark_used
-    Passes.used_in Passes.override Passes.classify_def Passes.classified Passes.usage Passes.ids_from Passes.classify_defs Passes.follow Passes.walk
-    Passes.to_expr Passes.copy_propagate_expr Passes.substituting Passes.copy_propagate_def Passes.after_def Passes.copy_propagate_defs Passes.after_defs
-    Passes.copy_propagate_equations Passes.copy_propagate Passes.same_number Passes.dead Passes.alive Passes.eliminate_dead_equalities Passes.is_one
-    Passes.is_zero Passes.when Passes.infix_op Passes.or_variable Passes.push_constraint_def Passes.copied Passes.flatten_expr_to_3ac Passes.cuts_of
-    Passes.joined
-    at_place Passes.all_at Passes.placed
-    Passes.flatten_def_to_3ac Passes.flatten_defs Passes.sides Passes.flatten_sides Passes.flatten_equations Passes.flatten_lists Passes.flatten_module_to_3ac
-    Passes.passes Passes.cuttable Passes.cuttable_expr Passes.cuttable_defs Passes.cuttable_equations Passes.counted Passes.unless Passes.fitting Passes.cut_of
+unfolding list_of
 is_cut = refl
 
 -- the one divisor is x
 not-zero : (ρ : ℕ → ℤ) → elem P (ρ 0) ≡ ρ 0 → (Some (ρ 0) ≡ Some (pos 0) → ⊥) → NoDivisorZero source ρ
-unfolding value_of on_values write update through NotZeroInEquation
+unfolding rules_of
 not-zero ρ c h =
     let quotient = (has-value-where P P-prime (elem P (pos 1)) (ρ 0) Divide).1 (not-zero-value P P-prime (ρ 0) c h) in
     let up = add-answer P (ρ 0) (elem P (pos 1)) in

@@ -1,7 +1,10 @@
+pub mod Compute
 pub mod Agreement
 pub mod Cases
 pub mod Cuttable
 pub mod Example
+pub mod Pairs
+pub mod WithoutPairs
 pub mod Never
 pub mod Operators
 pub mod Ending

@@ -1,3 +1,4 @@
 pub mod Flattened
 pub mod Statement
 pub mod Bare
+pub mod WithoutPairs

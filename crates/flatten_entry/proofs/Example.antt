@@ -28,17 +28,15 @@ use Rattle.source.specs.Record
 use Rattle.source.specs.Record.{Read}
 use Rattle.flat.specs.Record as Flat
 use Rattle.flat.specs.Trees.{definitions_nodes}
-use Rattle.flat.specs.Meaning.{update, on_values}
 use Rattle.constraint.specs.Record.{constraint_bytes}
 use Rattle.constraint.specs.Reading.{constraint_of}
 use Rattle.constraint.proofs.Lengths.{length-bytes}
 use Rattle.pass_trees.specs.Passes.{Outcome, refused}
 use Rattle.std.specs.Prelude.{Ok}
 use Rattle.pass_entry.specs.Cut.{answer_for, output_for}
-use Rattle.numbering.specs.Numbering.{found, same_text, named, registered}
-use Rattle.plain.specs.Plain.{is_plain, is_plain_body, is_arithmetic, is_free, is_plain_name, is_plain_pattern, is_plain_expr}
-use Rattle.plain.specs.Plain.{is_equal, is_plain_equation, are_plain_publics, are_plain_definitions, are_plain_equations}
-use Rattle.plain.specs.Meaning.{write, value_of, NotZeroInEquation, NoDivisorZero}
+use Rattle.plain.specs.Plain.{is_plain}
+use Rattle.plain.specs.Meaning.{NoDivisorZero}
+use Rattle.plain.proofs.Compute.{rules_of, plain_of}
 use Rattle.plain.proofs.Condition.{plain-has-plain-body}
 use Rattle.agreement.specs.Statement.{Agrees}
 use Rattle.flatten_entry.specs.Flatten.{flattened}
@@ -65,8 +63,7 @@ unfolding word_at bytes_of every total rows pick Layout.counted listed offset_of
 is_read = refl
 
 is-plain : is_plain module-text ≡ true
-unfolding is_plain is_plain_body is_arithmetic is_free is_plain_name is_plain_pattern is_plain_expr is_equal is_plain_equation are_plain_publics
-    are_plain_definitions are_plain_equations found same_text named registered
+unfolding plain_of
 is-plain = refl
 
 is_cut : flattened product 1048560 ≡ product-cut
@@ -88,7 +85,7 @@ is-written out l =
 
 -- the divisors: x
 not-zero : (ρ : ℕ → ℤ) → elem P (ρ 2) ≡ ρ 2 → (Some (ρ 2) ≡ Some (pos 0) → ⊥) → NoDivisorZero module-text ρ
-unfolding value_of on_values write update NotZeroInEquation
+unfolding rules_of
 not-zero ρ c h =
     let quotient = (has-value-where P P-prime (elem P (pos 1)) (ρ 2) Divide).1 (not-zero-value P P-prime (ρ 2) c h) in
     let up = add-answer P (ρ 2) (elem P (pos 1)) in

@@ -2,16 +2,16 @@
 use mathlib.Core.Path.{◌≡◌, refl, sym, ap, subst, ◌∙◌}
 use mathlib.Core.Bool.{Bool, true, false, cond, not}
 use mathlib.Core.List.{List, [], ◌∷◌}
-use mathlib.Core.Option.{some}
+use mathlib.Core.Option.{Option, none, some}
 use Prim.Native.Nat.{ℕ, ◌<◌, ◌≤◌}
 use native.Mathlib.Nat.{le_trans}
 use native.Mathlib.Omega.{arith}
-use lib.IntN.{ℤ}
+use lib.IntN.{ℤ, pos}
 use lib.Dec.{ltb}
 use borrow.Author.Tests.{lt-ltb, le-ltb}
-use Rattle.std.specs.Prelude.{Some}
 use Rattle.field.specs.Prime.{P}
 use Rattle.field.specs.Element.{elem}
+use Rattle.field.proofs.Units.{zero-element}
 use Rattle.source.specs.Trees.{Module}
 use Rattle.flat.specs.Trees.{FlatModule, defines}
 use Rattle.flat.specs.Rules
@@ -21,26 +21,25 @@ use Rattle.numbering.specs.Numbering.{Ids, found, ◌>>=◌, return, number_publ
 use Rattle.numbering.specs.Inputs.{member, free_in_definitions, defining, free_in_expressions, free_in_module, inputs, input_ids}
 use Rattle.numbering.specs.Statements.{definition_binders, expression_binders, all_binders, All, Pointwise}
 use Rattle.numbering.proofs.Lists.{all_append, all_split, all_map, all-member, members, pointwise-map, zipped}
-use Rattle.numbering.proofs.Names.{none-some, falling-bounded, falling-named, registered-well}
+use Rattle.numbering.proofs.Names.{none-some, name_of, falling-bounded, falling-named, registered-well}
 use Rattle.numbering.proofs.Facts.{publics-step, definitions-step, empty-scope, module-step}
 use Rattle.eval_trees.specs.Evaluation.{flat, evaluated}
 use Rattle.plain.specs.Plain.{are_plain_definitions, is_plain_body}
-use Rattle.plain.specs.Meaning.{Equal-sides, sides, start, NoDivisorZero}
+use Rattle.plain.specs.Meaning.{Equal-sides, sides, start, NoDivisorZero, AllValued}
 use Rattle.plain.specs.Meaning
 use Rattle.plain.specs.Statements.{IsInput, Gives, PlainFlat, SaysTheSame, PlainModulesAgree}
-use Rattle.plain.proofs.Values.{false-true, table}
-use Rattle.plain.proofs.Modules.{ScopedDefinitions, ScopedEquations, flat_sides, InTurnValued, Kept, evaluated-kept}
+use Rattle.plain.proofs.Values.{false-true, both_true, num, table}
+use Rattle.plain.proofs.Ordering.{not-true}
+use Rattle.plain.proofs.States.{Input}
+use Rattle.plain.proofs.Modules.{ScopedDefinitions, ScopedEquations, SpansDefinitions, SpansEquations, InTurnValued, InOrder, ModuleKept, module-kept}
+use Rattle.plain.proofs.Modules.{input-undefined, ordered, known, ids-below, defined-ids, every_map}
+use Rattle.plain.proofs.Modules
 use Rattle.plain.proofs.Placed.{kept-placed, order-placed}
 use Rattle.eval_trees.proofs.Made.{evaluated-back}
-use Rattle.plain.proofs.Order.{Input, not-true}
-use Rattle.plain.proofs.OrderModules.{SpansDefinitions, SpansEquations, InOrder, order-kept}
-use Rattle.plain.proofs.OrderModules.{input-undefined, ordered, known, ids-below, defined-ids, every_map}
-use Rattle.plain.proofs.OrderModules
-use Rattle.plain.proofs.Numbered.{both_true, Named, plain-definitions, plain-equations, PlainDefinitions, PlainEquations, Any, rises-split}
+use Rattle.plain.proofs.Numbered.{Named, plain-definitions, plain-equations, PlainDefinitions, PlainEquations, Any, rises-split}
 use Rattle.plain.proofs.Numbered.{pointwise-split, free-definitions, free-equations, numbered-definitions, numbered-equations, definitions-scoped}
 use Rattle.plain.proofs.Numbered.{equations-scoped, definitions-spans, equations-spans, Means, Agreed, definitions-mean, equations-mean}
 use Rattle.plain.proofs.Working.{worked-elements, worked-keeps, definitions-hold, no-zero-in-turn, sides-hold}
-use Rattle.plain.proofs.Divisors.{definitions-valued, equations-valued}
 
 all_any : (xs : List ℕ) → All Any xs
 all_any [] = tt
@@ -142,48 +141,52 @@ module _ (m : Module) (plain : is_plain_body m ≡ true) where
   Δ : List ℕ
   Δ = defining (numbered m).definitions []
 
-  scoped-definitions : ScopedDefinitions bound N [] (numbered m).definitions Δ
-  unfolding Δ input_ids free_in_module all_binders
+  scoped-definitions : ScopedDefinitions (Input bound N beyond) [] (numbered m).definitions Δ
+  unfolding Δ input_ids free_in_module
   scoped-definitions =
-      definitions-scoped bound N (IsInput m) input-free [] definitions-numbered
+      definitions-scoped (Input bound N beyond) (IsInput m) input-free [] definitions-numbered
       (all_split (IsInput m) (free_in_definitions [] (numbered m).definitions)
       (free_in_expressions (defining (numbered m).definitions []) (numbered m).expressions) all-inputs).0
-      (all_split (λ i. bound i ≡ true) (definition_binders (numbered m).definitions) (expression_binders (numbered m).expressions) binders-bound).0
 
-  scoped-equations : ScopedEquations bound N Δ (numbered m).expressions
-  unfolding Δ input_ids free_in_module all_binders
+  scoped-equations : ScopedEquations (Input bound N beyond) Δ (numbered m).expressions
+  unfolding Δ input_ids free_in_module
   scoped-equations =
-      equations-scoped bound N (IsInput m) input-free (defining (numbered m).definitions []) equations-numbered
+      equations-scoped (Input bound N beyond) (IsInput m) input-free (defining (numbered m).definitions []) equations-numbered
       (all_split (IsInput m) (free_in_definitions [] (numbered m).definitions)
       (free_in_expressions (defining (numbered m).definitions []) (numbered m).expressions) all-inputs).1
-      (all_split (λ i. bound i ≡ true) (definition_binders (numbered m).definitions) (expression_binders (numbered m).expressions) binders-bound).1
 
   record Spanned : Type 0 where
     pub mid : ℕ
-    pub definitions : SpansDefinitions 9 (numbered m).definitions mid
-    pub equations : SpansEquations mid (numbered m).expressions N
+    pub definitions : SpansDefinitions bound 9 (numbered m).definitions mid
+    pub equations : SpansEquations bound mid (numbered m).expressions N
 
   spanned : Spanned
   unfolding N numbered registered all_binders
   spanned =
       let w = rises-split 9 (definition_binders (numbered m).definitions) (expression_binders (numbered m).expressions) (names_of m).next
       (module-step m).rest.rises in
+      let b = all_split (λ i. bound i ≡ true) (definition_binders (numbered m).definitions) (expression_binders (numbered m).expressions) binders-bound in
       record {
         mid = w.0;
-        definitions = definitions-spans 9 w.0 definitions-numbered w.1;
-        equations = equations-spans w.0 (names_of m).next equations-numbered w.2;
+        definitions = definitions-spans bound 9 w.0 definitions-numbered w.1 b.0;
+        equations = equations-spans bound w.0 (names_of m).next equations-numbered w.2 b.1;
       }
 
   module _ (capacity : ℕ) (f : FlatModule) (e : evaluated capacity (numbered m) ≡ flat f) where
-    in_order : InOrder (Input bound N beyond) f
+    -- the flat module without places
+    bare-kept : ModuleKept bound N beyond (numbered m) (evaluated-back capacity (numbered m) f e).made
     unfolding N numbered
-    in_order =
+    bare-kept =
         let sp = spanned in
         let u = evaluated-back capacity (numbered m) f e in
-        subst (InOrder (Input bound N beyond)) (sym u.is) (order-placed (Input bound N beyond) _ _ u.made
-        (order-kept bound N beyond 256 capacity 9 (numbered m) Δ u.made {mid = sp.mid} refl (intrinsic 0 (omega arith)) (intrinsic 2 (omega arith))
+        module-kept bound N beyond 256 capacity 9 sp.mid (numbered m) Δ u.made refl (intrinsic 0 (omega arith)) (intrinsic 2 (omega arith))
         (intrinsic 5 (omega arith)) scoped-definitions scoped-equations sp.definitions sp.equations
-        (rules-all (λ v. v < (names_of m).next) (numbered m).publics (module-step m).publics.uses) u.by))
+        (rules-all (λ v. v < (names_of m).next) (numbered m).publics (module-step m).publics.uses) u.by
+
+    in_order : InOrder (Input bound N beyond) f
+    in_order =
+        let u = evaluated-back capacity (numbered m) f e in
+        subst (InOrder (Input bound N beyond)) (sym u.is) (order-placed (Input bound N beyond) _ _ u.made bare-kept.in_order)
 
     known-definitions : Rules.All (λ d. Every (λ v. defines f.definitions v ≡ false → Input bound N beyond v) d.right) f.definitions
     unfolding defines
@@ -195,8 +198,8 @@ module _ (m : Module) (plain : is_plain_body m ≡ true) where
 
     ids-and-uses : Rules.All (λ d. (d.id < f.next) × Every (λ v. v < f.next) d.right) f.definitions
     ids-and-uses =
-        OrderModules.all_both _ _ f.definitions (defined-ids (Input bound N beyond) f.definitions f.next in_order.defined-below)
-        (OrderModules.all_map _ _ (λ d h. every_map _ _ below d.right h) f.definitions known-definitions)
+        Modules.all_both _ _ f.definitions (defined-ids (Input bound N beyond) f.definitions f.next in_order.defined-below)
+        (Modules.all_map _ _ (λ d h. every_map _ _ below d.right h) f.definitions known-definitions)
 
     pub plain_flat : PlainFlat m f
     plain_flat = record {
@@ -206,14 +209,14 @@ module _ (m : Module) (plain : is_plain_body m ≡ true) where
         provers-rise = subst Rising (sym in_order.no-provers) tt;
         definitions-below = ids-and-uses;
         equations-below =
-            OrderModules.all_map _ _ (λ q h. (every_map _ _ below q.left h.0, every_map _ _ below q.right h.1))
+            Modules.all_map _ _ (λ q h. (every_map _ _ below q.left h.0, every_map _ _ below q.right h.1))
             f.equations in_order.equations;
         ordered = ordered (Input bound N beyond) [] f.definitions in_order.definitions;
       };
       no-provers = in_order.no-provers;
-      definitions-known = OrderModules.all_map _ _ (λ d h. every_map _ _ (λ v k n. free_input v (k n)) d.right h) f.definitions known-definitions;
+      definitions-known = Modules.all_map _ _ (λ d h. every_map _ _ (λ v k n. free_input v (k n)) d.right h) f.definitions known-definitions;
       equations-known =
-          OrderModules.all_map _ _
+          Modules.all_map _ _
           (λ q h. (every_map _ _ (λ v k n. free_input v (k n)) q.left h.0, every_map _ _ (λ v k n. free_input v (k n)) q.right h.1))
           f.equations in_order.equations;
       inputs-undefined = λ i h. (
@@ -222,22 +225,27 @@ module _ (m : Module) (plain : is_plain_body m ≡ true) where
       );
     }
 
-    module _ (ρ : ℕ → ℤ) (elements : (x : ℕ) → elem P (ρ x) ≡ ρ x) (no_zero : NoDivisorZero m ρ) (υ : Assignment) (υ-elements : Elements υ)
-        (gives : Gives m ρ υ) where
+    module _ (ρ : ℕ → ℤ) (no_zero : NoDivisorZero m ρ) (υ : Assignment) (gives : Gives m ρ υ) where
       agreed : Pointwise (Agreed (start ρ) (table υ)) (inputs m) (input_ids (numbered m))
-      agreed = pointwise-map (λ x i h. ap Some h) (inputs m) (input_ids (numbered m)) gives
+      agreed = pointwise-map (λ x i h. ap num h) (inputs m) (input_ids (numbered m)) gives
 
       nothing_bound : Means [] [] [] (start ρ) (table υ) (start ρ) (table υ)
       unfolding found
       nothing_bound = record { local = λ x i h. absurd (none-some i h); names = λ x h. refl; ids = λ i h. refl }
 
-      record Evaluated : Type 0 where
-        pub in-turn : InTurnValued υ f.definitions
-        pub same-sides : flat_sides (worked_out f.definitions υ) f.equations ≡ sides (Meaning.defined (start ρ) m.definitions) m.expressions
+      -- the numbered module under υ and the module under ρ
+      record Meant : Type 0 where
+        pub definitions-not-zero : Meaning.NotZeroInDefinitions (table υ) (numbered m).definitions
+        pub equations-not-zero : Rules.All (Meaning.NotZeroInEquation (Meaning.defined (table υ) (numbered m).definitions)) (numbered m).expressions
+        pub same-sides : sides (Meaning.defined (table υ) (numbered m).definitions) (numbered m).expressions
+            ≡ sides (Meaning.defined (start ρ) m.definitions) m.expressions
+        pub definitions-valued : Meaning.DefinitionsValued (table υ) (numbered m).definitions → Meaning.DefinitionsValued (start ρ) m.definitions
+        pub equations-valued : Meaning.EquationsValued (Meaning.defined (table υ) (numbered m).definitions) (numbered m).expressions
+            → Meaning.EquationsValued (Meaning.defined (start ρ) m.definitions) m.expressions
 
-      kept : Evaluated
-      unfolding numbered number_module_variables ◌>>=◌ return inputs input_ids free_in_module N Δ
-      kept =
+      meant : Meant
+      unfolding numbered number_module_variables ◌>>=◌ return inputs input_ids free_in_module
+      meant =
           let g = (number_publics m.publics (registered m.names)).1 in
           let p = publics-step m.publics (registered m.names) (registered-well m.names) in
           let ds = definitions-step m.definitions [] [] [] g p.grown.well (empty-scope g) in
@@ -247,27 +255,68 @@ module _ (m : Module) (plain : is_plain_body m ≡ true) where
           definitions-mean definitions-plain [] [] [] g (start ρ) (table υ) (start ρ) (table υ) p.grown.well (empty-scope g) nothing_bound k.0 in
           let em = equations-mean equations-plain (defining m.definitions []) _ _ _ (Meaning.defined (start ρ) m.definitions)
           (Meaning.defined (table υ) (numbered m).definitions) (start ρ) (table υ) ds.step.grown.well ds.scope dm.means k.1 in
-          let dv = definitions-valued definitions-plain (start ρ) (λ x. (ρ x, refl)) no_zero.0 in
-          let ev = equations-valued equations-plain (Meaning.defined (start ρ) m.definitions) dv.total no_zero.1 in
-          let u = evaluated-back capacity (numbered m) f e in
-          let made = evaluated-kept bound N beyond υ υ-elements 256 capacity (numbered m) Δ u.made refl (intrinsic 0 (omega arith)) (intrinsic 2 (omega arith))
-          (intrinsic 5 (omega arith)) scoped-definitions scoped-equations (dm.valued dv.valued) (em.valued ev) u.by in
-          let kp = subst (Kept bound N beyond υ υ-elements _ _) (sym u.is) (kept-placed bound N beyond υ υ-elements _ _ _ _ u.made made) in
-          record { in-turn = kp.in-turn; same-sides = kp.same-sides ∙ em.means }
+          record {
+            definitions-not-zero = dm.not-zero no_zero.0;
+            equations-not-zero = em.not-zero no_zero.1;
+            same-sides = em.means;
+            definitions-valued = dm.valued;
+            equations-valued = em.valued;
+          }
 
-      pub says-the-same : SaysTheSame m ρ f υ (worked_out f.definitions υ)
-      says-the-same =
+      -- all values are there, whatever υ is
+      pub valued : AllValued m ρ
+      valued =
+          let v = bare-kept.valued υ meant.definitions-not-zero meant.equations-not-zero in
+          (meant.definitions-valued v.0, meant.equations-valued v.1)
+
+      kept : Elements υ → Modules.Worked bound N beyond υ (numbered m).definitions (numbered m).expressions f
+      kept υ-elements =
+          let u = evaluated-back capacity (numbered m) f e in
+          subst (Modules.Worked bound N beyond υ _ _) (sym u.is)
+          (kept-placed bound N beyond _ _ υ _ _ u.made (bare-kept.says υ υ-elements meant.definitions-not-zero meant.equations-not-zero))
+
+      pub says-the-same : Elements υ → SaysTheSame m ρ f υ (worked_out f.definitions υ)
+      says-the-same υ-elements =
+          let k = kept υ-elements in
+          let same = k.same-sides ∙ meant.same-sides in
           let r = sides-hold (worked_out f.definitions υ) f.equations in
           record {
             elements = worked-elements f.definitions υ υ-elements;
             inputs-kept = λ i h. worked-keeps f.definitions υ i (plain_flat.inputs-undefined i h).1;
-            no-zero-divisor = no-zero-in-turn f.definitions υ kept.in-turn;
-            definitions-hold = definitions-hold f.definitions υ plain_flat.well-formed.ordered kept.in-turn;
-            equations-agree =
-                ((λ h. r.0 (subst (Rules.All Equal-sides) (sym kept.same-sides) h)), (λ h. subst (Rules.All Equal-sides) kept.same-sides (r.1 h)));
+            no-zero-divisor = no-zero-in-turn f.definitions υ k.in-turn;
+            definitions-hold = definitions-hold f.definitions υ plain_flat.well-formed.ordered k.in-turn;
+            equations-agree = ((λ h. r.0 (subst (Rules.All Equal-sides) (sym same) h)), (λ h. subst (Rules.All Equal-sides) same (r.1 h)));
           }
 
 -- THE THEOREM
 pub plain-modules-agree : PlainModulesAgree
 plain-modules-agree m plain capacity f e =
-    (plain_flat m plain capacity f e, (λ ρ elements no_zero υ υ-elements gives. says-the-same m plain capacity f e ρ elements no_zero υ υ-elements gives))
+    (plain_flat m plain capacity f e, (λ ρ elements no_zero υ υ-elements gives. says-the-same m plain capacity f e ρ no_zero υ gives υ-elements))
+
+-- ---- the inputs' elements by id, 0 elsewhere
+
+named-or : (ℕ → ℤ) → Option ℕ → ℤ
+named-or ρ none = pos 0
+named-or ρ (some x) = ρ x
+
+pub by-id : Module → (ℕ → ℤ) → Assignment
+by-id m ρ i = named-or ρ (name_of i (names_of m).globals)
+
+pub by-id-elements : (m : Module) (ρ : ℕ → ℤ) → ((x : ℕ) → elem P (ρ x) ≡ ρ x) → Elements (by-id m ρ)
+unfolding by-id named-or
+by-id-elements m ρ c i = go (name_of i (names_of m).globals)
+  where
+    go : (o : Option ℕ) → elem P (named-or ρ o) ≡ named-or ρ o
+    go none = zero-element
+    go (some x) = c x
+
+pub by-id-gives : (m : Module) (ρ : ℕ → ℤ) → Gives m ρ (by-id m ρ)
+unfolding by-id named-or
+by-id-gives m ρ =
+    let s = (module-step m).rest in
+    pointwise-map (λ x i e. ap (named-or ρ) (falling-named _ _ s.grown.well.falling x i e)) (inputs m) (input_ids (numbered m)) s.free
+
+-- an accepted module in which no divisor is zero has all its values
+pub all-valued : (m : Module) → is_plain_body m ≡ true → (capacity : ℕ) (f : FlatModule) → evaluated capacity (numbered m) ≡ flat f
+    → (ρ : ℕ → ℤ) → NoDivisorZero m ρ → AllValued m ρ
+all-valued m plain capacity f e ρ no_zero = valued m plain capacity f e ρ no_zero (by-id m ρ) (by-id-gives m ρ)

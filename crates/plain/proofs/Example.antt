@@ -13,14 +13,13 @@ use Rattle.field.specs.Element.{elem}
 use Rattle.source.specs.Trees.{variable_p, binary, constant, variable, letting, matching, no_arm, arm, Module}
 use Rattle.flat.specs.Trees.{Flat, FlatModule}
 use Rattle.flat.specs.Meaning.{update, Assignment, Elements, on_values, negated, value, or_zero, worked_out}
-use Rattle.numbering.specs.Numbering.{found, same_text, named, registered}
+use Rattle.numbering.specs.Numbering.{numbered}
 use Rattle.eval_trees.specs.Evaluation.{flat, evaluated}
 use Rattle.eval_trees.proofs.Compute.{answer_of}
-use Rattle.plain.specs.Plain.{is_arithmetic, is_free, is_plain_name, is_plain_pattern, is_plain_expr, is_equal, is_plain_equation}
-use Rattle.plain.specs.Plain.{are_plain_publics, are_plain_definitions, are_plain_equations, is_plain_body, is_plain}
-use Rattle.plain.specs.Meaning.{write, through, value_of, sides_of, sides, start, NoDivisorZero}
-use Rattle.plain.specs.Meaning
+use Rattle.plain.specs.Plain.{is_plain_body, is_plain}
+use Rattle.plain.specs.Meaning.{NoDivisorZero}
 use Rattle.plain.specs.Statements.{Gives, PlainFlat, SaysTheSame}
+use Rattle.plain.proofs.Compute.{rules_of, plain_of}
 use Rattle.plain.proofs.Agreement.{plain-modules-agree}
 use Rattle.plain.proofs.Condition.{plain-has-plain-body}
 
@@ -58,17 +57,13 @@ made = record {
 }
 
 pub is-plain : is_plain source ≡ true
-unfolding is_plain is_plain_body is_arithmetic is_free is_plain_name is_plain_pattern is_plain_expr is_equal is_plain_equation are_plain_publics
-    are_plain_definitions
-    are_plain_equations found same_text named registered
+unfolding plain_of
 is-plain = refl
 
 -- a match is not plain
 match-not-plain : is_plain
     (record { names = []; publics = []; definitions = []; expressions = matching (constant (pos 1)) (arm (variable_p 0) (variable 0) no_arm) ∷ [] }) ≡ false
-unfolding is_plain is_plain_body is_arithmetic is_free is_plain_name is_plain_pattern is_plain_expr is_equal is_plain_equation are_plain_publics
-    are_plain_definitions
-    are_plain_equations found same_text named registered
+unfolding plain_of
 match-not-plain = refl
 
 -- a public that is fresh: pub fresh; x = 1. The test on publics alone turns it down, and the theorem is about it too
@@ -81,15 +76,11 @@ fresh-public = record {
 }
 
 fresh-public-not-plain : is_plain fresh-public ≡ false
-unfolding is_plain is_plain_body is_arithmetic is_free is_plain_name is_plain_pattern is_plain_expr is_equal is_plain_equation are_plain_publics
-    are_plain_definitions
-    are_plain_equations found same_text named registered
+unfolding plain_of
 fresh-public-not-plain = refl
 
 fresh-public-body : is_plain_body fresh-public ≡ true
-unfolding is_plain_body is_arithmetic is_free is_plain_name is_plain_pattern is_plain_expr is_equal is_plain_equation are_plain_definitions
-    are_plain_equations found
-    same_text named registered
+unfolding plain_of
 fresh-public-body = refl
 
 abbrev fresh-public-made : FlatModule
@@ -102,14 +93,14 @@ fresh-public-made =
       equations = record { left = Flat.variable 9; right = Flat.constant (pos 1); place = 0 } ∷ [];
     }
 
-fresh-public-makes : evaluated 65535 (Rattle.numbering.specs.Numbering.numbered fresh-public) ≡ flat fresh-public-made
+fresh-public-makes : evaluated 65535 (numbered fresh-public) ≡ flat fresh-public-made
 unfolding answer_of
 fresh-public-makes = refl
 
 fresh-public-shape : PlainFlat fresh-public fresh-public-made
 fresh-public-shape = (plain-modules-agree fresh-public fresh-public-body 65535 fresh-public-made fresh-public-makes).0
 
-makes : evaluated 65535 (Rattle.numbering.specs.Numbering.numbered source) ≡ flat made
+makes : evaluated 65535 (numbered source) ≡ flat made
 unfolding answer_of
 makes = refl
 
@@ -117,8 +108,8 @@ makes = refl
 at-two : ℕ → ℤ
 at-two x = cond (eqb x 0) (pos 2) (pos 18)
 
-sides-at-two : sides (Meaning.defined (start at-two) source.definitions) source.expressions ≡ (Some (pos 18), Some (pos 18)) ∷ []
-unfolding answer_of at-two update on_values negated write through value_of Meaning.defined sides_of sides
+sides-at-two : rules_of source at-two ≡ (Some (pos 18), Some (pos 18)) ∷ []
+unfolding answer_of rules_of at-two
 sides-at-two = refl
 
 -- and the flat list, from v9 = 2 and v13 = 18

@@ -1,21 +1,19 @@
 -- What is shown of the flat module without places holds of it with them. Assumes nothing.
 use mathlib.Core.Path.{◌≡◌, refl, sym, ap, subst, ◌∙◌}
-use mathlib.Core.Bool.{Bool, true, false, ◌||◌}
+use mathlib.Core.Bool.{Bool, false, ◌||◌}
 use mathlib.Core.List.{List, [], ◌∷◌}
 use Prim.Native.Nat.{ℕ, ◌≤◌}
 use lib.Dec.{eqb}
-use lib.IntN.{ℤ}
 use Rattle.field.specs.Operations.{Answer}
-use Rattle.source.specs.Trees.{Expr}
+use Rattle.source.specs.Trees.{Pat, Expr}
 use Rattle.flat.specs.Trees.{Definition, Equation, FlatModule, defines}
 use Rattle.flat.specs.Places.{definition_placed, place_definitions, place_equations, place_module}
-use Rattle.flat.specs.Rules.{All, Every}
-use Rattle.flat.specs.Meaning.{update, Assignment, Elements, value, or_zero, worked_out}
+use Rattle.flat.specs.Rules.{All}
+use Rattle.flat.specs.Meaning.{Assignment, value, worked_out}
 use Rattle.flat.proofs.PlaceLaws.{equations-placed}
-use Rattle.plain.specs.Meaning.{Table}
-use Rattle.plain.proofs.Order.{From, OnceInOrder}
-use Rattle.plain.proofs.OrderModules.{InOrder, every_map}
-use Rattle.plain.proofs.Modules.{flat_sides, InTurnValued, Kept}
+use Rattle.plain.proofs.Ordering.{From, OnceInOrder}
+use Rattle.plain.proofs.Equations.{flat_sides}
+use Rattle.plain.proofs.Modules.{InTurnValued, InOrder, every_map, Worked}
 
 defines-placed : (ps : List ℕ) (ds : List Definition) (v : ℕ) → defines (place_definitions ps ds) v ≡ defines ds v
 unfolding place_definitions defines
@@ -47,12 +45,11 @@ sides-placed (q ∷ qs) [] σ = refl
 sides-placed [] (e ∷ es) σ = refl
 sides-placed (q ∷ qs) (e ∷ es) σ = ap (λ (l : List (Answer × Answer)). (value σ e.left, value σ e.right) ∷ l) (sides-placed qs es σ)
 
-module _ (B : ℕ → Bool) (N : ℕ) (beyond : (x : ℕ) → N ≤ x → B x ≡ false) (t : Assignment) (elements : Elements t) where
-  pub kept-placed : (ps qs : List ℕ) (τ : Table) (es : List Expr) (f : FlatModule) → Kept B N beyond t elements τ es f
-      → Kept B N beyond t elements τ es (place_module ps qs f)
+module _ (B : ℕ → Bool) (N : ℕ) (beyond : (x : ℕ) → N ≤ x → B x ≡ false) where
+  pub kept-placed : (ps qs : List ℕ) (t : Assignment) (ds : List (Pat × Expr)) (es : List Expr) (f : FlatModule) → Worked B N beyond t ds es f
+      → Worked B N beyond t ds es (place_module ps qs f)
   unfolding place_module
-  kept-placed ps qs τ es f k = record {
-    no-provers = k.no-provers;
+  kept-placed ps qs t ds es f k = record {
     in-turn = in-turn-placed ps f.definitions t k.in-turn;
     same-sides = ap (λ (w : Assignment). flat_sides w (place_equations qs f.equations)) (worked-placed ps f.definitions t)
         ∙ sides-placed qs f.equations _

@@ -15,7 +15,8 @@ use Rattle.flat.specs.Meaning.{EquationHolds, NoZeroDivisor, or_zero, worked_out
 use Rattle.plain.specs.Meaning.{Equal-sides}
 use Rattle.plain.proofs.Values.{false-true, negated_back, values-back, update_same, update_other}
 use Rattle.plain.proofs.Terms.{update-elements}
-use Rattle.plain.proofs.Modules.{flat_sides, InTurnValued}
+use Rattle.plain.proofs.Equations.{flat_sides}
+use Rattle.plain.proofs.Modules.{InTurnValued}
 
 pub worked-elements : (ds : List Definition) (ρ : Assignment) → Elements ρ → Elements (worked_out ds ρ)
 unfolding worked_out

@@ -1,13 +1,13 @@
--- Plain modules: "A plain module has only variable patterns, and as expressions constants, variables, negation, infix and let; `=` stands only
--- at the top of module expressions, and all of those are equations; fresh, iter, fold are not named".
+-- Plain modules: as expressions constants, variables, negation, infix, product, cons, nil and let; as patterns variables, product, cons and nil. "`=` stands
+-- only at the top of module expressions, and all of those are equations; fresh, iter, fold are not named". As, unit and constant patterns are not plain.
 use Rattle.std.specs.Prelude.{Bool, true, not, ◌&&◌, List, [], ◌∷◌, ℕ}
 use Rattle.std.proofs.Math.Bool.{false}
 use Rattle.std.proofs.Math.Option.{Option, none, some}
 use Rattle.field.specs.declared.InfixOp.{InfixOp}
 use Rattle.field.specs.declared.InfixOp.TheVariants.{Divide, DivideZ, Multiply, Add, Subtract, Equal, Exponentiate, IntDivide, Modulo}
-use Rattle.source.specs.Trees.{Pat, Expr, unit, nil, sequence, product, cons, binary, negate, application}
-use Rattle.source.specs.Trees.{constant, variable, function, intrinsic, letting, matching, Module}
-use Rattle.source.specs.Forms.{on_infix, on_variable_p}
+use Rattle.source.specs.Trees.{Pat, unit_p, nil_p, as_p, product_p, cons_p, variable_p, constant_p, Expr, unit, nil, sequence, product}
+use Rattle.source.specs.Trees.{cons, binary, negate, application, constant, variable, function, intrinsic, letting, matching, Module}
+use Rattle.source.specs.Forms.{on_infix}
 use Rattle.numbering.specs.Numbering.{Ids, found, registered}
 
 unfoldable pub is_equal : InfixOp → Bool
@@ -36,15 +36,20 @@ module _ (R : Ids) where
   is_plain_name x = is_free (found x R)
 
   unfoldable pub is_plain_pattern : Pat → Bool
-  unfolding on_variable_p
-  is_plain_pattern p = on_variable_p p is_plain_name false
+  is_plain_pattern (variable_p x) = is_plain_name x
+  is_plain_pattern nil_p = true
+  is_plain_pattern (product_p p q) = is_plain_pattern p && is_plain_pattern q
+  is_plain_pattern (cons_p p q) = is_plain_pattern p && is_plain_pattern q
+  is_plain_pattern unit_p = false
+  is_plain_pattern (as_p p x) = false
+  is_plain_pattern (constant_p n) = false
 
   unfoldable pub is_plain_expr : Expr → Bool
   is_plain_expr unit = false
-  is_plain_expr nil = false
+  is_plain_expr nil = true
   is_plain_expr (sequence is) = false
-  is_plain_expr (product a b) = false
-  is_plain_expr (cons a b) = false
+  is_plain_expr (product a b) = is_plain_expr a && is_plain_expr b
+  is_plain_expr (cons a b) = is_plain_expr a && is_plain_expr b
   is_plain_expr (binary o a b) = is_arithmetic o && (is_plain_expr a && is_plain_expr b)
   is_plain_expr (negate a) = is_plain_expr a
   is_plain_expr (application a b) = false

@@ -11,7 +11,8 @@ use Rattle.numbering.specs.Inputs.{member, inputs, input_ids}
 use Rattle.numbering.specs.Statements.{Pointwise}
 use Rattle.eval_trees.specs.Evaluation.{flat, evaluated}
 use Rattle.plain.specs.Plain.{is_plain_body, is_plain}
-use Rattle.plain.specs.Meaning.{Holds, NoDivisorZero, AllValued}
+use Rattle.plain.specs.Values.{Val, is_whole, components}
+use Rattle.plain.specs.Meaning.{Equal-sides, Holds, NoDivisorZero, AllValued}
 
 -- "An input's id is the one numbering gives its name in those uses"
 abbrev pub IsInput : Module → ℕ → Type 0
@@ -56,10 +57,23 @@ PlainModulesAgree =
 abbrev pub PlainHasPlainBody : Type 0
 PlainHasPlainBody = (m : Module) → is_plain m ≡ true → is_plain_body m ≡ true
 
--- NO DIVISOR IS ZERO JUST WHERE EVERY DEFINITION AND EVERY SIDE HAS A VALUE: the condition leaves no module out that has its values,
--- and lets none in that has not
+-- AN EQUATION HOLDS JUST IF BOTH ITS SIDES HAVE ONE VALUE, with every element in it there: "when its sides' values are equal" and "when every component does"
+-- say the same
+abbrev pub ComponentsAreEquality : Type 0
+ComponentsAreEquality = (v w : Val) → All Equal-sides (components v w) ↔ ((v ≡ w) × (is_whole v ≡ true))
+
+-- NO DIVISOR IS ZERO WHERE EVERY DEFINITION AND EVERY SIDE HAS A VALUE, AND ONLY THERE IN A MODULE THAT IS ACCEPTED: the condition leaves out no elements
+-- that give a module its values, and lets in none that do not. (In one that is refused a name may have no value because its pattern does not fit)
 abbrev pub DivisorsPinned : Type 0
-DivisorsPinned = (m : Module) → is_plain_body m ≡ true → (ρ : ℕ → ℤ) → NoDivisorZero m ρ ↔ AllValued m ρ
+DivisorsPinned =
+    (m : Module) →
+    is_plain_body m ≡ true →
+    (ρ : ℕ → ℤ) →
+    (AllValued m ρ → NoDivisorZero m ρ)
+    × ((capacity : ℕ) (f : FlatModule) →
+    evaluated capacity (numbered m) ≡ flat f →
+    NoDivisorZero m ρ →
+    AllValued m ρ)
 
 -- ONLY THE INPUTS COUNT: where ρ and τ give them the same elements, the module says the same
 abbrev pub InputsAlone : Type 0

@@ -26,7 +26,8 @@ use Rattle.numbering.specs.Numbering.{numbered}
 use Rattle.numbering.specs.Statements.{Pointwise}
 use Rattle.plain.specs.Statements.{Gives}
 use Rattle.agreement.specs.Statement.{Solves}
-use Rattle.agreement.proofs.Agreement.{agreement, by-id, by-id-elements, by-id-gives}
+use Rattle.agreement.proofs.Agreement.{agreement}
+use Rattle.plain.proofs.Agreement.{by-id, by-id-elements, by-id-gives}
 use Rattle.season_trees.specs.Values.{in_term, in_side, in_equalities, appears, Environment, values_of, term_in, side_in, compared, verdict}
 use Rattle.season_trees.specs.Count.{Calibration, number, is_held, all_held, fulfils}
 use Rattle.season_trees.specs.Statements.{assignment_of}
