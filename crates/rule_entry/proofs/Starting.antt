@@ -102,8 +102,7 @@ module _ (b : List ℕ) (names : List Span) (qs : List Statement) (g : Given b n
         let (x, us, q, f) = found l e in
         let z : n ≡ stepped (piece_of (names_of qs) x) d = s ∙ ap (λ (i : Piece). stepped i d) (y x (carried at x us l f)
         ∙ ap (λ (ns : List Text). piece_of ns x) g.table) in
-        let w = running-step (names_of qs) d x us qs (subst (λ (vs : List Token). Running (names_of qs) d vs qs) q t.running) in
-        (
+        let w = running-step (names_of qs) d x us qs (subst (λ (vs : List Token). Running (names_of qs) d vs qs) q t.running) in (
           record { tokens = us; left = f.rest-is; inside = f.inside; running = subst (λ (i : Desk). Running (names_of qs) i us qs) (sym z) w },
           omega (arith, f.starts),
         )

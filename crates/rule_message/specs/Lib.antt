@@ -1,2 +1,2 @@
 pub mod Places
-pub mod Words
+pub mod Expected

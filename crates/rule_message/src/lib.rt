@@ -1,20 +1,20 @@
 // Where a text stops to be one of the grammar, for people: line and column, and in words what was expected there.
 #![tactic(auto)]
 
-mod words;
+mod expected;
 
-ghost use Rattle.std.specs.Prelude.{◌≡◌, ◌≤◌, length};
+ghost use Rattle.std.specs.Prelude.{◌≡◌, length, IsErr};
 ghost use Rattle.std.specs.Option.{option_map, IfSome};
 ghost use Rattle.rule_trees.specs.Prefix.{START, walk};
 ghost use Rattle.rule_scan.specs.Stages.{stage_of, Standing};
 ghost use Rattle.rule_message.specs.Places.{place_of, text_buffer};
 
+use expected::{goes_on, print_tokens};
 use records::refusals::Refusal;
 use rule_scan::stages::{Run, Stage};
 use rule_scan::{Outside, scan};
 use rule_trees::Place;
 use streams::Failed;
-use words::{goes_on, print_tokens};
 
 // A program reads no longer text.
 pub const TEXT_BYTES: usize = 1048576;
@@ -115,7 +115,9 @@ pub fn text_buffer() -> [u8; TEXT_BYTES]
 }
 
 // A text that a program does not read.
-pub fn print_long(rt: &impl Eprint) -> Result<usize, Failed> {
+pub fn print_long(rt: &impl Eprint) -> Result<usize, Failed>
+    ensures { IsErr result }
+{
     let _ = rt.eprint("more than 1,048,575 bytes of text\n");
     Err(Failed)
 }

@@ -7,7 +7,8 @@ use rule_entry::rules;
 use std::rt::Env;
 use streams::{Failed, open_standard};
 use test_report::{
-    CASES_TEXT, Cases, Counts, KINDS_OF_CASES, Stop, Verdict, read_rest, read_words, replay_all, said,
+    CASES_TEXT, Cases, Counts, KINDS_OF_CASES, Stop, Verdict, read_rest, read_words, replay_all,
+    said,
 };
 
 // Room for every text, for the output of each and for the record that is expected.
@@ -28,12 +29,7 @@ struct Lent {
 
 // Whether the answer is the expected one, with the record at the front of the output; what stands behind it, and all of the output of a
 // refused text, is left.
-fn is_as_expected(
-    text: &[u8],
-    out: &mut [u8],
-    expected: &[u8],
-    answer: Result<u32, u32>,
-) -> bool {
+fn is_as_expected(text: &[u8], out: &mut [u8], expected: &[u8], answer: Result<u32, u32>) -> bool {
     out.fill(UNWRITTEN);
     let got = rules(text, out);
     let written = got.unwrap_or(0);

@@ -15,8 +15,7 @@ pub piece_of-requires : goal.piece_of-requires
 piece_of-requires c =
     let qs = c.requires.0 in
     let g = c.requires.1 in
-    let t = c.loop-token.invariant qs g in
-    (
+    let t = c.loop-token.invariant qs g in (
       given-names _ _ qs g,
       g.spanned,
       found-inside _ _ qs g _ _ t _ c.next_token.ensures _ c.in-Some.is,

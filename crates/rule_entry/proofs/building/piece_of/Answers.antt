@@ -12,8 +12,13 @@ use Rattle.rule_entry.proofs.building.piece_of.Goals as goal
 
 pub overflow_cast-result : goal.overflow_cast-result
 overflow_cast-result c =
-    omega (arith, c.index_of.ensures, index-low (spanned c.args.text.now c.args.token.span) (table_of c.args.text.now c.args.names.now),
-    table-length c.args.text.now c.args.names.now, c.requires.0)
+    omega (
+      arith,
+      c.index_of.ensures,
+      index-low (spanned c.args.text.now c.args.token.span) (table_of c.args.text.now c.args.names.now),
+      table-length c.args.text.now c.args.names.now,
+      c.requires.0,
+    )
 
 pub returns-in-Name : goal.returns-in-Name
 unfolding made

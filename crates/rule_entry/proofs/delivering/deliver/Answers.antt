@@ -64,8 +64,7 @@ returns c =
     λ qs g.
     let h = c.build-desk.ensures qs g in
     let z = record-length c.args.text.now c.args.names.now qs g c.build-desk.result h in
-    let e = record-fits (record_of qs) (length c.args.out.now) (omega (arith, z, c.word_count.ensures, c.text_size.ensures, c.if-out-size.false)) in
-    (
+    let e = record-fits (record_of qs) (length c.args.out.now) (omega (arith, z, c.word_count.ensures, c.text_size.ensures, c.if-out-size.false)) in (
       ap Ok (omega (arith, z, c.word_count.ensures, c.text_size.ensures)) ∙ sym (ap answer_of e),
       c.put_record.ensures qs g h ∙ sym (ap (output_of c.args.out.now) e),
     )

@@ -79,8 +79,7 @@ unfolding word_count
 put_text-requires c =
     let p = c.requires in
     let g = p.1 in
-    let r = room-for c.args.text.now c.args.names.now p.0 g c.args.desk.now p.2 _ p.3 in
-    (
+    let r = room-for c.args.text.now c.args.names.now p.0 g c.args.desk.now p.2 _ p.3 in (
       g.spanned,
       omega (
         arith,

@@ -32,12 +32,11 @@ apply-requires c =
     omega (arith, h)
 
 pub push-requires-in-Operator : goal.push-requires-in-Operator
-push-requires-in-Operator c =
-    (
-      omega arith,
-      few-more _ _ (ap (λ (q : Desk). length q.equations.items) c.apply.ensures ∙ (applied-leaves _ _ _).2 ∙ (left_of _ _ c.reduce.ensures).equations)
-          c.requires.equations_few,
-    )
+push-requires-in-Operator c = (
+  omega arith,
+  few-more _ _ (ap (λ (q : Desk). length q.equations.items) c.apply.ensures ∙ (applied-leaves _ _ _).2 ∙ (left_of _ _ c.reduce.ensures).equations)
+      c.requires.equations_few,
+)
 
 pub returns-in_default : goal.returns-in_default
 returns-in_default c =

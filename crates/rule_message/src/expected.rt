@@ -3,7 +3,7 @@ ghost use Rattle.std.specs.Prelude.{◌≡◌, ◌<◌, length};
 ghost use Rattle.rule_trees.specs.Judge.{open_in};
 ghost use Rattle.rule_scan.specs.Kinds.{MOST-OPEN};
 ghost use Rattle.rule_scan.specs.Stages.{stage_of, Standing};
-ghost use Rattle.rule_message.specs.Words.{may_stand, goes_on};
+ghost use Rattle.rule_message.specs.Expected.{may_stand, goes_on};
 
 use records::source_record::NAME_BYTES;
 use rule_scan::judge::judged;
@@ -51,7 +51,7 @@ fn word(kind: Kind) -> &'static str {
 }
 
 // Whether a token of the kind may stand at the place.
-#[tactic(auto, unfolding(crate::specs::Words::may_stand))]
+#[tactic(auto, unfolding(crate::specs::Expected::may_stand))]
 fn may_stand(place: Place, kind: Kind) -> bool
     requires { open_in place < MOST-OPEN }
     ensures { result ≡ may_stand place kind }
@@ -60,7 +60,7 @@ fn may_stand(place: Place, kind: Kind) -> bool
 }
 
 // Whether the run of a stage may be longer.
-#[tactic(auto, unfolding(crate::specs::Words::goes_on, rule_scan::specs::Stages::stage_of))]
+#[tactic(auto, unfolding(crate::specs::Expected::goes_on, rule_scan::specs::Stages::stage_of))]
 pub fn goes_on(text: &[u8], stage: Stage) -> bool
     requires { Standing text.now (length text.now) stage }
     ensures { result ≡ goes_on (stage_of text.now (length text.now) stage) }
