@@ -34,7 +34,7 @@ fn print_refusal(
 fn flatten_text(rt: &(impl Print + Eprint), text: &[u8]) -> Result<usize, Failed> {
     let mut record = [0u8; BYTES];
     match rules(text, &mut record) {
-        Ok(n) => flatten_record(rt, record.get(..n).unwrap_or_default()),
+        Ok(n) => flatten_record(rt, &record[..n]),
         Err(refusal) => print_refusal(rt, refusal, text),
     }
 }
