@@ -3,7 +3,7 @@
 definitions, and one equation, place word 0, of at most 5 nodes over v0, v1, the constants -1, 0, 1, negation, + and *. It makes all trees by their number
 of nodes, then all equations, and sorts: nothing here is taken from the definitions in crates/small_trees/specs, which list them in order from the start.
 
-    small_list.py            the records end to end on standard output
+    small_list.py            the records end to end on standard output; crates/small_rules/stdout, to which the gate holds the program small_rules, is made so
     small_list.py --counts   how many there are by number of nodes
 """
 import struct

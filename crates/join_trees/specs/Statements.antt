@@ -105,7 +105,7 @@ JoinHolds =
     (σ : Assignment) →
     Holds (joined f g ps) σ ↔ (Holds f σ × Holds g (λ v. σ (renamed ps f.next v)))
 
--- where no divisor is zero the worked-out values are values under which the definitions hold, and the only ones with these inputs
+-- where no divisor is zero the worked-out values are values under which the definitions hold
 abbrev pub WorkedHolds : Type 0
 WorkedHolds = (f : FlatModule) → WellFormed f → (ρ : Assignment) → NoZero f ρ → All (DefinitionHolds (values f ρ)) (ruled f)
 

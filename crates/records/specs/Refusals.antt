@@ -1,6 +1,6 @@
 -- The refusals and their numbers, by the place of the check: 1 to 6 of a source record, in the order of its parts; 10 to 19 of evaluation, as first met;
 -- 20 to 22 of a flat record; 30 to 32 of the stores, as met; 33 of the output; 40 and 41 of a text of rules; 42 of a constraint record, and behind
--- it 43 of a season's calibrations and 47 of a side table; 44 to 46 of the pairs by which two flat records are joined; 48 of a store for several
+-- it 43 of a season's calibrations and 47 of a side table; 44 to 46 of the pairs by which two flat records are joined; 48 of the room for several
 -- records.
 use Rattle.std.specs.Prelude.{ℕ, Result, Ok, Err}
 use Rattle.records.specs.declared.refusals.Refusal.{Refusal}

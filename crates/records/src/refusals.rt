@@ -4,7 +4,7 @@ ghost use Rattle.records.specs.Refusals.{refusal_number};
 
 // The refusals in the order of their numbers: 1 to 6 of a source record, 10 to 19 of evaluation, 20 to 22 of a flat record, 30 to 32 of the stores,
 // 33 of the output, 40 and 41 of a text of rules, 42 of a constraint record, 43 of the calibrations behind one, 44 to 46 of the pairs by which two records
-// are joined, 47 of a side table, 48 of a store for several records.
+// are joined, 47 of a side table, 48 of the room for several records.
 #[derive(Clone, Copy, Debug, PartialEq, Eq, Hash)]
 pub enum Refusal {
     Length,

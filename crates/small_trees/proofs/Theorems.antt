@@ -15,7 +15,7 @@ use Rattle.flat.specs.Writer.{SignedModule}
 use Rattle.flat.proofs.Lengths.{tree-positive}
 use Rattle.flat.proofs.Rows.{length-rows}
 use Rattle.small_trees.specs.SmallRules.{rules_of, sizes, small_rules, rule_module, record_of, small_records}
-use Rattle.small_trees.specs.Statements.{SmallRecord, EachAppears, node_list, Before, Sorted, Ascends, NoneTwice, LONGEST, NoneLonger}
+use Rattle.small_trees.specs.Statements.{SmallRecord, EachAppears, node_list, Before, Sorted, Ascends, NoneTwice, LONGEST, NoneLonger, Sized}
 use Rattle.small_trees.proofs.Lists.{all-at, all_map, all_from, all-flat_map, all-imply, Apart, sorted-flat_map, sorted-having, sorted-map}
 use Rattle.small_trees.proofs.Lists.{sorted-at, mem-flat_map, place_of}
 use Rattle.small_trees.proofs.Order.{words-not-self, RuleBefore, rules-ascend}
@@ -155,3 +155,8 @@ before-other a b (inr h) e = words-not-self (node_list b) (rw e at h.1)
 
 pub none-twice : NoneTwice
 none-twice i j l m e = before-other _ _ (sorted-at Before small_records i j [] l m ascends) e
+
+-- ---- how many nodes they have
+
+pub sized : Sized
+sized n = all-imply (SmallRule n) (λ e. nodes (record_of e) ≡ n) (rules_of n) (λ e s. nodes-size e ∙ s.nodes) (rules-of-small n)

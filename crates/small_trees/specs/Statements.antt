@@ -10,7 +10,7 @@ use Rattle.flat.specs.Record.{rows, node_of, tree, Read, flat_of}
 use Rattle.flat.specs.declared.Node.TheVariants.{Infix, Negate}
 use Rattle.flat.specs.Rules.{All}
 use Rattle.flat.specs.Writer.{flat_bytes}
-use Rattle.small_trees.specs.SmallRules.{rules_of, rule_module, small_records}
+use Rattle.small_trees.specs.SmallRules.{rules_of, rule_module, record_of, small_records}
 
 -- ---- "each such legal record appears"
 
@@ -35,7 +35,7 @@ pub record SmallRecord (b : List ℕ) : Type 0 where
   pub bytes : All (λ x. x < 256) b
   pub flat : FlatModule
   pub equation : Equation
-  -- it is legal: a module is read from it
+  -- it is legal: a module is read from it (not 20, 21); 22 asks nothing, since neither `^` nor `=` is among its operations
   pub legal : flat_of b ≡ Read.module-of flat
   -- "next id 2, no publics, prover ids or definitions, .. and one equation"
   pub next : flat.next ≡ 2
@@ -88,7 +88,11 @@ Ascends = Sorted Before small_records
 abbrev pub NoneTwice : Type 0
 NoneTwice = (i j : ℕ) → i < j → j < length small_records → node_list (get_or small_records i []) ≡ node_list (get_or small_records j []) → ⊥
 
--- ---- "25 with two nodes and 50 with three"
+-- ---- how many: 25 with two nodes, 50 with three, and so on
+
+-- those of `rules_of n` are the records with n nodes
+abbrev pub Sized : Type 0
+Sized = (n : ℕ) → All (λ e. nodes (record_of e) ≡ n) (rules_of n)
 
 abbrev pub RULES : ℕ
 RULES = 2750

@@ -29,10 +29,11 @@ fn rule_is(k: usize, expected: &[u8]) -> bool {
     let Ok(Some(n)) = small_rule(k, &mut room) else {
         return false;
     };
-    let Some(record) = room.get(..n) else {
+    let Some(exact) = room.get_mut(..n) else {
         return false;
     };
-    let right = cut_is(record, expected);
+    exact.fill(0);
+    let right = small_rule(k, exact) == Ok(Some(n)) && cut_is(exact, expected);
     let Some(short) = room.get_mut(..n.saturating_sub(1)) else {
         return false;
     };
