@@ -15,7 +15,7 @@ use Rattle.constraint.specs.declared.Term.{Term}
 use Rattle.constraint.specs.Trees.{Side, ConstraintModule}
 use Rattle.pass_trees.specs.Passes.{cut}
 use Rattle.plain.specs.Meaning.{NoDivisorZero}
-use Rattle.plain.proofs.Compute.{rules_of}
+use Rattle.plain.proofs.Compute.{sides_under}
 use Rattle.plain.proofs.Condition.{plain-has-plain-body}
 use Rattle.plain.proofs.Example.{source, is-plain}
 use Rattle.agreement.specs.Flattened.{flattened_of}
@@ -44,7 +44,7 @@ is_cut = refl
 
 -- the one divisor is x
 not-zero : (ρ : ℕ → ℤ) → elem P (ρ 0) ≡ ρ 0 → (Some (ρ 0) ≡ Some (pos 0) → ⊥) → NoDivisorZero source ρ
-unfolding rules_of
+unfolding sides_under
 not-zero ρ c h =
     let quotient = (has-value-where P P-prime (elem P (pos 1)) (ρ 0) Divide).1 (not-zero-value P P-prime (ρ 0) c h) in
     let up = add-answer P (ρ 0) (elem P (pos 1)) in

@@ -17,7 +17,7 @@ use Rattle.pass_trees.specs.Passes.{Outcome, cut, refused}
 use Rattle.eval_trees.proofs.Compute.{answer_of}
 use Rattle.plain.specs.Plain.{is_plain}
 use Rattle.plain.specs.Meaning.{Holds, NoDivisorZero}
-use Rattle.plain.proofs.Compute.{rules_of, plain_of}
+use Rattle.plain.proofs.Compute.{sides_under, plain_of}
 use Rattle.agreement.specs.Flattened.{flattened_of}
 use Rattle.agreement.proofs.Compute.{list_of}
 
@@ -77,13 +77,13 @@ inputs x n = cond (eqb n 0) x (cond (eqb n 1) (pos 2) (pos 4))
 abbrev twice : ℤ → Answer × Answer
 twice x = (Some x, Some x)
 
-sides-at-seven : rules_of operators (inputs (pos 7)) ≡ twice (pos 7) ∷ twice (pos 0) ∷ twice (pos 14) ∷ twice (pos 9) ∷ twice (pos 5) ∷ twice (pos 49)
+sides-at-seven : sides_under operators (inputs (pos 7)) ≡ twice (pos 7) ∷ twice (pos 0) ∷ twice (pos 14) ∷ twice (pos 9) ∷ twice (pos 5) ∷ twice (pos 49)
     ∷ twice (pos 1) ∷ twice (pos 4) ∷ twice (negsuc 0) ∷ twice (pos 4) ∷ twice (pos 25) ∷ twice (negsuc 6) ∷ []
-unfolding answer_of inputs rules_of
+unfolding answer_of inputs sides_under
 sides-at-seven = refl
 
 pub fulfilled : Holds operators (inputs (pos 7))
-unfolding answer_of inputs rules_of
+unfolding answer_of inputs sides_under
 fulfilled = (
   (pos 7, refl, refl),
   (
@@ -109,7 +109,7 @@ fulfilled = (
 
 -- 8 * 2 is not 14
 pub not-fulfilled : Holds operators (inputs (pos 8)) → ⊥
-unfolding answer_of inputs rules_of
+unfolding answer_of inputs sides_under
 not-fulfilled h =
     let w = h.1.1.0 in
     let p : Some (pos 16) ≡ Some w.0 = w.1 in
@@ -124,7 +124,7 @@ x also y = (x, y)
 infixr 60 ◌also◌
 -- and where a is 7 every operation has a value, 0 | 0 among them
 pub not-zero : NoDivisorZero operators (inputs (pos 7))
-unfolding answer_of inputs rules_of
+unfolding answer_of inputs sides_under
 not-zero = (
   tt also (tt, tt, (_, refl)) also ((tt, tt, (_, refl)), (tt, tt, (_, refl))) also (tt, tt, (_, refl)) also tt,
   (((tt, tt, (_, refl)), tt, (_, refl)), tt)
@@ -152,11 +152,11 @@ unused = record {
 }
 
 pub left-aside : NoDivisorZero unused (λ n. pos 5) → ⊥
-unfolding answer_of rules_of
+unfolding answer_of sides_under
 left-aside h =
     let valued = h.0.0.2 in
     nothing-value valued.0 valued.1
 
 pub not-left-aside : NoDivisorZero unused (λ n. pos 0)
-unfolding answer_of rules_of
+unfolding answer_of sides_under
 not-left-aside = (((tt, tt, (_, refl)), tt), tt)

@@ -14,7 +14,7 @@ use Rattle.constraint.specs.declared.Term.{Term}
 use Rattle.constraint.specs.Trees.{Side, ConstraintModule}
 use Rattle.pass_trees.specs.Passes.{cut}
 use Rattle.plain.specs.Meaning.{NoDivisorZero}
-use Rattle.plain.proofs.Compute.{rules_of}
+use Rattle.plain.proofs.Compute.{sides_under}
 use Rattle.plain.proofs.Condition.{plain-has-plain-body}
 use Rattle.plain.proofs.Pairs.{shifts, shifts-plain, nested, nested-plain, lists, lists-plain, unused, unused-plain}
 use Rattle.agreement.specs.Flattened.{flattened_of}
@@ -43,7 +43,7 @@ is_cut = refl
 
 -- it has no divisor
 no-divisor : (ρ : ℕ → ℤ) → NoDivisorZero shifts ρ
-unfolding rules_of
+unfolding sides_under
 no-divisor ρ = ((((tt, tt, (_, add-answer P (ρ 4) (ρ 5))), (tt, tt, (_, subtract-answer P (ρ 4) (ρ 5)))), tt), (((tt, tt), (tt, tt)), tt))
 
 pub shifts-agree : (ρ : ℕ → ℤ) → ((x : ℕ) → elem P (ρ x) ≡ ρ x) → Agrees shifts equalities ρ
@@ -66,7 +66,7 @@ unfolding list_of
 nested-cut = refl
 
 nested-agrees : (ρ : ℕ → ℤ) → ((x : ℕ) → elem P (ρ x) ≡ ρ x) → Agrees nested (x-is-y 17 10 9 1) ρ
-unfolding rules_of
+unfolding sides_under
 nested-agrees ρ elements =
     agreement nested (plain-has-plain-body nested nested-plain) 65535 (x-is-y 17 10 9 1) nested-cut ρ elements
     ((((tt, tt), tt), tt), ((((tt, tt), (tt, (tt, tt))), (tt, (tt, tt))), tt))
@@ -76,7 +76,7 @@ unfolding list_of
 lists-cut = refl
 
 lists-agree : (ρ : ℕ → ℤ) → ((x : ℕ) → elem P (ρ x) ≡ ρ x) → Agrees lists (x-is-y 20 9 10 4) ρ
-unfolding rules_of
+unfolding sides_under
 lists-agree ρ elements =
     agreement lists (plain-has-plain-body lists lists-plain) 65535 (x-is-y 20 9 10 4) lists-cut ρ elements
     (((tt, (tt, tt)), (tt, tt)), ((tt, tt), ((tt, (tt, tt)), (((tt, tt), (tt, tt)), tt))))
@@ -99,7 +99,7 @@ unused-cut = refl
 
 -- where x is not 0
 unused-agrees : (ρ : ℕ → ℤ) → ((x : ℕ) → elem P (ρ x) ≡ ρ x) → (Some (ρ 0) ≡ Some (pos 0) → ⊥) → Agrees unused one-equality ρ
-unfolding rules_of
+unfolding sides_under
 unused-agrees ρ elements h =
     let quotient = (has-value-where P P-prime (elem P (pos 1)) (ρ 0) Divide).1 (not-zero-value P P-prime (ρ 0) (elements 0) h) in
     agreement unused (plain-has-plain-body unused unused-plain) 65535 one-equality unused-cut ρ elements ((((tt, tt, quotient), tt), tt), ((tt, tt), tt))

@@ -1,4 +1,5 @@
--- The theorem of agreement for plain modules without pairs and lists, in their own words: a case of `Agreement`.
+-- The theorem of agreement for plain modules without pairs and lists, in their own words: a case of `Agreement`. Proved in
+-- proofs/WithoutPairs.antt.
 use Rattle.std.specs.Prelude.{◌≡◌, true, ◌↔◌, ℕ, ℤ}
 use Rattle.field.specs.Prime.{P}
 use Rattle.field.specs.Element.{elem}

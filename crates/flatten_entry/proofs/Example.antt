@@ -36,7 +36,7 @@ use Rattle.std.specs.Prelude.{Ok}
 use Rattle.pass_entry.specs.Cut.{answer_for, output_for}
 use Rattle.plain.specs.Plain.{is_plain}
 use Rattle.plain.specs.Meaning.{NoDivisorZero}
-use Rattle.plain.proofs.Compute.{rules_of, plain_of}
+use Rattle.plain.proofs.Compute.{sides_under, plain_of}
 use Rattle.plain.proofs.Condition.{plain-has-plain-body}
 use Rattle.agreement.specs.Statement.{Agrees}
 use Rattle.flatten_entry.specs.Flatten.{flattened}
@@ -85,7 +85,7 @@ is-written out l =
 
 -- the divisors: x
 not-zero : (ρ : ℕ → ℤ) → elem P (ρ 2) ≡ ρ 2 → (Some (ρ 2) ≡ Some (pos 0) → ⊥) → NoDivisorZero module-text ρ
-unfolding rules_of
+unfolding sides_under
 not-zero ρ c h =
     let quotient = (has-value-where P P-prime (elem P (pos 1)) (ρ 2) Divide).1 (not-zero-value P P-prime (ρ 2) c h) in
     let up = add-answer P (ρ 2) (elem P (pos 1)) in

@@ -1,4 +1,4 @@
--- What a plain module says, open: `unfolding rules_of` lets its rules be worked out by `refl`, `unfolding plain_of` the test for a plain module. With
+-- What a plain module says, open: `unfolding sides_under` lets its rules be worked out by `refl`, `unfolding plain_of` the test for a plain module. With
 -- `answer_of` of eval_trees/proofs/Compute.antt its flat module, and the field's operations.
 use mathlib.Core.Bool.{Bool}
 use mathlib.Core.List.{List}
@@ -15,10 +15,10 @@ use Rattle.plain.specs.Meaning.{write, through, value_of, values_of, sides_of, s
 use Rattle.plain.specs.Meaning
 
 -- both sides of every component of a module's rules
-unfoldable pub rules_of : Module → (ℕ → ℤ) → List (Answer × Answer)
+unfoldable pub sides_under : Module → (ℕ → ℤ) → List (Answer × Answer)
 unfolding update on_values negated is_answer is_whole number_of halves ends is_nil components write through value_of Meaning.defined values_of sides_of sides
     NotZeroInEquation
-rules_of m ρ = sides (Meaning.defined (start ρ) m.definitions) m.expressions
+sides_under m ρ = sides (Meaning.defined (start ρ) m.definitions) m.expressions
 
 unfoldable pub plain_of : Module → Bool
 unfolding is_plain is_plain_body is_arithmetic is_free is_plain_name is_plain_pattern is_plain_expr is_equal is_plain_equation are_plain_publics

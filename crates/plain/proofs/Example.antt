@@ -19,7 +19,7 @@ use Rattle.eval_trees.proofs.Compute.{answer_of}
 use Rattle.plain.specs.Plain.{is_plain_body, is_plain}
 use Rattle.plain.specs.Meaning.{NoDivisorZero}
 use Rattle.plain.specs.Statements.{Gives, PlainFlat, SaysTheSame}
-use Rattle.plain.proofs.Compute.{rules_of, plain_of}
+use Rattle.plain.proofs.Compute.{sides_under, plain_of}
 use Rattle.plain.proofs.Agreement.{plain-modules-agree}
 use Rattle.plain.proofs.Condition.{plain-has-plain-body}
 
@@ -108,8 +108,8 @@ makes = refl
 at-two : ℕ → ℤ
 at-two x = cond (eqb x 0) (pos 2) (pos 18)
 
-sides-at-two : rules_of source at-two ≡ (Some (pos 18), Some (pos 18)) ∷ []
-unfolding answer_of rules_of at-two
+sides-at-two : sides_under source at-two ≡ (Some (pos 18), Some (pos 18)) ∷ []
+unfolding answer_of sides_under at-two
 sides-at-two = refl
 
 -- and the flat list, from v9 = 2 and v13 = 18

@@ -15,7 +15,7 @@ use Rattle.eval_trees.specs.Evaluation.{flat, refusal, evaluated}
 use Rattle.eval_trees.proofs.Compute.{answer_of}
 use Rattle.plain.specs.Plain.{is_plain}
 use Rattle.plain.specs.Meaning.{Holds, NoDivisorZero}
-use Rattle.plain.proofs.Compute.{rules_of, plain_of}
+use Rattle.plain.proofs.Compute.{sides_under, plain_of}
 
 -- ---- a rule for up and one for down: pub a, b; def (up, down) = (s + t, s - t); (up, down) = (a, b)
 
@@ -62,21 +62,21 @@ shifts-makes = refl
 pub shifting : ℤ → ℕ → ℤ
 shifting b x = cond (eqb x 1) b (cond (eqb x 4) (pos 5) (cond (eqb x 5) (pos 2) (pos 7)))
 
-shifts-hold : rules_of shifts (shifting (pos 3)) ≡ (Some (pos 7), Some (pos 7)) ∷ (Some (pos 3), Some (pos 3)) ∷ []
-unfolding answer_of rules_of shifting
+shifts-hold : sides_under shifts (shifting (pos 3)) ≡ (Some (pos 7), Some (pos 7)) ∷ (Some (pos 3), Some (pos 3)) ∷ []
+unfolding answer_of sides_under shifting
 shifts-hold = refl
 
 pub shifts-fulfilled : Holds shifts (shifting (pos 3))
-unfolding answer_of rules_of shifting
+unfolding answer_of sides_under shifting
 shifts-fulfilled = ((pos 7, refl, refl), ((pos 3, refl, refl), tt))
 
 -- one component that fails is enough: b = 4
-shifts-fail : rules_of shifts (shifting (pos 4)) ≡ (Some (pos 7), Some (pos 7)) ∷ (Some (pos 3), Some (pos 4)) ∷ []
-unfolding answer_of rules_of shifting
+shifts-fail : sides_under shifts (shifting (pos 4)) ≡ (Some (pos 7), Some (pos 7)) ∷ (Some (pos 3), Some (pos 4)) ∷ []
+unfolding answer_of sides_under shifting
 shifts-fail = refl
 
 pub shifts-not-fulfilled : Holds shifts (shifting (pos 4)) → ⊥
-unfolding answer_of rules_of shifting
+unfolding answer_of sides_under shifting
 shifts-not-fulfilled h =
     let w = h.1.0 in
     let p : Some (pos 3) ≡ Some w.0 = w.1 in
@@ -134,20 +134,20 @@ nested-makes = refl
 pub at : ℤ → ℤ → ℕ → ℤ
 at x y n = cond (eqb n 0) x (cond (eqb n 1) y (pos 6))
 
-nested-holds : rules_of nested (at (pos 4) (pos 4)) ≡ (Some (pos 6), Some (pos 6)) ∷ (Some (pos 4), Some (pos 4)) ∷ []
-unfolding answer_of rules_of at
+nested-holds : sides_under nested (at (pos 4) (pos 4)) ≡ (Some (pos 6), Some (pos 6)) ∷ (Some (pos 4), Some (pos 4)) ∷ []
+unfolding answer_of sides_under at
 nested-holds = refl
 
 pub nested-fulfilled : Holds nested (at (pos 4) (pos 4))
-unfolding answer_of rules_of at
+unfolding answer_of sides_under at
 nested-fulfilled = ((pos 6, refl, refl), ((pos 4, refl, refl), tt))
 
-nested-fails : rules_of nested (at (pos 4) (pos 5)) ≡ (Some (pos 6), Some (pos 6)) ∷ (Some (pos 5), Some (pos 4)) ∷ []
-unfolding answer_of rules_of at
+nested-fails : sides_under nested (at (pos 4) (pos 5)) ≡ (Some (pos 6), Some (pos 6)) ∷ (Some (pos 5), Some (pos 4)) ∷ []
+unfolding answer_of sides_under at
 nested-fails = refl
 
 pub nested-not-fulfilled : Holds nested (at (pos 4) (pos 5)) → ⊥
-unfolding answer_of rules_of at
+unfolding answer_of sides_under at
 nested-not-fulfilled h =
     let w = h.1.0 in
     let p : Some (pos 5) ≡ Some w.0 = w.1 in
@@ -200,20 +200,20 @@ pub lists-makes : evaluated 65535 (numbered lists) ≡ flat lists-made
 unfolding answer_of
 lists-makes = refl
 
-lists-hold : rules_of lists (at (pos 4) (pos 4)) ≡ (Some (pos 4), Some (pos 4)) ∷ (Some (pos 4), Some (pos 4)) ∷ (Some (pos 4), Some (pos 4)) ∷ []
-unfolding answer_of rules_of at
+lists-hold : sides_under lists (at (pos 4) (pos 4)) ≡ (Some (pos 4), Some (pos 4)) ∷ (Some (pos 4), Some (pos 4)) ∷ (Some (pos 4), Some (pos 4)) ∷ []
+unfolding answer_of sides_under at
 lists-hold = refl
 
 pub lists-fulfilled : Holds lists (at (pos 4) (pos 4))
-unfolding answer_of rules_of at
+unfolding answer_of sides_under at
 lists-fulfilled = ((pos 4, refl, refl), ((pos 4, refl, refl), ((pos 4, refl, refl), tt)))
 
-lists-fail : rules_of lists (at (pos 4) (pos 5)) ≡ (Some (pos 5), Some (pos 5)) ∷ (Some (pos 4), Some (pos 5)) ∷ (Some (pos 4), Some (pos 4)) ∷ []
-unfolding answer_of rules_of at
+lists-fail : sides_under lists (at (pos 4) (pos 5)) ≡ (Some (pos 5), Some (pos 5)) ∷ (Some (pos 4), Some (pos 5)) ∷ (Some (pos 4), Some (pos 4)) ∷ []
+unfolding answer_of sides_under at
 lists-fail = refl
 
 pub lists-not-fulfilled : Holds lists (at (pos 4) (pos 5)) → ⊥
-unfolding answer_of rules_of at
+unfolding answer_of sides_under at
 lists-not-fulfilled h =
     let w = h.1.0 in
     let p : Some (pos 4) ≡ Some w.0 = w.1 in
@@ -238,14 +238,14 @@ unused-plain = refl
 
 -- at x = 0
 divisor-counts : NoDivisorZero unused (λ n. pos 0) → ⊥
-unfolding answer_of rules_of
+unfolding answer_of sides_under
 divisor-counts n =
     let w = n.0.0.0.2 in
     let none : None ≡ Some w.0 = w.1 in
     let o : ◌≡◌ {A = ℕ} 0 1 = cc in
     omega arith
 
--- ---- what is refused has no meaning to compare; the definition gives none
+-- ---- what is refused has no meaning to compare; what the definition gives in three cases
 
 -- one rule, of the inputs x (name 0) and y (name 1)
 abbrev ruled : Expr → Expr → Module
@@ -256,9 +256,9 @@ pattern-misfit : evaluated 65535 (numbered (ruled (letting (product_p (variable_
 unfolding answer_of
 pattern-misfit = refl
 
-pattern-misfit-rules : rules_of (ruled (letting (product_p (variable_p 0) (variable_p 1)) (variable 0) (variable 1)) (variable 1)) (at (pos 4) (pos 4))
+pattern-misfit-rules : sides_under (ruled (letting (product_p (variable_p 0) (variable_p 1)) (variable 0) (variable 1)) (variable 1)) (at (pos 4) (pos 4))
     ≡ (None, Some (pos 4)) ∷ []
-unfolding answer_of rules_of at
+unfolding answer_of sides_under at
 pattern-misfit-rules = refl
 
 -- sides of different shape: (x, []) = (x, (y, y))
@@ -266,9 +266,9 @@ sides-misfit : evaluated 65535 (numbered (ruled (product (variable 0) nil) (prod
 unfolding answer_of
 sides-misfit = refl
 
-sides-misfit-rules : rules_of (ruled (product (variable 0) nil) (product (variable 0) (product (variable 1) (variable 1)))) (at (pos 4) (pos 4))
+sides-misfit-rules : sides_under (ruled (product (variable 0) nil) (product (variable 0) (product (variable 1) (variable 1)))) (at (pos 4) (pos 4))
     ≡ (Some (pos 4), Some (pos 4)) ∷ (None, None) ∷ []
-unfolding answer_of rules_of at
+unfolding answer_of sides_under at
 sides-misfit-rules = refl
 
 -- arithmetic on a pair: (x, y) + 1 = x
@@ -276,9 +276,9 @@ on-a-pair : evaluated 65535 (numbered (ruled (binary Add (product (variable 0) (
 unfolding answer_of
 on-a-pair = refl
 
-on-a-pair-rules : rules_of (ruled (binary Add (product (variable 0) (variable 1)) (constant (pos 1))) (variable 0)) (at (pos 4) (pos 4))
+on-a-pair-rules : sides_under (ruled (binary Add (product (variable 0) (variable 1)) (constant (pos 1))) (variable 0)) (at (pos 4) (pos 4))
     ≡ (None, Some (pos 4)) ∷ []
-unfolding answer_of rules_of at
+unfolding answer_of sides_under at
 on-a-pair-rules = refl
 
 -- `=` inside a component, and the As pattern, are not plain

@@ -1,5 +1,6 @@
 -- What a plain module says, "worked out from the top": a table of names, the values of expressions, when every operation has one, when the equations hold.
--- Where an operation has no value, and where evaluation refuses (a pattern or sides that do not fit 16, arithmetic on a pair or list 18), there is none.
+-- Where an operation has no value there is none; nor in what evaluation refuses: for arithmetic on a pair or list (18), for a component where sides do not
+-- fit (16), and for the names in a part of a pattern that does not fit (16). A rule that uses no such name can hold in a module that is refused.
 use Rattle.std.specs.Prelude.{◌≡◌, true, cond, List, [], ◌∷◌, ◌++◌, ℕ, ℤ, Some}
 use Rattle.field.specs.Operations.{Answer, HasValue}
 use Rattle.field.specs.Prime.{P}

@@ -1,4 +1,5 @@
--- What is proved of an accepted plain module and its flat module, in proofs/Agreement.antt; then of what a plain module says, in proofs/Condition.antt.
+-- What is proved of an accepted plain module and its flat module, in proofs/Agreement.antt; then of what a plain module says, in proofs/Condition.antt
+-- and proofs/Components.antt.
 use Rattle.std.specs.Prelude.{◌≡◌, true, false, [], ◌↔◌, ℕ, ◌<◌, ℤ}
 use Rattle.field.specs.Prime.{P}
 use Rattle.field.specs.Element.{elem}

@@ -1,5 +1,5 @@
 -- Plain modules without pairs and lists, in words of their own: only variable patterns, and every value an element. They are a case of those of Plain.antt,
--- and mean the same there (`WithoutPairsIsACase`).
+-- and mean the same there (`WithoutPairsIsACase`). Proved in proofs/WithoutPairs.antt.
 use Rattle.std.specs.Prelude.{◌≡◌, Bool, true, ◌&&◌, List, [], ◌∷◌, ◌↔◌, ℕ, ℤ, Some, None}
 use Rattle.std.proofs.Math.Bool.{false}
 use Rattle.field.specs.Operations.{Answer, HasValue}
