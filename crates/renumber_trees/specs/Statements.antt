@@ -57,14 +57,14 @@ abbrev pub ExpandedIsRead : Type 0
 ExpandedIsRead =
     (b t : List ℕ) (m : ConstraintModule) → Bytes b → expand_of b t ≡ Read.module-of m → constraint_read (constraint_bytes m) ≡ Read.module-of m
 
--- THE LONGEST RECORD has 868,632 bytes: a longer one is refused, as its first 868,633 bytes are
+-- NO RECORD IS LONGER than 868,632 bytes: more bytes are refused, as the first 868,633 of them are
 abbrev pub RECORD-BYTES : ℕ
 RECORD-BYTES = 868632
 
 abbrev pub LongRefused : Type 0
 LongRefused = (b : List ℕ) → RECORD-BYTES < length b → constraint_read b ≡ Read.refused Refusal.ConstraintRecord
 
--- and a renumbered record is no longer; THE LONGEST TABLE has 262,148
+-- nor is a renumbered one, and its table no longer than 262,148
 abbrev pub TABLE-BYTES : ℕ
 TABLE-BYTES = 262148
 
@@ -74,7 +74,7 @@ LongestBoth =
     renumber_of b ≡ Renumbered.made m ws →
     (length (constraint_bytes m) ≤ RECORD-BYTES) × (length (bytes_of ws) ≤ TABLE-BYTES)
 
--- so `expand` refuses a longer table; and what it writes is no longer than the longest record
+-- `expand` refuses a longer table, and what it writes is no longer than a record either
 abbrev pub LongTableRefused : Type 0
 LongTableRefused =
     (b t : List ℕ) (m : ConstraintModule) →
