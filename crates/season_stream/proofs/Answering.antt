@@ -2,13 +2,17 @@
 use mathlib.Core.Bool.{true}
 use mathlib.Core.List.{List, ◌++◌}
 use mathlib.Core.Path.{◌≡◌, refl, sym, subst}
-use Prim.Native.Nat.{ℕ}
+use Prim.Native.Nat.{ℕ, ◌*◌}
+use lib.ListN.{length}
 use Rattle.std.specs.Prelude.{Option, Result, Ok, Err}
 use Rattle.std.specs.Io.KnownBytes.{Consumes, IsAtEnd}
 use Rattle.records.specs.declared.refusals.Refusal.{Refusal}
+use Rattle.constraint.specs.Reading.{size}
 use Rattle.constraint_check.specs.Tests.{tests}
+use Rattle.constraint_check.proofs.Accepted.{tested}
 use Rattle.season_values.specs.Record.{Bytes}
 use Rattle.season_trees.specs.Season.{calibrations_of}
+use Rattle.season_trees.proofs.Written.{front-part, rest-behind}
 use Rattle.season_count.specs.declared.Count.{Count}
 use Rattle.season_entry.specs.Entry.{elements, Reported}
 use Rattle.season_entry.proofs.Parts.{Answered, record-refused, rest-refused, reported}
@@ -16,7 +20,6 @@ use Rattle.season_stream.specs.declared.Stop.{Stop}
 use Rattle.season_stream.specs.Stream.{Had, RecordTaken, StreamCounted}
 use Rattle.season_stream.specs.Statement.{StreamReported}
 use Rattle.season_stream.proofs.Had.{had-any, had-consumed}
-use Rattle.season_stream.proofs.Records.{front-part, rest-behind}
 
 -- the entry's answers
 pub answered-ok : (old new : Option (List ℕ)) (b out out' : List ℕ) (n : ℕ) → Had old b → Answered b out (Ok n) out' → IsAtEnd new
@@ -34,10 +37,13 @@ no-record Stop.Failed old mid new buf out w = let any = had-any old in (any.0, a
 
 -- behind an accepted record s
 module _ (s : List ℕ) (bytes : Bytes s) (t : tests s ≡ true) (old mid new : Option (List ℕ)) (c : Consumes old mid s) (out : List ℕ) where
+  long : length s ≡ 4 * size s
+  long = (tested s t).long
+
   pub rest-stopped : (x : Stop) (count : Count) → StreamCounted s (Err x) mid new count → StreamReported old new out (Err x) out
   rest-stopped (Stop.Refused e) count w =
       let r = w.0 in
-      let a = rest-refused (s ++ r) s r bytes (front-part s r t) (rest-behind s r t) t out w.3 in
+      let a = rest-refused (s ++ r) s r bytes (front-part s r long) (rest-behind s r long) t out w.3 in
       subst (λ (x : Refusal). StreamReported old new out (Err (Stop.Refused x)) out) (sym w.2)
       (answered-err old new (s ++ r) out out Refusal.Calibrations (had-consumed old mid s r c w.1) a)
   rest-stopped Stop.Failed count w = let any = had-any old in (any.0, any.1, refl, tt)
@@ -45,7 +51,7 @@ module _ (s : List ℕ) (bytes : Bytes s) (t : tests s ≡ true) (old mid new : 
   -- the calibrations r that follow were counted
   module _ (count : Count) (w : StreamCounted s (Ok tt) mid new count) where
     whole : {a : Result ℕ Refusal} {out' : List ℕ} → Reported s count out a out' → Answered (s ++ w.0) out a out'
-    whole h = reported (s ++ w.0) s w.0 bytes (front-part s w.0 t) (rest-behind s w.0 t) t out w.2 (h (calibrations_of w.0 (elements s)) w.3)
+    whole h = reported (s ++ w.0) s w.0 bytes (front-part s w.0 long) (rest-behind s w.0 long) t out w.2 (h (calibrations_of w.0 (elements s)) w.3)
 
     pub report-written : (n : ℕ) (out' : List ℕ) → Reported s count out (Ok n) out' → StreamReported old new out (Ok n) out'
     report-written n out' h = answered-ok old new (s ++ w.0) out out' n (had-consumed old mid s w.0 c w.1) (whole h) w.4
