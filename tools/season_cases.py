@@ -543,7 +543,7 @@ def limits():
 
 
 def chained(n):
-    """Definitions of a flat record with 4,096 listed prover ids that gives n: a listed id is the first of a chain of copies, and its last the sum of two variables."""
+    """Definitions of a flat record with 4,096 listed prover ids that gives n: a chain of copies from a listed id on, its last the sum of two variables."""
     return [(n - 3, (ADD, v(n - 2), v(n - 1)))] + [(k, v(k + 1)) for k in range(n - 4, 4095, -1)] + [(0, v(4096))]
 
 
