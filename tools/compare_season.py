@@ -15,7 +15,7 @@ import subprocess
 import sys
 
 from flat_records import ADD, LAST_NEXT, MULTIPLY, flat, pack, unpack
-from season_cases import behind, c, cases, model, prover_record, read, record, some_record, some_season, summed, v
+from season_cases import behind, c, cases, chained, model, prover_record, read, record, some_record, some_season, v
 
 ROOM = 1 << 30
 
@@ -68,9 +68,9 @@ def longest():
 
 
 def by_cut(folder):
-    """Whether what cut_flat writes of flat records with 8,192 and 8,193 prover ids are those of season_cases.py; no smaller record gives so many."""
+    """The numbers of prover ids, of 8,192 and 8,193, for which cut_flat writes another record than season_cases.py; no smaller flat record gives 8,193."""
     for n in (8192, 8193):
-        lent = flat(n, [(0, summed(range(4096, n)))], [(v(0), c(0))], provers=range(4096))
+        lent = flat(n, chained(n), [(v(0), c(0))], provers=range(4096))
         ran = subprocess.run([os.path.join(folder, "cut_flat")], input=lent, capture_output=True)
         if (ran.stdout, ran.stderr) != (prover_record(n), b""):
             yield n

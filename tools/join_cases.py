@@ -297,6 +297,16 @@ def limits():
     yield flat(65535, (), [(v(65534), c(1))]), flat(1, (), [(v(0), c(2))]), b""
 
 
+def orders():
+    """33 beside what comes before it, and the result's counts and next id beside the pairs' numbers and its own 22."""
+    wide, second = many(64, 65536, "publics"), flat(2, [(0, c(1))], (), [1], [0, 1])
+    for pairs in (couples((0, 0))[:7], couples((0, 0)), couples((0, 1)), b""):
+        yield wide, second, pairs
+    powered, less = [(0, (POWER, v(1), v(1)))], [(v(0), c(1))]
+    yield flat(65536, powered, (), (), range(64)), flat(2, (), less, (), [1]), couples((0, 0))
+    yield flat(65536, powered), flat(2, (), less), couples((0, 0))
+
+
 def largest():
     """Both records at half of every limit, so that the result is as long as a flat record can be."""
     full = flat(32768, [(k, c(k)) for k in range(2048)], [(("-", v(k)), c(1)) for k in range(2048)], range(2048, 4096), range(32))
@@ -315,6 +325,7 @@ def cases():
     rng = random.Random(20)
     yield from by_hand()
     yield from limits()
+    yield from orders()
     yield from largest()
     yield from deepest()
     for _ in range(3000):
@@ -334,6 +345,8 @@ def main():
                 tested += agrees(first, second, pairs, answer, rng)
             if (len(answer) < 4000 and k % 7 == 0) or len(answer) == LONGEST:
                 rooms = [len(answer), len(answer) - 1]
+        elif k % 7 == 0:
+            rooms = [LONGEST, 0]
         for room in rooms:
             if isinstance(answer, bytes) and room < len(answer):
                 number, record = SHORT, b""

@@ -205,6 +205,7 @@ def cases():
         yield from damages(data)
     out, table = renumbered(whole(largest()))
     yield case(largest(), len(out), len(table))
+    yield case(out, len(largest()), table)
 
 
 # What holds of them together

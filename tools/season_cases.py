@@ -542,15 +542,15 @@ def limits():
     yield some_season(rng, data, 6000)[:-4] + pack([2**30])
 
 
-def summed(ids):
-    """The sum of these variables, in halves."""
-    half = len(ids) // 2
-    return (ADD, summed(ids[:half]), summed(ids[half:])) if half else v(ids[0])
+def chained(n):
+    """Definitions of a flat record with 4,096 listed prover ids that gives n: a chain of copies from a listed id on, its last the sum of two variables."""
+    return [(n - 3, (ADD, v(n - 2), v(n - 1)))] + [(k, v(k + 1)) for k in range(n - 4, 4095, -1)] + [(0, v(4096))]
 
 
 def prover_record(n):
-    """What `cut` writes of the smallest flat record that gives n prover ids, more than 4,096: one prover definition, the sum of those that are not listed."""
-    return record(n, [(v(0), COPY, c(0), None)], kept=[(0, summed(range(4096, n)))], provers=range(n), places=(1, 0))
+    """What `cut` writes of the smallest flat record that gives n prover ids: 8,193 come of 4,096 definitions, the most, and 8,192 of one less."""
+    kept = chained(n)
+    return record(n, [(v(0), COPY, c(0), None)], kept=kept, provers=range(n), places=(len(kept), *range(len(kept))))
 
 
 def largest():
@@ -559,7 +559,7 @@ def largest():
     for n in (16384, 16385):
         yield record(3, sums * (n // 2) + sums[: n % 2]) + behind([(1, 2, 3), (5, 10, 15)])
     for n in (8192, 8193):
-        yield prover_record(n) + behind([[0] * (n - 1), [1] * (n - 1)])
+        yield prover_record(n) + behind([[0] * 4097, [1] * 4097])
 
 
 def deep(n):

@@ -57,7 +57,7 @@ fn argument<'a>(
     k: usize,
     room: &'a mut [u8; NAME],
 ) -> Result<&'a [u8], Failed>
-    requires { k ≤ 8 }
+    requires { k ≤ MOST }
 {
     let Ok(n) = rt.arg(k + FILES_AT, room) else {
         return Err(say_usage(rt, USAGE));
@@ -71,7 +71,7 @@ fn read_file<R: Env + Files + Input + Eprint>(
     k: usize,
     buf: &mut [u8],
 ) -> Result<usize, Failed>
-    requires { k ≤ 8 }
+    requires { k ≤ MOST }
     ensures { IfOk result (λ n. n ≤ length buf.old) }
 {
     let mut room = [0u8; NAME];
@@ -86,8 +86,8 @@ fn read_files<R: Env + Files + Input + Eprint>(
     records: &mut [u8; RECORDS],
     lengths: &mut [Lengths; TOO_MANY],
 ) -> Result<usize, Failed>
-    requires { n ≤ 8 }
-    ensures { IfOk result (λ at. at ≤ 524296) }
+    requires { n ≤ MOST }
+    ensures { IfOk result (λ at. at ≤ RECORDS) }
 {
     let mut at = 0;
     for k in 0..n {
@@ -131,7 +131,7 @@ fn give<R: Env + Files + Eprint, W: Write>(
     answer: Result<usize, Refusal>,
     out: &[u8],
 ) -> Result<usize, Failed>
-    requires { k ≤ 8 }
+    requires { k ≤ MOST }
 {
     let mut room = [0u8; NAME];
     let name = file_name(rt, argument(rt, k, &mut room)?, USAGE)?;
@@ -152,7 +152,7 @@ fn give_all<R: Env + Files + Print + Eprint>(
     room: usize,
     out: &[u8],
 ) -> Result<usize, Failed>
-    requires { (length each.now ≤ 8) × ((room ≤ 147456) × (length out.now ≡ 8 * room)) }
+    requires { (length each.now ≤ MOST) × ((room ≤ OUTPUT_BYTES) × (length out.now ≡ MOST * room)) }
 {
     let mut to = io::writer(rt);
     for k in 0..each.len() {
@@ -170,7 +170,7 @@ fn run<R: Env + Files + Input + Print + Eprint>(
     room: usize,
     out: &mut [u8],
 ) -> Result<usize, Failed>
-    requires { (n ≤ 9) × ((room ≤ 147456) × (length out.old ≡ 8 * room)) }
+    requires { (n ≤ TOO_MANY) × ((room ≤ OUTPUT_BYTES) × (length out.old ≡ MOST * room)) }
 {
     let mut records = records_buffer();
     let mut lengths = [Lengths {
@@ -193,7 +193,7 @@ fn run<R: Env + Files + Input + Print + Eprint>(
 
 // How many files are named, as far as they matter.
 fn files(rt: &impl Env) -> usize
-    ensures { result ≤ 9 }
+    ensures { result ≤ TOO_MANY }
 {
     let mut n = 0;
     for _ in 0..TOO_MANY {

@@ -9,7 +9,8 @@ use std::io;
 use std::rt::{Env, Files};
 use streams::{Failed, read_standard};
 
-// One byte more than the longest record and the longest table have: a longer one is refused ConstraintRecord or SideTable, as its first bytes are.
+// One byte more than the longest record and the longest table have: a longer one is refused ConstraintRecord or SideTable, as its first bytes are
+// (`long-refused`, `long-table-refused` of renumber_trees). What is expanded has room (`longest-expanded`).
 const INPUT_BYTES: usize = RECORD_BYTES + 1;
 
 const TABLE_INPUT: usize = TABLE_BYTES + 1;

@@ -1,6 +1,6 @@
 -- What `flatten` writes is read as written just if it has at most 8,192 prover ids. Proved in proofs/Returned.antt.
 use Rattle.std.specs.Prelude.{List, ◌≡◌, ℕ, ◌≤◌, length}
-use Rattle.records.specs.FlatRecord.{IDS}
+use Rattle.records.specs.FlatRecord.{IDS, PUBLICS}
 use Rattle.source.specs.Trees.{Module}
 use Rattle.numbering.specs.Numbering.{numbered}
 use Rattle.constraint.specs.Trees.{ConstraintModule}
@@ -18,7 +18,7 @@ abbrev pub FlattenedReturned : Type 0
 FlattenedReturned =
     (m : Module) →
     (numbered m).next ≤ IDS →
-    length (numbered m).publics ≤ 64 →
+    length (numbered m).publics ≤ PUBLICS →
     (capacity : ℕ) (c : ConstraintModule) →
     flattened_of capacity m ≡ cut c →
     ReturnedWithin c

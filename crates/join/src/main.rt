@@ -6,6 +6,8 @@ ghost use Rattle.streams.specs.Streams.{Within};
 
 use answer_record::print_answer;
 use flat::entries::BYTES;
+use join_pairs::PAIR_BYTES;
+use records::flat_record::ID_COUNT;
 use std::io;
 use std::rt::{Env, Files};
 use streams::{Failed, has_argument, open_argument, read_opened};
@@ -14,7 +16,7 @@ use streams::{Failed, has_argument, open_argument, read_opened};
 const RECORD_BYTES: usize = BYTES + 1;
 
 // One pair more than there are ids: where a pair is left, one is used before or out of range, and what follows changes nothing.
-const PAIRS_BYTES: usize = 8 * 65537;
+const PAIRS_BYTES: usize = PAIR_BYTES * (ID_COUNT + 1);
 
 // Where the files stand among the arguments, the first of which is the program's own name; and how many these are.
 const FIRST: usize = 1;

@@ -7,8 +7,8 @@ use lib.Dec.{leb}
 use lib.ListN.{length, take, drop}
 use lib.Seq.{take_at}
 use Rattle.flat.specs.Trees.{FlatModule}
-use Rattle.flat.specs.Record.{Read, pick, flat_of}
-use Rattle.marks.proofs.Indices.{and_right}
+use Rattle.flat.specs.Record.{Read, pick}
+use Rattle.marks.proofs.Indices.{and_left, and_right}
 use Rattle.flat.proofs.Reading.{accepted-module}
 use Rattle.flat.proofs.Wellformed.{accepted-well-formed}
 use Rattle.join_trees.specs.Pairs.{pairs_of, whole, fit, none_defined, provers_alike}
@@ -43,10 +43,12 @@ result-made (Read.module-of h) d c e = (h, refl, cc)
 result-made (Read.refused k) d c e = cc
 
 -- two accepted records
-modules-made : (f g : FlatModule) (a b pairs c : List ℕ) → flat_of a ≡ Read.module-of f → flat_of b ≡ Read.module-of g → join_modules f g a b pairs ≡ Ok c
+modules-made : (f g : FlatModule) (a b pairs c : List ℕ) → lent_of a ≡ Read.module-of f → lent_of b ≡ Read.module-of g → join_modules f g a b pairs ≡ Ok c
     → Joins a b pairs c
 unfolding join_modules
-modules-made f g a b pairs c ea eb e =
+modules-made f g a b pairs c la lb e =
+    let ea = lent-read a f la in
+    let eb = lent-read b g lb in
     let ps = pairs_of pairs in
     let p1 = passed (whole pairs && fit f.next g.next ps) Refusal.Pair _ c e in
     let p2 = passed (none_defined g.definitions ps) Refusal.SharedDefinition _ c p1.1 in
@@ -57,8 +59,9 @@ modules-made f g a b pairs c ea eb e =
     record {
       first = f;
       second = g;
-      first-is = ea;
-      second_is = eb;
+      first-is = la;
+      second_is = lb;
+      whole-pairs = and_left (whole pairs) (fit f.next g.next ps) p1.0;
       pass = record {
         first = accepted-well-formed a f ea;
         second = accepted-well-formed b g eb;
@@ -73,7 +76,7 @@ read_made : (p q : Read) (a b pairs c : List ℕ) → lent_of a ≡ p → lent_o
 unfolding join_read
 read_made (Read.refused k) q a b pairs c ea eb e = cc
 read_made (Read.module-of f) (Read.refused k) a b pairs c ea eb e = cc
-read_made (Read.module-of f) (Read.module-of g) a b pairs c ea eb e = modules-made f g a b pairs c (lent-read a f ea) (lent-read b g eb) e
+read_made (Read.module-of f) (Read.module-of g) a b pairs c ea eb e = modules-made f g a b pairs c ea eb e
 
 pub join-agrees : JoinAgrees
 unfolding join_of

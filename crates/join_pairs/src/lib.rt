@@ -11,6 +11,7 @@ ghost use Rattle.flat.specs.Record.{module_of};
 ghost use Rattle.pass_classify.specs.Arrays.{marked, Marks};
 ghost use Rattle.join_trees.specs.Pairs.{pairs_of, none_defined, provers_alike};
 
+pub use pairs::PAIR_BYTES;
 use pairs::{marks_alike, none_marked};
 use pass_classify::record::Record;
 use pass_classify::{Provers, mark_provers};

@@ -11,7 +11,7 @@ use Rattle.flat.specs.Meaning.{Assignment, value, DefinitionHolds, EquationHolds
 use Rattle.pass_trees.specs.Passes.{member, those}
 use Rattle.pass_trees.proofs.Lists.{all_map, all_append, all_split, all-those, every_map, value-agrees}
 use Rattle.pass_trees.proofs.Classified.{all_both}
-use Rattle.pass_trees.proofs.Working.{worked-other, worked-hold, in-turn-is-at-end, ordered-those}
+use Rattle.pass_trees.proofs.Working.{worked-other, worked-hold, in-turn-is-at-end, agree-all, ordered-those}
 use Rattle.join_trees.specs.Pairs.{Pair}
 use Rattle.join_trees.specs.Joined.{renamed, renamed_definitions, renamed_equations, joined}
 use Rattle.join_trees.specs.Statements.{Joinable, ruled, values, NoZero, Fulfils}
@@ -147,5 +147,11 @@ join-holds f g ps j σ = both_hold j σ
 pub worked-holds : WorkedHolds
 unfolding ruled
 worked-holds f w ρ z =
-    let o = ordered-those (λ v. not (member v f.provers)) f.definitions w.ordered in
-    worked-hold (ruled f) o ρ ((in-turn-is-at-end (ruled f) o ρ).0 z)
+    let t : ℕ → Bool = λ v. not (member v f.provers) in
+    let S : ℕ → Type 0 = λ _. Unit {0} in
+    let o = ordered-those t f.definitions w.ordered in
+    let h = worked-hold (ruled f) o ρ ((in-turn-is-at-end (ruled f) o ρ).0 z) in
+    let all = all-those (λ d. Every S d.right) t f.definitions (all_map (λ d k. every_map (λ v l. tt) d.right k.1) f.definitions w.definitions-below) in (
+      h,
+      (λ σ i s v. agree-all S σ (values f ρ) (ruled f) o all i h (λ u _ n. s u n ∙ sym (worked-other (ruled f) ρ u n)) v tt),
+    )

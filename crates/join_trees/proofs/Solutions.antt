@@ -20,7 +20,7 @@ use Rattle.pass_trees.proofs.Counted.{counted-least}
 use Rattle.pass_trees.proofs.Working.{worked-elements, worked-other}
 use Rattle.pass_trees.proofs.Agreement.{cut-keeps-meaning-at, inputs-given}
 use Rattle.join_trees.specs.Joined.{joined}
-use Rattle.join_trees.specs.Statements.{ruled, values, NoZero, second_inputs, JoinKeepsSolutions}
+use Rattle.join_trees.specs.Statements.{ruled, values, second_inputs, Valued, NoZeroValued, JoinKeepsSolutions}
 use Rattle.join_trees.proofs.Once.{which}
 use Rattle.join_trees.proofs.Wellformed.{joined-well-formed}
 use Rattle.join_trees.proofs.Meaning.{join-keeps-meaning, worked-holds}
@@ -67,20 +67,22 @@ module _ (f : FlatModule) (w : WellFormed f) where
       (all-those _ _ _ (all-those _ _ f.definitions back)) (counted-least f w (λ _. Unit {0}) everything))
 
   -- the theorem of `cut` for the values worked out from all definitions of variables that are no prover variables
-  pub cut-keeps-values : (c : ConstraintModule) → cut_of f ≡ Outcome.cut c → (ρ : Assignment) → Elements ρ → NoZero f ρ
+  pub cut-keeps-values : (c : ConstraintModule) → cut_of f ≡ Outcome.cut c → (ρ : Assignment) → Elements ρ → Valued f ρ
       → KeepsMeaning f c (Given f) ρ (values f ρ)
-  cut-keeps-values c e ρ el z =
-      cut-keeps-meaning-at f c w e (Given f) (inputs-given f w) ρ (values f ρ) (worked-elements (ruled f) ρ el) (given-kept ρ)
-      (counted-ruled (DefinitionHolds (values f ρ)) (worked-holds f w ρ z))
+  cut-keeps-values c e ρ el h =
+      cut-keeps-meaning-at f c w e (Given f) (inputs-given f w) ρ (values f ρ) (worked-elements (ruled f) ρ el) (given-kept ρ) h
+
+-- where no operation lacks a value the counted definitions hold
+pub no-zero-valued : NoZeroValued
+no-zero-valued f w ρ z = counted-ruled f w (DefinitionHolds (values f ρ)) (worked-holds f w ρ z).0
 
 pub join-keeps-solutions : JoinKeepsSolutions
 unfolding second_inputs
-join-keeps-solutions f g ps c d e j ec ed ee ρ el z =
+join-keeps-solutions f g ps c d e j ec ed ee ρ el h hf hg =
     let means = join-keeps-meaning f g ps j ρ in
-    let zs = means.divisors.0 z in
-    let both = cut-keeps-values (joined f g ps) (joined-well-formed f g ps j) c ec ρ el z in
-    let one = cut-keeps-values f j.first d ed ρ el zs.0 in
-    let two = cut-keeps-values g j.second e ee (second_inputs f ps ρ) (λ v. worked-elements (ruled f) ρ el _) zs.1 in
+    let both = cut-keeps-values (joined f g ps) (joined-well-formed f g ps j) c ec ρ el h in
+    let one = cut-keeps-values f j.first d ed ρ el hf in
+    let two = cut-keeps-values g j.second e ee (second_inputs f ps ρ) (λ v. worked-elements (ruled f) ρ el _) hg in
     record {
       agrees = (
         (λ s. let k = means.fulfils.0 (both.agrees.1 s) in (one.agrees.0 k.0, two.agrees.0 k.1)),

@@ -1,12 +1,12 @@
 -- What is proved of joining, in proofs/: the statements.
-use Rattle.std.specs.Prelude.{ℕ, ◌≡◌, List, [], Bool, true, not, ◌&&◌, ◌↔◌, leb, length}
-use Rattle.flat.specs.Trees.{Definition, FlatModule, module_nodes}
+use Rattle.std.specs.Prelude.{ℕ, ◌≡◌, List, [], Bool, true, false, not, ◌&&◌, ◌↔◌, leb, length}
+use Rattle.flat.specs.Trees.{Definition, FlatModule, defines, module_nodes}
 use Rattle.flat.specs.Record.{Read, pick, flat_of, module_of}
 use Rattle.flat.specs.Rules.{All, WellFormed}
 use Rattle.flat.specs.Meaning.{Assignment, Elements, DefinitionHolds, EquationHolds, worked_out, NoZeroInTurn}
 use Rattle.constraint.specs.Trees.{ConstraintModule}
 use Rattle.constraint.specs.Meaning.{InEquality, Solution}
-use Rattle.pass_trees.specs.Passes.{member, those, Outcome, fitting, passes, cut_of}
+use Rattle.pass_trees.specs.Passes.{member, those, counted, Outcome, fitting, passes, cut_of}
 use Rattle.pass_trees.specs.Meaning.{Given}
 use Rattle.records.specs.Refusals.{refusal_number}
 use Rattle.records.specs.declared.refusals.Refusal.{Refusal}
@@ -105,11 +105,24 @@ JoinHolds =
     (σ : Assignment) →
     Holds (joined f g ps) σ ↔ (Holds f σ × Holds g (λ v. σ (renamed ps f.next v)))
 
--- where no divisor is zero the worked-out values are values under which the definitions hold
+-- where no divisor is zero the worked-out values are values under which the definitions hold, and the only ones with these inputs
 abbrev pub WorkedHolds : Type 0
-WorkedHolds = (f : FlatModule) → WellFormed f → (ρ : Assignment) → NoZero f ρ → All (DefinitionHolds (values f ρ)) (ruled f)
+WorkedHolds =
+    (f : FlatModule) →
+    WellFormed f →
+    (ρ : Assignment) →
+    NoZero f ρ →
+    All (DefinitionHolds (values f ρ)) (ruled f)
+    × ((σ : Assignment) → All (DefinitionHolds σ) (ruled f) → ((v : ℕ) → defines (ruled f) v ≡ false → σ v ≡ ρ v) → (v : ℕ) → σ v ≡ values f ρ v)
 
--- THE CONSTRAINT RECORDS: the joined record's equalities have a solution with these inputs exactly if those of both have, and never a second one
+-- THE CONSTRAINT RECORDS: the joined record's equalities have a solution with these inputs exactly if those of both have, and never a second one. Asked is
+-- only that the counted definitions hold with the worked-out values; one that is not counted may have no value. Where no divisor is zero they hold
+abbrev pub Valued : FlatModule → Assignment → Type 0
+Valued f ρ = All (DefinitionHolds (values f ρ)) (counted f)
+
+abbrev pub NoZeroValued : Type 0
+NoZeroValued = (f : FlatModule) → WellFormed f → (ρ : Assignment) → NoZero f ρ → Valued f ρ
+
 abbrev pub Solvable : FlatModule → ConstraintModule → Assignment → Type 0
 Solvable f c ρ = (σ : Assignment) × Solution (Given f) c ρ σ
 
@@ -127,7 +140,9 @@ JoinKeepsSolutions =
     cut_of g ≡ Outcome.cut e →
     (ρ : Assignment) →
     Elements ρ →
-    NoZero (joined f g ps) ρ →
+    Valued (joined f g ps) ρ →
+    Valued f ρ →
+    Valued g (second_inputs f ps ρ) →
     JoinSolves f g ps c d e ρ
 
 -- JOINING WITH THE EMPTY RECORD gives the first, its publics without repeats

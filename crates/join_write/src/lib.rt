@@ -8,11 +8,12 @@ mod part;
 
 ghost use Rattle.std.specs.Prelude.{◌≡◌, ◌+◌, ◌*◌, ◌≤◌, length};
 ghost use Rattle.words.specs.Words.{set_words};
-ghost use Rattle.flat.specs.Layout.{definitions, equations, nodes, BYTES};
+ghost use Rattle.flat.specs.Layout.{definitions, equations, nodes, BYTES, DEFINITION-WORDS, EQUATION-WORDS};
 ghost use Rattle.flat.specs.declared.Layout.{Layout};
 ghost use Rattle.join_pairs.specs.Renamings.{new_ids};
 ghost use Rattle.join_write.specs.Written.{Beside, part_ids, joined_header, id_words, list_words, fit_of, written_of};
 ghost use Rattle.records.specs.FlatRecord.{HEADER};
+ghost use Rattle.records.specs.Kinds.{NODE-WORDS};
 
 use flat::entries::{Header, put_header};
 use flat::{Layout, has_few};
@@ -47,9 +48,9 @@ fn put_ids(first: &Part, second: &Part, out: &mut [u8]) -> Header
 // The definitions, equations and nodes of both records, from word `to` on.
 fn put_lists(first: &Part, second: &Part, out: &mut [u8], to: usize)
     requires beside { Beside first.now second.now }
-    requires room { 4 * (to + 3 * (definitions first.now.record.bytes.now + definitions second.now.record.bytes.now)
-        + 3 * (equations first.now.record.bytes.now + equations second.now.record.bytes.now)
-        + 4 * (nodes first.now.record.bytes.now + nodes second.now.record.bytes.now)) ≤ length out.old }
+    requires room { 4 * (to + DEFINITION-WORDS * (definitions first.now.record.bytes.now + definitions second.now.record.bytes.now)
+        + EQUATION-WORDS * (equations first.now.record.bytes.now + equations second.now.record.bytes.now)
+        + NODE-WORDS * (nodes first.now.record.bytes.now + nodes second.now.record.bytes.now)) ≤ length out.old }
     ensures { out.new ≡ set_words out.old to
         (list_words first.now.record.bytes.now second.now.record.bytes.now (part_ids second.now)) }
 {

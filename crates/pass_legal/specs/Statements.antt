@@ -1,6 +1,7 @@
 -- The reader of constraint records returns what was written: what the passes leave is read as written just if it has at most 8,192 prover ids. So the limit is
 -- the only cause of a refusal. Proved in proofs/Returned.antt.
 use Rattle.std.specs.Prelude.{List, ◌↔◌, ◌≡◌, ℕ, ◌≤◌, ◌<◌, length, get_or}
+use Rattle.records.specs.FlatRecord.{PUBLICS}
 use Rattle.flat.specs.Trees.{FlatModule}
 use Rattle.flat.specs.Rules.{Recordable}
 use Rattle.flat.specs.Writer.{SignedModule}
@@ -21,4 +22,4 @@ CutReturned = (b : List ℕ) → ((k : ℕ) → get_or b k 0 < 256) → (c : Con
 -- and whatever the passes leave of a flat module that a record can hold, as evaluation makes them
 abbrev pub PassesReturned : Type 0
 PassesReturned =
-    (f : FlatModule) → Recordable f → SignedModule f → length f.publics ≤ 64 → (c : ConstraintModule) → cut_of f ≡ cut c → ReturnedWithin c
+    (f : FlatModule) → Recordable f → SignedModule f → length f.publics ≤ PUBLICS → (c : ConstraintModule) → cut_of f ≡ cut c → ReturnedWithin c

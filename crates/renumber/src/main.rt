@@ -9,7 +9,8 @@ use std::io;
 use std::rt::{Env, Files};
 use streams::{Failed, read_standard};
 
-// One byte more than the longest record has: a longer input is refused ConstraintRecord, as its first bytes are.
+// One byte more than the longest record has: a longer input is refused ConstraintRecord, as its first bytes are (`long-refused` of renumber_trees). What is
+// renumbered has room (`longest-both`).
 const INPUT_BYTES: usize = RECORD_BYTES + 1;
 
 fn input_buffer() -> [u8; INPUT_BYTES] {

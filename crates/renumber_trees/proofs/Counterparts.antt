@@ -227,11 +227,11 @@ module _ (m : ConstraintModule) where
 -- A CALIBRATION FULFILS the renumbered record exactly if it fulfils the original under the table
 pub fulfils-under-table : FulfilsUnderTable
 unfolding renumbered
-fulfils-under-table m h c d u = fulfils-same (place_in (order m)) (length (order m)) m (order-carries m) c d (under_alike m c d u)
+fulfils-under-table m c d u = fulfils-same (place_in (order m)) (length (order m)) m (order-carries m) c d (under_alike m c d u)
 
 pub same-report : SameReport
 unfolding renumbered
-same-report m h cs ds u = report-same (place_in (order m)) (length (order m)) m (order-carries m) cs ds (all_alike m cs ds u)
+same-report m cs ds u = report-same (place_in (order m)) (length (order m)) m (order-carries m) cs ds (all_alike m cs ds u)
 
 -- AND EACH HAS ITS COUNTERPART
 pub carried-over : CarriedOver

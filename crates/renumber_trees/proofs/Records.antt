@@ -1,5 +1,5 @@
 -- THE THEOREMS ON BYTES: expanded, renumbered twice, accepted by the reader. Assumes nothing.
-use mathlib.Core.Bool.{Bool, true, false}
+use mathlib.Core.Bool.{Bool, true, false, ◌&&◌}
 use mathlib.Core.List.{List, [], ◌∷◌}
 use mathlib.Core.Path.{◌≡◌, refl, sym, ap, ap₂, subst, ◌∙◌}
 use Prim.Native.Nat.{ℕ, zero, suc, ◌+◌, ◌*◌, ◌≤◌, ◌<◌}
@@ -10,7 +10,7 @@ use lib.Seq.{take_at}
 use mir.Val.{SFits, to_z}
 use mir.Syntax.{w32}
 use mir.Facts.{sfits_to_z}
-use borrow.Author.Tests.{leb-true, le-leb, eq-eqb, eqb-true}
+use borrow.Author.Tests.{leb-true, le-leb, eq-eqb, eqb-true, ne_eqb}
 use Rattle.std.specs.Prelude.{Result, Ok, Err}
 use Rattle.words.specs.Words.{word_at, bytes_of}
 use Rattle.words.proofs.Laws.{word_at-fits, word_at-bytes_of, length-bytes_of}
@@ -22,6 +22,7 @@ use Rattle.flat.specs.Record.{pick, rows, node_for, node_of, grown, tree, defini
 use Rattle.flat.specs.Writer.{SignedTree}
 use Rattle.marks.proofs.Indices.{and_left, and_right}
 use Rattle.flat.proofs.Rows.{length-rows, rows_same}
+use Rattle.flat.proofs.Wellformed.{rows_all}
 use Rattle.records.specs.declared.refusals.Refusal.{Refusal}
 use Rattle.records.specs.FlatRecord.{IDS}
 use Rattle.constraint.specs.declared.Term.{Term}
@@ -29,7 +30,7 @@ use Rattle.constraint.specs.Trees.{Side, ConstraintModule}
 use Rattle.constraint.specs.Record.{constraint_bytes}
 use Rattle.constraint.specs.Reading.{term_at, side_for, equality_at, constraint_of, SignedTerm, SignedSide, SignedEquality, Signed}
 use Rattle.constraint.proofs.Lengths.{words, length-bytes}
-use Rattle.constraint_check.specs.Record.{every, Read, constraint_read}
+use Rattle.constraint_check.specs.Record.{every, legal, same, Read, constraint_read}
 use Rattle.constraint_check.proofs.OneToOne.{accepted-is-legal, legal-is-accepted}
 use Rattle.season_trees.specs.Values.{appears, ids_from}
 use Rattle.renumber_trees.specs.declared.Lengths.{Lengths}
@@ -39,11 +40,12 @@ use Rattle.renumber_trees.specs.Bytes.{Renumbered, renumbered_for, renumber_of, 
 use Rattle.renumber_trees.specs.Bytes.{record_after, table_after, table_ids, table_fits}
 use Rattle.renumber_trees.specs.Bytes.{expanded_for, expand_of, expand_answer, output_after}
 use Rattle.renumber_trees.specs.Statements.{Bytes, ExpandReturns, RenumbersAccepted, TwiceIsOnce, RenumberedIsRead, ExpandedIsRead, bare, OnlyIdsChange}
+use Rattle.renumber_trees.specs.Statements.{LongRefused, LongestBoth, LongTableRefused, LongestExpanded}
 use Rattle.renumber_trees.proofs.Lists.{In, in-at, in_all, all_in, and_both}
 use Rattle.renumber_trees.proofs.Firsts.{place_at}
 use Rattle.renumber_trees.proofs.Relabelling.{signed-relabelled, twice-ids, twice-equalities, twice-kept, kept-nodes}
 use Rattle.renumber_trees.proofs.Legal.{Lawful, lawful, lawful-legal, appearing-low, lawful-relabelled, provers-number, every-all, all-every}
-use Rattle.renumber_trees.proofs.Order.{order-distinct, order_below, order-carries, renumbered-lawful, renumbered-back}
+use Rattle.renumber_trees.proofs.Order.{order-distinct, order_below, order-carries, order-few, renumbered-lawful, renumbered-back}
 use Rattle.renumber_trees.proofs.Order.{renumbered-twice, table-twice, each-appears}
 use Rattle.renumber_trees.proofs.Calibrated.{appears-same}
 
@@ -96,16 +98,11 @@ module _ (b : List ℕ) (bytes : Bytes b) where
       either SignedSide _ (Side.negate _) _ (term-signed i)
       (either SignedSide _ (Side.copy _) (Side.infixed _ _ _) (term-signed i) (term-signed i, term-signed j))
 
-  rows_all : {A : Type 0} (Q : A → Type 0) (f : ℕ → A) → ((k : ℕ) → Q (f k)) → (n at : ℕ) → All Q (rows n at f)
-  unfolding rows
-  rows_all Q f h zero at = tt
-  rows_all Q f h (suc n) at = (h at, rows_all Q f h n (suc at))
-
   pub read-signed : Signed (constraint_of b)
   unfolding constraint_of definition_at equality_at
   read-signed = record {
-    equalities = rows_all SignedEquality _ (λ k. (term-signed _, side-signed _ _ _)) _ 0;
-    kept = rows_all (λ d. SignedTree d.right) _ (λ k. tree-signed _ _ _) _ 0;
+    equalities = rows_all SignedEquality _ _ 0 (λ k _ _. (term-signed _, side-signed _ _ _));
+    kept = rows_all (λ d. SignedTree d.right) _ _ 0 (λ k _ _. tree-signed _ _ _);
   }
 
   -- what is accepted
@@ -390,3 +387,44 @@ only-ids-change m h =
       as_many f n m l (order-carries m),
       length-bytes (relabelled f n m) ∙ ap (λ (k : ℕ). 4 * k) (words_same f n m l (order-carries m)) ∙ sym (length-bytes m),
     )
+
+-- ---- the longest
+
+lawful-long : (m : ConstraintModule) → Lawful m → length (constraint_bytes m) ≤ 868632
+lawful-long m l =
+    omega (arith, length-bytes m, l.publics-few, l.provers-few, l.equalities-few, l.kept-few, l.nodes-few)
+
+read-lawful : (b : List ℕ) (m : ConstraintModule) → constraint_read b ≡ Read.module-of m → Lawful m
+read-lawful b m e = lawful m (accepted-is-legal b m e).legal-module
+
+read-long : (b : List ℕ) (m : ConstraintModule) → constraint_read b ≡ Read.module-of m → length b ≤ 868632
+read-long b m e = omega (arith, lawful-long m (read-lawful b m e), ap length (accepted-is-legal b m e).bytes-are)
+
+pub long-refused : LongRefused
+unfolding constraint_read pick
+long-refused b long = go (legal (constraint_of b) && same b (constraint_bytes (constraint_of b))) refl
+  where
+    go : (t : Bool) → (legal (constraint_of b) && same b (constraint_bytes (constraint_of b))) ≡ t → constraint_read b ≡ Read.refused Refusal.ConstraintRecord
+    go false h = rw h
+    go true h = absurd (let z = read-long b (constraint_of b) (rw h) in omega arith)
+
+pub longest-both : LongestBoth
+unfolding table_of
+longest-both b ws c e =
+    let w = made_by b c ws e in
+    let m = w.original in
+    let l = read-lawful b m w.is-original in (
+      subst (λ (d : ConstraintModule). length (constraint_bytes d) ≤ 868632) w.record_is (lawful-long (renumbered m) (renumbered-lawful m l)),
+      subst (λ (xs : List ℕ). length (bytes_of xs) ≤ 262148) w.table_is (omega (arith, length-bytes_of (m.next ∷ order m), order-few m l)),
+    )
+
+table-long : (t : List ℕ) (n : ℕ) → n ≤ 65536 → 262148 < length t → table_fits t n ≡ false
+unfolding table_fits
+table-long t n few long = rw (ne_eqb (length t) (4 * (n + 1)) (λ z. omega arith))
+
+pub long-table-refused : LongTableRefused
+unfolding expand_of expanded_for pick
+long-table-refused b t m e long = rw (e, table-long t m.next (read-lawful b m e).next_small long)
+
+pub longest-expanded : LongestExpanded
+longest-expanded b t m bytes e = lawful-long m (read-lawful (constraint_bytes m) m (expanded-is-read b t m bytes e))

@@ -1,6 +1,8 @@
 -- What is proved of small ids, in proofs/: the statements. `b` is the list of a record's bytes, `t` that of a table's.
 use Rattle.std.specs.Prelude.{true, List, [], ◌∷◌, ◌≡◌, ℕ, ◌≤◌, ◌<◌, length, get_or, take, Ok}
+use Rattle.words.specs.Words.{bytes_of}
 use Rattle.flat.specs.Record.{rows}
+use Rattle.records.specs.declared.refusals.Refusal.{Refusal}
 use Rattle.constraint.specs.Trees.{ConstraintModule}
 use Rattle.constraint.specs.Record.{constraint_bytes}
 use Rattle.constraint_check.specs.Record.{legal, Read, constraint_read}
@@ -55,11 +57,40 @@ abbrev pub ExpandedIsRead : Type 0
 ExpandedIsRead =
     (b t : List ℕ) (m : ConstraintModule) → Bytes b → expand_of b t ≡ Read.module-of m → constraint_read (constraint_bytes m) ≡ Read.module-of m
 
+-- NO RECORD IS LONGER than 868,632 bytes: more bytes are refused, as the first 868,633 of them are
+abbrev pub RECORD-BYTES : ℕ
+RECORD-BYTES = 868632
+
+abbrev pub LongRefused : Type 0
+LongRefused = (b : List ℕ) → RECORD-BYTES < length b → constraint_read b ≡ Read.refused Refusal.ConstraintRecord
+
+-- nor is a renumbered one, and its table no longer than 262,148
+abbrev pub TABLE-BYTES : ℕ
+TABLE-BYTES = 262148
+
+abbrev pub LongestBoth : Type 0
+LongestBoth =
+    (b ws : List ℕ) (m : ConstraintModule) →
+    renumber_of b ≡ Renumbered.made m ws →
+    (length (constraint_bytes m) ≤ RECORD-BYTES) × (length (bytes_of ws) ≤ TABLE-BYTES)
+
+-- `expand` refuses a longer table, and what it writes is no longer than a record either
+abbrev pub LongTableRefused : Type 0
+LongTableRefused =
+    (b t : List ℕ) (m : ConstraintModule) →
+    constraint_read b ≡ Read.module-of m →
+    TABLE-BYTES < length t →
+    expand_of b t ≡ Read.refused Refusal.SideTable
+
+abbrev pub LongestExpanded : Type 0
+LongestExpanded = (b t : List ℕ) (m : ConstraintModule) → Bytes b → expand_of b t ≡ Read.module-of m → length (constraint_bytes m) ≤ RECORD-BYTES
+
 -- a module with every id taken out
 abbrev pub bare : ConstraintModule → ConstraintModule
 bare m = relabelled (λ v. 0) 0 m
 
--- ONLY IDS CHANGE: place words, constants, operations, the order and length of every list stay
+-- ONLY IDS CHANGE: with every id taken out both are the same module, so places, constants, operations and the length of every list stay; that each id stands
+-- where its old one stood is said by `relabelled` itself, which maps every list but the prover ids
 abbrev pub OnlyIdsChange : Type 0
 OnlyIdsChange =
     (m : ConstraintModule) →
@@ -76,7 +107,7 @@ UnderTable m c d = (i : ℕ) → i < length (order m) → given (inputs_of (renu
 
 -- "A CALIBRATION FULFILS the renumbered record exactly if it fulfils the original under the table"
 abbrev pub FulfilsUnderTable : Type 0
-FulfilsUnderTable = (m : ConstraintModule) → legal m ≡ true → (c d : Calibration) → UnderTable m c d → fulfils (renumbered m) d ≡ fulfils m c
+FulfilsUnderTable = (m : ConstraintModule) (c d : Calibration) → UnderTable m c d → fulfils (renumbered m) d ≡ fulfils m c
 
 -- and so a season's report is the same
 abbrev pub Pairs : {A : Type 0} → (A → A → Type 0) → List A → List A → Type 0
@@ -86,12 +117,7 @@ Pairs R (c ∷ cs) [] = ⊥
 Pairs R (c ∷ cs) (d ∷ ds) = R c d × Pairs R cs ds
 
 abbrev pub SameReport : Type 0
-SameReport =
-    (m : ConstraintModule) →
-    legal m ≡ true →
-    (cs ds : List Calibration) →
-    Pairs (UnderTable m) cs ds →
-    report (renumbered m) ds ≡ report m cs
+SameReport = (m : ConstraintModule) (cs ds : List Calibration) → Pairs (UnderTable m) cs ds → report (renumbered m) ds ≡ report m cs
 
 -- A CALIBRATION of either record, which gives one element for each of its variables, has one of the other, and in range where it is
 pub record Counterpart (m : ConstraintModule) (c d : Calibration) : Type 0 where

@@ -5,13 +5,15 @@
 
 use answer_record::print_answer;
 use constraint_check::EQUALITIES;
+use season_entry::WORD_BYTES;
+use season_entry::report::{SHARE, TOTALS};
 use season_stream::{Stop, season_stream};
 use std::io;
 use std::rt::Env;
 use streams::{Failed, open_standard};
 
 // Three totals of each equality, the first place, the share.
-const REPORT_BYTES: usize = 4 * (3 * EQUALITIES + 3);
+const REPORT_BYTES: usize = WORD_BYTES * (TOTALS * EQUALITIES + SHARE);
 
 // Kept as it is: where a literal stands in the body that uses it, its proof computes the array place by place.
 fn report_buffer() -> [u8; REPORT_BYTES] {

@@ -4,31 +4,19 @@ use mathlib.Core.Path.{◌≡◌, refl, sym, ap, ◌∙◌}
 use Prim.Native.Nat.{ℕ, zero, suc, ◌+◌, ◌-◌, ◌*◌, ◌≤◌, ◌<◌}
 use native.Mathlib.Nat.{mul-add}
 use native.Mathlib.Omega.{arith}
-use lib.ListN.{length, get_or, get_or-append}
+use lib.ListN.{length, get_or}
 use lib.Seq.{get_or-append-add}
 use Rattle.words.specs.Words.{word_at}
 use Rattle.flat.specs.Record.{rows}
 use Rattle.flat.proofs.Rows.{rows_append, rows_same}
 use Rattle.season_trees.specs.Count.{Calibration}
 use Rattle.season_trees.specs.Season.{element_at, calibration_at}
+use Rattle.season_trees.proofs.Written.{same-word, word-front}
 use Rattle.season_count.specs.Tally.{calibration_from}
 
--- words of the same four bytes
-same-word : (a b : List ℕ) (i j : ℕ) → get_or a (4 * i) 0 ≡ get_or b (4 * j) 0 → get_or a (4 * i + 1) 0 ≡ get_or b (4 * j + 1) 0
-    → get_or a (4 * i + 2) 0 ≡ get_or b (4 * j + 2) 0 → get_or a (4 * i + 3) 0 ≡ get_or b (4 * j + 3) 0 → word_at a i ≡ word_at b j
-unfolding word_at
-same-word a b i j h0 h1 h2 h3 = omega (arith, h0, h1, h2, h3)
-
 module _ (xs ys : List ℕ) where
-  front : (k : ℕ) → k < length xs → get_or (xs ++ ys) k 0 ≡ get_or xs k 0
-  front k l = get_or-append {A = ℕ} xs ys 0 k l
-
   behind : (k j : ℕ) → k ≡ length xs + j → get_or (xs ++ ys) k 0 ≡ get_or ys j 0
   behind k j e = ap (λ (i : ℕ). get_or (xs ++ ys) i 0) e ∙ get_or-append-add {A = ℕ} xs ys j 0
-
-  pub word-front : (i : ℕ) → 4 * i + 4 ≤ length xs → word_at (xs ++ ys) i ≡ word_at xs i
-  word-front i l =
-      same-word (xs ++ ys) xs i i (front _ (omega arith)) (front _ (omega arith)) (front _ (omega arith)) (front _ (omega arith))
 
   pub word-behind : (d i : ℕ) → length xs ≡ 4 * d → word_at (xs ++ ys) (d + i) ≡ word_at ys i
   word-behind d i e =

@@ -4,6 +4,7 @@ ghost use Rattle.words.specs.Words.{set_words};
 ghost use Rattle.constraint.specs.Reading.{equalities};
 ghost use Rattle.season_entry.specs.Entry.{Counted, TotalsOf, ShareOf, TotalsPut, Reported};
 
+use super::WORD_BYTES;
 use records::refusals::Refusal;
 use season_count::Count;
 use season_values::record::Record;
@@ -55,7 +56,7 @@ pub fn write_report(r: &Record, count: &Count, out: &mut [u8]) -> Result<usize, 
     ensures { Reported r.now.bytes.now count.now out.old result out.new }
 {
     let n = r.layout.equalities;
-    let long = 4 * (TOTALS * n + SHARE);
+    let long = WORD_BYTES * (TOTALS * n + SHARE);
     if out.len() < long {
         return Err(Refusal::Output);
     }

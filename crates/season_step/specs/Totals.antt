@@ -1,5 +1,6 @@
 -- Totals in arrays, for the contracts of the functions that count.
 use Rattle.std.specs.Prelude.{Bool, true, false, List, ◌≡◌, ℕ, ◌+◌, ◌≤◌, ◌<◌, length, get_or, set, replicate}
+use Rattle.words.specs.Words.{LAST-WORD}
 use Rattle.constraint_check.specs.Record.{EQUALITIES}
 
 unfoldable pub no_totals : List ℕ
@@ -17,7 +18,7 @@ bit false = 0
 -- totals to which one can be added
 pub record Small (a : List ℕ) : Type 0 where
   pub long : length a ≡ EQUALITIES
-  pub small : (k : ℕ) → k < EQUALITIES → get_or a k 0 < 4294967295
+  pub small : (k : ℕ) → k < EQUALITIES → get_or a k 0 < LAST-WORD
 
 -- one more at each of the first n places that pass a test
 pub record Bumps (a c : List ℕ) (n : ℕ) (t : ℕ → Bool) : Type 0 where

@@ -1,5 +1,6 @@
 // What becomes of each equality is counted.
 ghost use Rattle.std.specs.Prelude.{◌≡◌, ◌<◌, get_or};
+ghost use Rattle.words.specs.Words.{LAST-WORD};
 ghost use Rattle.constraint.specs.Reading.{equalities, equalities_offset, equality_at, constraint_of};
 ghost use Rattle.constraint_check.specs.Record.{EQUALITIES};
 ghost use Rattle.season_trees.specs.Values.{verdict};
@@ -35,7 +36,7 @@ impl Totals {
     // The verdict of equality k is counted; whether it held.
     #[tactic(auto, unfolding(crate::specs::Totals::bumped, season_trees::specs::Count::is_held, season_trees::specs::Count::is_failed))]
     fn count(&mut self, k: usize, verdict: Verdict) -> bool
-        requires { (k < EQUALITIES) × ((get_or self.old.held k 0 < 4294967295) × (get_or self.old.failed k 0 < 4294967295)) }
+        requires { (k < EQUALITIES) × ((get_or self.old.held k 0 < LAST-WORD) × (get_or self.old.failed k 0 < LAST-WORD)) }
         ensures value { result ≡ is_held verdict }
         ensures held { self.new.held ≡ bumped (is_held verdict) self.old.held k }
         ensures failed { self.new.failed ≡ bumped (is_failed verdict) self.old.failed k }

@@ -106,40 +106,41 @@ module _ (b : List ℕ) (many : ℕ) where
 -- ---- the count, the calibrations and the end
 
 module _ (b : List ℕ) where
-  pub count-missing : (x : Stop) (old new : Option (List ℕ)) (s : Count) → CountTaken (Err x) old new → StreamCounted b (Err x) old s
-  count-missing (Stop.Refused x) old new s w = (w.1.0, w.1.1, w.0, count-refused w.1.0 (elements b) w.1.2)
-  count-missing Stop.Failed old new s w = tt
+  pub count-missing : (x : Stop) (old mid new : Option (List ℕ)) (s : Count) → CountTaken (Err x) old mid → StreamCounted b (Err x) old new s
+  count-missing (Stop.Refused x) old mid new s w = (w.1.0, w.1.1, w.0, count-refused w.1.0 (elements b) w.1.2)
+  count-missing Stop.Failed old mid new s w = tt
 
   module _ (many : ℕ) (old mid : Option (List ℕ)) (t : CountTaken (Ok many) old mid) where
     abbrev word : List ℕ
     word = t.1.0
 
-    pub blocks-missing : (x : Stop) (new : Option (List ℕ)) (s : Count) → BlocksCounted b many (Err x) mid new s → StreamCounted b (Err x) old s
-    blocks-missing (Stop.Refused x) new s w = (
+    pub blocks-missing : (x : Stop) (next new : Option (List ℕ)) (s : Count) → BlocksCounted b many (Err x) mid next s → StreamCounted b (Err x) old new s
+    blocks-missing (Stop.Refused x) next new s w = (
       word ++ w.1.0,
       had-consumed old mid word w.1.0 t.1.1 w.1.1,
       w.0,
       rest-refused word (elements b) many t.1.2 t.1.3 t.0 w.1.0 w.1.2,
     )
-    blocks-missing Stop.Failed new s w = tt
+    blocks-missing Stop.Failed next new s w = tt
 
-    pub at-end : (a : Result (Unit {0}) Stop) (new : Option (List ℕ)) (s : Count) → BlocksCounted b many (Ok tt) mid new s → Ended a new
-        → StreamCounted b a old s
-    at-end (Ok u) new s w h =
+    pub at-end : (a : Result (Unit {0}) Stop) (next new : Option (List ℕ)) (s : Count) → BlocksCounted b many (Ok tt) mid next s → Ended a next new
+        → StreamCounted b a old new s
+    at-end (Ok u) next new s w h =
         let r = w.0 in
-        let whole = subst (Had mid) (append-nil r) (had-consumed mid new r [] w.1 h) in
+        let whole = subst (Had mid) (append-nil r) (had-consumed mid next r [] w.1 h.0) in
         let counted = rest-counted word (elements b) many t.1.2 t.1.3 t.0 r w.2 w.3.range in (
           word ++ r,
           had-consumed old mid word r t.1.1 whole,
           counted.0,
           subst (λ (cs : List Calibration). Running b cs s) counted.1 w.3,
+          h.1,
         )
-    at-end (Err (Stop.Refused x)) new s w h =
+    at-end (Err (Stop.Refused x)) next new s w h =
         let r = w.0 in
         let z = h.1.0 in (
           word ++ (r ++ z),
-          had-consumed old mid word (r ++ z) t.1.1 (had-consumed mid new r z w.1 h.1.1),
+          had-consumed old mid word (r ++ z) t.1.1 (had-consumed mid next r z w.1 h.1.1),
           h.0,
           left-over word (elements b) many t.1.2 t.1.3 t.0 r z w.2 h.1.2,
         )
-    at-end (Err Stop.Failed) new s w h = tt
+    at-end (Err Stop.Failed) next new s w h = tt

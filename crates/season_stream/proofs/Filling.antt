@@ -16,7 +16,8 @@ use Rattle.flat.proofs.Rows.{rows_append, rows_same}
 use Rattle.season_trees.specs.Count.{Calibration}
 use Rattle.season_trees.specs.Season.{MOST, calibration_at, calibrations_of, in_range, all_in_range, well_counted}
 use Rattle.season_count.specs.Tally.{calibration_from}
-use Rattle.season_entry.proofs.Behind.{word-front, calibrations-front, calibrations-joined, counted-at}
+use Rattle.season_trees.proofs.Written.{word-front}
+use Rattle.season_entry.proofs.Behind.{calibrations-front, calibrations-joined, counted-at}
 use Rattle.season_entry.proofs.Counting.{not-counted, other-length, just-counted, fits, by-range}
 use Rattle.season_stream.specs.Parts.{Fitting, well_filled}
 

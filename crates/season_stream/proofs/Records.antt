@@ -4,8 +4,8 @@ use mathlib.Core.List.{List, ◌++◌}
 use mathlib.Core.Path.{◌≡◌, refl, sym, ap, subst, ◌∙◌}
 use Prim.Native.Nat.{ℕ, ◌-◌, ◌*◌, ◌≤◌, ◌<◌}
 use native.Mathlib.Omega.{arith}
-use lib.ListN.{length, take, drop, length-append, length-take}
-use lib.Seq.{take_at, drop_at, length-take-le}
+use lib.ListN.{length, take, length-append, length-take}
+use lib.Seq.{take_at, length-take-le}
 use mathlib.Core.Logic.{⊎_elim}
 use borrow.Author.Tests.{leb-true}
 use Rattle.std.proofs.lemmas.Bool.{cases_lt}
@@ -14,8 +14,8 @@ use Rattle.constraint.specs.Reading.{size}
 use Rattle.constraint_check.specs.Record.{Read, constraint_read}
 use Rattle.constraint_check.specs.Tests.{tests}
 use Rattle.constraint_check.proofs.Accepted.{tested}
-use Rattle.season_trees.specs.Season.{record_part, rest_part}
-use Rattle.season_entry.proofs.Behind.{word-front}
+use Rattle.season_trees.specs.Season.{record_part}
+use Rattle.season_trees.proofs.Written.{size-behind, front-part}
 use Rattle.season_entry.proofs.Parts.{no-header, cut-off, tested-refused}
 use Rattle.std.specs.Prelude.{Option, Err}
 use Rattle.std.specs.Io.KnownBytes.{Consumes}
@@ -26,34 +26,6 @@ use borrow.Rule.Slice.PartMut.{put_mid}
 use Rattle.std.proofs.lemmas.Slice.{take-put_mid}
 use Rattle.std.proofs.KnownBytes.{Consumes-trans}
 use Rattle.season_stream.proofs.Had.{had-consumed, had-more}
-
--- the size that a header says is that of all that begins with it
-pub size-behind : (h ys : List ℕ) → 24 ≤ length h → size (h ++ ys) ≡ size h
-size-behind h ys l =
-    omega (
-      arith,
-      word-front h ys 1 (omega arith),
-      word-front h ys 2 (omega arith),
-      word-front h ys 3 (omega arith),
-      word-front h ys 4 (omega arith),
-      word-front h ys 5 (omega arith),
-    )
-
--- an accepted record, and what follows it
-module _ (s r : List ℕ) (t : tests s ≡ true) where
-  long : length s ≡ 4 * size s
-  long = (tested s t).long
-
-  same-size : 4 * size (s ++ r) ≡ 4 * size s
-  same-size = ap (λ (n : ℕ). 4 * n) (size-behind s r (omega (arith, long)))
-
-  pub front-part : s ≡ record_part (s ++ r)
-  unfolding record_part
-  front-part = sym (ap (λ (n : ℕ). take n (s ++ r)) same-size ∙ take_at s r (4 * size s) long)
-
-  pub rest-behind : r ≡ rest_part (s ++ r)
-  unfolding rest_part
-  rest-behind = sym (ap (λ (n : ℕ). drop n (s ++ r)) same-size ∙ drop_at s r (4 * size s) long)
 
 -- what is longer than a record may be fails the tests
 tests-long : (s : List ℕ) → 868632 < length s → tests s ≡ false
@@ -91,12 +63,9 @@ pub ends-early : (h ys : List ℕ) → 24 ≤ length h → length (h ++ ys) < 4 
 ends-early h ys l m = cut-off (h ++ ys) (omega (arith, m, size-behind h ys l))
 
 -- a whole record that is refused, whatever follows it
-pub whole-refused : (s r : List ℕ) {e : Refusal} → 24 ≤ length s → length s ≡ 4 * size s → constraint_read s ≡ Read.refused e
+pub whole-refused : (s r : List ℕ) {e : Refusal} → length s ≡ 4 * size s → constraint_read s ≡ Read.refused e
     → constraint_read (record_part (s ++ r)) ≡ Read.refused e
-unfolding record_part
-whole-refused s r {e} l k h =
-    let same = ap (λ (n : ℕ). 4 * n) (size-behind s r l) in
-    ap constraint_read (ap (λ (n : ℕ). take n (s ++ r)) same ∙ take_at s r (4 * size s) k) ∙ h
+whole-refused s r {e} k h = ap constraint_read (sym (front-part s r k)) ∙ h
 
 -- ---- what a read that fell short says of the record
 
@@ -143,6 +112,6 @@ module _ (h t m : List ℕ) (n : ℕ) (head : length h ≡ 24) (rest : length m 
       let more = had-more old new (h ++ m) (Consumes-trans old mid new h m p q) in (
         _,
         more.1,
-        whole-refused (h ++ m) more.0 (omega (arith, whole-long, l)) (omega (arith, whole-long, k, size-behind h m (omega (arith, head))))
+        whole-refused (h ++ m) more.0 (omega (arith, whole-long, k, size-behind h m (omega (arith, head))))
             (ap constraint_read (sym two-parts) ∙ w),
       )

@@ -1,6 +1,6 @@
 -- What the private parts of a run over a stream answer.
 use Rattle.std.specs.Prelude.{Bool, false, ◌&&◌, List, [], ◌≡◌, ℕ, ◌*◌, ◌≤◌, ◌<◌, leb, length, Option, Result, Ok, Err}
-use Rattle.std.specs.Io.KnownBytes.{Consumes}
+use Rattle.std.specs.Io.KnownBytes.{Consumes, IsAtEnd}
 use Rattle.words.specs.Words.{word_at}
 use Rattle.flat.specs.Record.{rows}
 use Rattle.records.specs.declared.refusals.Refusal.{Refusal}
@@ -24,11 +24,11 @@ CountTaken (Err (Stop.Refused e)) old new =
     (e ≡ Refusal.Calibrations) × ((b : List ℕ) × Had old b × ((leb 4 (length b) && leb (word_at b 0) MOST) ≡ false))
 CountTaken (Err Stop.Failed) old new = Unit {0}
 
--- the reader had no bytes left, or some
-abbrev pub Ended : Result (Unit {0}) Stop → Option (List ℕ) → Type 0
-Ended (Ok u) old = Had old []
-Ended (Err (Stop.Refused e)) old = (e ≡ Refusal.Calibrations) × ((b : List ℕ) × Had old b × (0 < length b))
-Ended (Err Stop.Failed) old = Unit {0}
+-- the reader had no bytes left, and has none, or it had some
+abbrev pub Ended : Result (Unit {0}) Stop → Option (List ℕ) → Option (List ℕ) → Type 0
+Ended (Ok u) old new = Had old [] × IsAtEnd new
+Ended (Err (Stop.Refused e)) old new = (e ≡ Refusal.Calibrations) × ((b : List ℕ) × Had old b × (0 < length b))
+Ended (Err Stop.Failed) old new = Unit {0}
 
 -- the bytes of a block
 abbrev pub BLOCK-BYTES : ℕ

@@ -65,7 +65,7 @@ pub fn count_stream<R: Read>(
     count: &mut Count,
 ) -> Result<(), Stop>
     requires fresh { Running r.now.bytes.now [] count.old }
-    ensures { StreamCounted r.now.bytes.now result (R.remaining input.old) count.new }
+    ensures { StreamCounted r.now.bytes.now result (R.remaining input.old) (R.remaining input.new) count.new }
 {
     let many = read_count(rt, input)?;
     count_blocks(rt, input, r, many, count)?;

@@ -54,7 +54,7 @@ pub fn season_stream<R: Read>(
     input: &mut R,
     out: &mut [u8],
 ) -> Result<usize, Stop>
-    ensures { StreamReported (R.remaining input.old) out.old result out.new }
+    ensures { StreamReported (R.remaining input.old) (R.remaining input.new) out.old result out.new }
 {
     let mut buffer = record_buffer();
     let n = read_record(rt, input, &mut buffer)?;

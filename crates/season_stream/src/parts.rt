@@ -80,7 +80,7 @@ pub fn read_count<R: Read>(rt: &impl Eprint, input: &mut R) -> Result<usize, Sto
 
 // The input ends here, or is refused.
 pub fn read_end<R: Read>(rt: &impl Eprint, input: &mut R) -> Result<(), Stop>
-    ensures { Ended result (R.remaining input.old) }
+    ensures { Ended result (R.remaining input.old) (R.remaining input.new) }
 {
     let mut byte = [0u8; 1];
     match read_input(rt, input, &mut byte)? {

@@ -5,6 +5,7 @@ ghost use Rattle.season_text.specs.Text.{labelled, totals_text, share_text};
 
 use arrayvec::ArrayString;
 use itoa::Buffer;
+use season_entry::report::{SHARE, TOTALS};
 
 // Room for every line.
 const LINE: usize = 160;
@@ -23,7 +24,7 @@ fn push_labelled(line: &mut Line, label: &str, n: u64)
 }
 
 // The line of equality k, counted from 1, that came from the statement at `place`: how often it held, failed, and had no value.
-pub fn totals_line(k: usize, place: u32, totals: [u32; 3]) -> Line
+pub fn totals_line(k: usize, place: u32, totals: [u32; TOTALS]) -> Line
     ensures { result.bytes ≡ totals_text k place totals }
 {
     let [held, failed, valueless] = totals;
@@ -39,7 +40,7 @@ pub fn totals_line(k: usize, place: u32, totals: [u32; 3]) -> Line
 }
 
 // The line of the share: the place of the first that fulfilled every equality, how many did, and the count.
-pub fn share_line(share: [u32; 3]) -> Line
+pub fn share_line(share: [u32; SHARE]) -> Line
     ensures { result.bytes ≡ share_text share }
 {
     let [first, fulfilled, count] = share;

@@ -1,13 +1,15 @@
 -- What is proved of the count, in proofs/: its statements.
-use Rattle.std.specs.Prelude.{true, List, ◌↔◌, ◌≡◌, ◌+◌, length}
+use Rattle.std.specs.Prelude.{true, List, ◌++◌, ℕ, ◌↔◌, ◌≡◌, ◌+◌, length}
 use Rattle.field.specs.Operations.{HasValue}
 use Rattle.flat.specs.Rules.{All}
 use Rattle.flat.specs.Meaning.{Assignment, or_zero}
 use Rattle.constraint.specs.Trees.{Equality, ConstraintModule}
+use Rattle.constraint.specs.Record.{constraint_bytes}
 use Rattle.constraint.specs.Meaning.{InEquality, Solution}
+use Rattle.constraint_check.specs.Record.{Read, constraint_read}
 use Rattle.season_trees.specs.Values.{is_input, given, inputs_of, values_of, verdict}
 use Rattle.season_trees.specs.Count.{Calibration, number, is_held, is_failed, is_valueless, fulfils}
-use Rattle.season_trees.specs.Season.{in_range}
+use Rattle.season_trees.specs.Season.{in_range, counted, season_of}
 
 -- THE THREE TOTALS of an equality add up to the count
 abbrev pub TotalsAddUp : Type 0
@@ -32,3 +34,10 @@ FulfilsIsSolution =
     in_range c ≡ true →
     All (InEquality (λ v. HasValue (values_of m c v))) m.equalities →
     (fulfils m c ≡ true) ↔ Solution (λ v. is_input m v ≡ true) m (input_values m c) (assignment_of m c)
+
+-- WHAT STANDS BEHIND A WRITTEN RECORD, of a module that is read as written, is counted over that module
+abbrev pub SeasonOfWritten : Type 0
+SeasonOfWritten =
+    (m : ConstraintModule) (r : List ℕ) →
+    constraint_read (constraint_bytes m) ≡ Read.module-of m →
+    season_of (constraint_bytes m ++ r) ≡ counted r (Read.module-of m)

@@ -6,10 +6,10 @@ use mathlib.Core.List.{List, ◌∷◌}
 use native.Mathlib.Omega.{arith}
 use native.Mathlib.Numerals.{add-one}
 use native.Mathlib.Nat.{div-zero}
-use lib.Dec.{leb}
 use lib.ListN.{length, get_or, drop}
 use lib.Seq.{drop-cons, drop-length}
-use borrow.Author.Tests.{le-leb, lt-leb, leb-true, leb-false}
+use borrow.Author.Tests.{le-leb, lt-leb}
+use Rattle.std.proofs.Math.Nat.{min_comm}
 use Rattle.std.specs.Prelude.{min, SomeIff, Ok, Err}
 use Rattle.std.proofs.Common.{Option, Some, None}
 use Rattle.std.specs.Option.{unwrap_or}
@@ -20,7 +20,7 @@ use Rattle.pass_entry.specs.declared.Need.{Need}
 use Rattle.pass_entry.specs.Cut.{cut_record, answer_for, output_for, need_of}
 use Rattle.share_trees.specs.Pool.{share, sure, sures, pool, excess, fits, after}
 use Rattle.share_trees.specs.Sharing.{alone, need_in, given}
-use Rattle.share_trees.proofs.Dividing.{sure-within, sure-above, pool-sures, fits-where, fits_not, after-fit, after-unfit}
+use Rattle.share_trees.proofs.Dividing.{pool-sures, fits-where, fits_not, after-fit, after-unfit}
 use Rattle.share_entry.specs.declared.pool.Pool.{Pool}
 use Rattle.share_entry.specs.Steps.{held_length, lent, pool_for}
 
@@ -98,11 +98,8 @@ module _ (T : ℕ) (needs : List ℕ) where
   pool-made e f = ap₂ (λ (a b : ℕ). let p : Pool = record { share = a; left = b } in p) e f
 
 pub least-is : (s x : ℕ) → min s x ≡ sure s x
-least-is s x = by (leb x s) refl
-  where
-    by : (t : Bool) → leb x s ≡ t → min s x ≡ sure s x
-    by true e = let h = leb-true x s e in omega (arith, h, sure-within s x h)
-    by false e = let h = leb-false x s e in omega (arith, h, sure-above s x h)
+unfolding sure
+least-is s x = min_comm s x
 
 pub share-made : (T n : ℕ) (r : Option ℕ) → SomeIff r (0 < n) (T / n) → unwrap_or r 0 ≡ share T n
 unfolding share

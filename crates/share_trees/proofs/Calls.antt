@@ -1,6 +1,6 @@
 -- Whole calls: a record within its share. Assumes nothing.
 use Prim.Native.Nat.{ℕ, zero, suc, ◌≤◌, ◌<◌}
-use mathlib.Core.Path.{◌≡◌, refl, sym, ap, subst}
+use mathlib.Core.Path.{◌≡◌, refl, sym, ap, subst, ◌∙◌}
 use mathlib.Core.Option.{some}
 use mathlib.Core.List.{List, [], ◌∷◌, map}
 use native.Mathlib.Omega.{arith}
@@ -11,7 +11,7 @@ use Rattle.share_trees.specs.declared.Lengths.{Lengths}
 use Rattle.share_trees.specs.Pool.{share}
 use Rattle.share_trees.specs.Sharing.{Lent, Given, alone, need, share_of, shared_out}
 use Rattle.share_trees.specs.Parts.{MOST, parts_of, output_lengths, lents_of, answers_of, givens_of, shared_for, each_of, output_after}
-use Rattle.share_trees.specs.Statements.{CallsWithinShare}
+use Rattle.share_trees.specs.Statements.{CallsWithinShare, CallsIndependent}
 use Rattle.share_trees.proofs.Sharing.{within-share}
 use Rattle.share_trees.proofs.Parting.{own-outputs}
 
@@ -66,3 +66,10 @@ module _ (T k : ℕ) (records out : List ℕ) (zs : List Lengths) (l : Lent) (wi
 
 pub calls-within-share : CallsWithinShare
 calls-within-share T k records out zs l w e h = (answer-alone T k records out zs l w e h, output-alone T k records out zs l w e h)
+
+-- both calls give the record what it would get alone
+pub calls-independent : CallsIndependent
+calls-independent T k records out records' out' zs zs' l w n e f h =
+    let p = calls-within-share T k records out zs l w e h in
+    let q = calls-within-share T k records' out' zs' l (subst (λ (m : ℕ). m ≤ MOST) n w) f (subst (λ (m : ℕ). need l ≤ share T m) n h) in
+    (p.0 ∙ sym q.0, p.1 ∙ sym q.1)

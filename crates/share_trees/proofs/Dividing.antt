@@ -5,6 +5,7 @@ use mathlib.Core.Path.{◌≡◌, refl}
 use mathlib.Core.List.{List, [], ◌∷◌}
 use native.Mathlib.Omega.{arith}
 use native.Mathlib.Nat.{mul-div-le, suc-mul}
+use Rattle.std.proofs.Math.Nat.{min-eq_left, min-eq_right, min-le_right}
 use lib.Dec.{leb}
 use lib.ListN.{length}
 use borrow.Author.Tests.{le-leb, lt-leb, leb-true, leb-false}
@@ -14,12 +15,12 @@ use Rattle.share_trees.specs.Pool.{share, sure, sures, pool, excess, fits, after
 -- a need within the share is sure whole, one above it up to the share
 module _ (s x : ℕ) where
   pub sure-within : x ≤ s → sure s x ≡ x
-  unfolding sure pick
-  sure-within h = rw (le-leb x s h)
+  unfolding sure
+  sure-within h = min-eq_left h
 
   pub sure-above : s < x → sure s x ≡ s
-  unfolding sure pick
-  sure-above h = rw (lt-leb x s h)
+  unfolding sure
+  sure-above h = min-eq_right (omega (arith, h))
 
   -- a need is what is sure of it and its excess
   pub sure-excess : sure s x + excess s x ≡ x
@@ -31,12 +32,8 @@ module _ (s x : ℕ) where
       by false e = omega (arith, sure-above (leb-false x s e), leb-false x s e)
 
   pub sure-few : sure s x ≤ s
-  unfolding sure pick
-  sure-few = by (leb x s) refl
-    where
-      by : (t : Bool) → leb x s ≡ t → pick (leb x s) x s ≤ s
-      by true e = rw e (leb-true x s e)
-      by false e = rw e (omega arith)
+  unfolding sure
+  sure-few = min-le_right x s
 
   pub sure-least : sure s x ≤ x
   sure-least = omega (arith, sure-excess)

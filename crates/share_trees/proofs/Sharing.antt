@@ -22,9 +22,9 @@ use Rattle.std.specs.Prelude.{Result, Ok, Err}
 use Rattle.pass_entry.specs.Cut.{cut_record, cut_read, answer_for, output_for}
 use Rattle.share_trees.specs.Pool.{share, sure, sures, pool, excess, fits, after, left_at}
 use Rattle.share_trees.specs.Sharing.{Lent, Given, alone, need_in, need, given, turns, share_of, pool_of, shared_out}
-use Rattle.share_trees.specs.Statements.{left_of, SharedAt, NeverAlone, TakenAsAlone, RefusedWhere, WithinShare, equalities_in, equalities_of, NeverPast}
-use Rattle.share_trees.specs.Statements.{needs, AllFit, AnyOrder, ThroughPool}
-use Rattle.share_trees.proofs.Dividing.{sure-excess, sure-least, pool-sures, fits-where, fitting, not-fitting, fits-within, after-fit, after-unfit}
+use Rattle.share_trees.specs.Statements.{left_of, SharedAt, NeverAlone, TakenAsAlone, RefusedWhere, OwnFirst, WithinShare}
+use Rattle.share_trees.specs.Statements.{equalities_in, equalities_of, NeverPast, needs, AllFit, AnyOrder, ThroughPool}
+use Rattle.share_trees.proofs.Dividing.{sure-excess, sure-least, pool-sures, fits-where, fits_not, fitting, not-fitting, fits-within, after-fit, after-unfit}
 
 -- ---- each turn
 
@@ -90,18 +90,24 @@ taken-as-alone T k ls l g e f h =
     let q : g ≡ given (fits (share_of T ls) (left_of T ls k) (need l)) l = cc in
     q ∙ given-taken _ l (λ r. h (ap (λ (x : Given). x.answer) q ∙ r))
 
-given-refused : (t : Bool) (l : Lent) → (given t l).answer ≡ Err 48 → (t ≡ false) × ((given t l).output ≡ l.output)
+given-refused : (t : Bool) (l : Lent) → (given t l).answer ≡ Err 48 → t ≡ false
 unfolding given
 given-refused true l h = absurd (never-alone l h)
-given-refused false l h = (refl, refl)
+given-refused false l h = refl
+
+unfitted-given : (g : Given) (l : Lent) → g ≡ given false l → (g.answer ≡ Err 48) × (g.output ≡ l.output)
+unfolding given
+unfitted-given g l q = (ap (λ (x : Given). x.answer) q, ap (λ (x : Given). x.output) q)
 
 pub refused-where : RefusedWhere
-refused-where T k ls l g e f h =
+refused-where T k ls l g e f =
+    let s = share_of T ls in
+    let left = left_of T ls k in
     let at = shared_at T k ls l e in
-    let t = fits (share_of T ls) (left_of T ls k) (need l) in
-    let q : g ≡ given t l = cc in
-    let r = given-refused t l (sym (ap (λ (x : Given). x.answer) q) ∙ h) in
-    (not-fitting (share_of T ls) (left_of T ls k) (need l) r.0, ap (λ (x : Given). x.output) q ∙ r.1)
+    let q : g ≡ given (fits s left (need l)) l = cc in (
+      λ h. unfitted-given g l (q ∙ ap (λ (t : Bool). given t l) (fits_not s left (need l) h)),
+      λ h. not-fitting s left (need l) (given-refused _ l (sym (ap (λ (x : Given). x.answer) q) ∙ h)),
+    )
 
 -- ---- a record within its share
 
@@ -109,6 +115,25 @@ within : (T k : ℕ) (ls : List Lent) (l : Lent) → get_elem? ls k ≡ some l �
 unfolding given
 within T k ls l e h =
     shared_at T k ls l e ∙ ap (λ (t : Bool). some (given t l)) (fits-within (share_of T ls) (left_of T ls k) (need l) h)
+
+-- so is one that is refused alone: it needs nothing
+refused-need : (room : ℕ) (o : Outcome) (n : ℕ) → answer_for room o ≡ Err n → need_in room o ≡ 0
+unfolding answer_for need_in pick
+refused-need room (cut c) n e = by (leb (length (constraint_bytes c)) room) e
+  where
+    by : (t : Bool) → pick {A = Result ℕ ℕ} t (Ok (length (constraint_bytes c))) (Err 33) ≡ Err n → pick t (length c.equalities) 0 ≡ 0
+    by true q = let z : ◌≡◌ {A = ℕ} 0 1 = cc in absurd (omega arith)
+    by false q = refl
+refused-need room (refused m) n e = refl
+
+own-need : (l : Lent) (n : ℕ) → (alone l).answer ≡ Err n → need l ≡ 0
+unfolding alone need
+own-need l n e = refused-need (length l.output) (cut_record l.bytes) n e
+
+pub own-first : OwnFirst
+own-first T k n ls l e h =
+    let none = own-need l n h in
+    within T k ls l e (omega (arith, none))
 
 same-share : (T : ℕ) (ls ms : List Lent) → length ls ≡ length ms → share_of T ls ≡ share_of T ms
 unfolding share_of

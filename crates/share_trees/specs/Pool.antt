@@ -1,5 +1,5 @@
 -- How room for T equalities is divided among records by what each needs. For a reader with docs/RECORDS.md, "Several in one call", beside it.
-use Rattle.std.specs.Prelude.{ℕ, zero, suc, ◌+◌, ◌-◌, ◌/◌, Bool, List, [], ◌∷◌, leb}
+use Rattle.std.specs.Prelude.{ℕ, zero, suc, ◌+◌, ◌-◌, ◌/◌, min, Bool, List, [], ◌∷◌, leb}
 use Rattle.flat.specs.Record.{pick}
 
 -- "With n records each is sure of its share, T divided by n and rounded down"
@@ -8,7 +8,7 @@ share T n = T / n
 
 -- "the smaller of its need and its share"
 unfoldable pub sure : ℕ → ℕ → ℕ
-sure s need = pick (leb need s) need s
+sure s need = min need s
 
 -- that of every record
 unfoldable pub sures : ℕ → List ℕ → ℕ

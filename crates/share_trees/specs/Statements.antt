@@ -39,8 +39,14 @@ TakenAsAlone =
 abbrev pub RefusedWhere : Type 0
 RefusedWhere =
     (T k : ℕ) (ls : List Lent) (l : Lent) (g : Given) → get_elem? ls k ≡ some l → get_elem? (shared_out T ls) k ≡ some g →
-    g.answer ≡ Err 48 →
-    (left_of T ls k < excess (share_of T ls) (need l)) × (g.output ≡ l.output)
+    (left_of T ls k < excess (share_of T ls) (need l) → (g.answer ≡ Err 48) × (g.output ≡ l.output))
+    × (g.answer ≡ Err 48 → left_of T ls k < excess (share_of T ls) (need l))
+
+-- "after its own checks": a record that is refused alone has that refusal in every call
+abbrev pub OwnFirst : Type 0
+OwnFirst =
+    (T k n : ℕ) (ls : List Lent) (l : Lent) → get_elem? ls k ≡ some l → (alone l).answer ≡ Err n →
+    get_elem? (shared_out T ls) k ≡ some (alone l)
 
 -- "A record within its share gets the same bytes whatever the others contain": two calls with as many records and as much room that agree on it
 abbrev pub WithinShare : Type 0
@@ -105,8 +111,8 @@ OwnOutputs =
     let gs = shared_out T (lents_of records out zs) in
     parts_of (rejoined out zs gs) (output_lengths zs) ≡ map (λ g. g.output) gs
 
--- and the same of a whole call: its answer for record k and its part of the outputs' slice are what the record would get alone, where it needs no more than its
--- share. So two calls with as many records and as much room that lend the same record and the same output at a place leave the same there
+-- and the same of a whole call: its answer for record k, and its part of the outputs' slice, are what the record would get alone where it needs no more
+-- than its share
 abbrev pub CallsWithinShare : Type 0
 CallsWithinShare =
     (T k : ℕ) (records out : List ℕ) (zs : List Lengths) (l : Lent) →
@@ -114,6 +120,18 @@ CallsWithinShare =
     need l ≤ share T (length zs) →
     (get_elem? (each_of (shared_for T records out zs)) k ≡ some (alone l).answer)
     × (get_elem? (parts_of (output_after T records out zs) (output_lengths zs)) k ≡ some (alone l).output)
+
+-- so two calls with as many records and as much room that lend the same record and the same output at a place answer and leave the same there, whatever the
+-- others are
+abbrev pub CallsIndependent : Type 0
+CallsIndependent =
+    (T k : ℕ) (records out records' out' : List ℕ) (zs zs' : List Lengths) (l : Lent) →
+    length zs ≤ MOST → length zs ≡ length zs' →
+    get_elem? (lents_of records out zs) k ≡ some l → get_elem? (lents_of records' out' zs') k ≡ some l →
+    need l ≤ share T (length zs) →
+    (get_elem? (each_of (shared_for T records out zs)) k ≡ get_elem? (each_of (shared_for T records' out' zs')) k)
+    × (get_elem? (parts_of (output_after T records out zs) (output_lengths zs)) k
+    ≡ get_elem? (parts_of (output_after T records' out' zs') (output_lengths zs')) k)
 
 -- no constraint record is longer than nine quarters of its flat record: what a program lends as an output where it lends so many bytes as a record
 abbrev pub NineQuarters : Type 0

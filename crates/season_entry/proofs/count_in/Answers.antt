@@ -1,7 +1,7 @@
 -- `season_entry::count_in` meets its contract. Assumes nothing.
 use native.Mathlib.Omega.{arith}
 use mathlib.Core.Path.{ap, ◌∙◌}
-use Prim.Native.Nat.{ℕ, ◌+◌, ◌*◌}
+use Prim.Native.Nat.{ℕ, ◌*◌}
 use Rattle.std.specs.Prelude.{Ok}
 use Rattle.season_entry.proofs.Counting.{no-count, larger-count, other-length, just-counted}
 use Rattle.season_entry.proofs.count_in.Goals as goal

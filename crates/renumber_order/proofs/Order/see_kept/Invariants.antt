@@ -9,5 +9,6 @@ abbrev pub invariant-loop-k : goal.invariant-loop-k
 invariant-loop-k l = record {
   end : l.k-end ≡ kept l.r.bytes.now;
   so-far : LeftOf kept_ids (kept l.r.bytes.now)
-      (definition_at l.r.bytes.now (kept_offset l.r.bytes.now) (nodes_offset l.r.bytes.now) (nodes l.r.bytes.now)) l.initial.self.ids.items l.self.ids.items l.k;
+      (definition_at l.r.bytes.now (kept_offset l.r.bytes.now) (nodes_offset l.r.bytes.now) (nodes l.r.bytes.now))
+      l.initial.self.ids.items l.self.ids.items l.k;
 }

@@ -9,7 +9,8 @@ use Rattle.std.proofs.lemmas.Result.{err_from_is_err_and}
 use Rattle.constraint.specs.Reading.{size}
 use Rattle.season_entry.proofs.Parts.{check-passed, check-refused}
 use Rattle.season_stream.proofs.Had.{had-more}
-use Rattle.season_stream.proofs.Records.{size-behind, head-missing, rest-missing, too-long, parts-refused, within-buffer, parts-consumed}
+use Rattle.season_trees.proofs.Written.{size-behind}
+use Rattle.season_stream.proofs.Records.{head-missing, rest-missing, too-long, parts-refused, within-buffer, parts-consumed}
 use Rattle.season_stream.proofs.parts.read_record.Goals as goal
 
 pub returns-in_err-fill : goal.returns-in_err-fill
