@@ -15,7 +15,7 @@ use eval_places::Places;
 use flat::Layout;
 use flat::entries::{BYTES, Header, put_header};
 use records::NODE_WORDS;
-use records::flat_record::{HEADER, IDS};
+use records::flat_record::HEADER;
 use words::put_word;
 use writer::Writer;
 
@@ -47,14 +47,14 @@ fn write_prover(out: &mut FlatBytes, memory: &Memory, to: usize, i: u32) -> usiz
     to
 }
 
-// The ids with a mark, from word `at` on.
+// The ids below `next` with a mark, from word `at` on.
 // Kept as it is: one function of a test, for this and put_provers of pass_entry, asks a law of the test and a third definition beside `marked`, `ids_from`.
-fn write_provers(out: &mut FlatBytes, memory: &Memory, at: usize)
-    requires { at ≤ LAST-PROVERS-AT }
-    ensures { out.new ≡ set_words out.old at (marked memory.now.marks IDS) }
+fn write_provers(out: &mut FlatBytes, memory: &Memory, at: usize, next: u32)
+    requires { (at ≤ LAST-PROVERS-AT) × (next ≤ IDS) }
+    ensures { out.new ≡ set_words out.old at (marked memory.now.marks next) }
 {
     let mut to = at;
-    for i in 0..IDS {
+    for i in 0..next {
         to = write_prover(out, memory, to, i);
     }
 }
@@ -63,7 +63,8 @@ fn write_provers(out: &mut FlatBytes, memory: &Memory, at: usize)
 #[tactic(auto, unfolding(crate::specs::Written::write_flat, crate::specs::Written::write_ids, flat::specs::Layout::layout_by))]
 pub fn write_flat(memory: &Memory, places: &Places, publics: &[u32], out: &mut FlatBytes) -> usize
     requires { ((length publics.now ≤ PUBLICS) × (memory.now.state.provers ≤ LISTED))
-        × ((memory.now.state.definitions ≤ LISTED) × (memory.now.state.equations ≤ LISTED)) }
+        × ((memory.now.state.definitions ≤ LISTED) × (memory.now.state.equations ≤ LISTED))
+        × (memory.now.state.next ≤ IDS) }
     ensures { (out.new ≡ (write_flat memory.now.fixed memory.now.store.now
         memory.now.rows memory.now.marks places.now.words memory.now.state publics.now (length publics.now) out.old).bytes)
         × (result ≡ 4 * (nodes_from memory.now.state (length publics.now) + NODE-WORDS
@@ -82,7 +83,7 @@ pub fn write_flat(memory: &Memory, places: &Places, publics: &[u32], out: &mut F
     let layout = Layout::from(header);
     put_header(out, header);
     write_publics(out, publics);
-    write_provers(out, memory, layout.provers_at);
+    write_provers(out, memory, layout.provers_at, s.next);
     let mut writer = Writer {
         memory,
         out,

@@ -1,4 +1,5 @@
 mod Prints
+mod Buckets
 mod Marks
 mod Links
 mod Lists
