@@ -1,5 +1,5 @@
 #!/usr/bin/env python3
-"""Checks that the twin gives the oracle's answers, and that the model gives the twin's numbers, flat records and made nodes.
+"""Checks that the twin gives the oracle's answers, and that the model gives the twin's numbers, flat and constraint records and made nodes.
 
     python3 oracle/twin_check.py ORACLE TWIN SEED N [KIND..]
 
@@ -26,14 +26,21 @@ def check(oracle, twin, records, counts):
         if ended and ADDED.sub("", b) != a:
             counts["the twin differs from the oracle"] += 1
             print("twin:", record.hex(), a[:200], b[:200], sep="\n  ")
-        known, second = answer_of(c), model_answer(record)
+        compare(record, c, counts)
+
+
+def compare(record, line, counts):
+    """The model's answers against a line of the twin."""
+    for wanted in ("flat", "cons"):
+        known, second = answer_of(line, wanted), model_answer(record, wanted)
         if known is None:
             counts["no answer of the Rust, by the model refused %d" % second.number] += 1
-        elif known.same(second):
-            counts[known.by + (" %d" % known.number if known.number else "")] += 1
-        else:
+            return
+        if not known.same(second):
             counts["the model differs from the twin"] += 1
-            print("model:", record.hex(), known, second, sep="\n  ")
+            print("model, %s:" % wanted, record.hex(), known, second, sep="\n  ")
+            return
+    counts[known.by + (" %d" % known.number if known.number else "")] += 1
 
 
 def main(oracle, twin, seed, n, *kinds):

@@ -35,7 +35,7 @@ from source_records import LAST_COUNT, LAST_SOURCE, ORACLE_KINDS, Answer, answer
 from trees import C, D, EQ, I, V
 
 sys.set_int_max_str_digits(5000)  # arguments of 4,096 digits
-STORE, OUTPUT = 16 * LAST_COUNT, 1016088  # what flatten lends at most
+STORE, OUTPUT = 16 * LAST_COUNT, 786712  # what flatten lends at most
 LENT = 65536  # what equalities lends
 SIGNS = "/|*+-=^\\%"
 
@@ -118,8 +118,8 @@ def negated(n, e):
 
 def odd_flats():
     """Flat records of 65,536 bytes and a word more; the same with their outputs; the last id and one more."""
-    yield from (flat(5, [(3, negated(4090, ("v", 0)))], [(("v", 0), ("v", 1))], publics=[0] * n) for n in (2, 3))
-    yield from (flat(5, [], [(("v", 0), negated(2339, ("v", 1)))], publics=[0] * n) for n in (5, 6))
+    yield from (flat(5, [(3, negated(4090, ("v", 0)))], [(("v", 0), ("v", 1))], publics=[0] * n) for n in (0, 1))
+    yield from (flat(5, [], [(("v", 0), negated(2047, ("v", 1)))], publics=[0] * n) for n in (2, 3))
     yield from (flat(n, [], [(("v", 0), (ADD, (MULTIPLY, ("v", 1), ("c", -7)), ("-", ("c", 1 << 30))))]) for n in (65533, 65534, 65536, 65537))
 
 

@@ -191,6 +191,52 @@ def powers():
         yield define(I(EXP, X, C(n)), I(EXP, ("neg", X), C(n)))
 
 
+def places():
+    """What a statement emits has its place, wherever the text stands: match values, functions, fresh, iter, fold, powers, patterns."""
+    a, b, z = V("a"), V("b"), V("z")
+    use, fresh = (lambda *args: A(V("f"), *args)), (lambda e: A(V("fresh"), e))
+    square, equate = F(["z"], I(MUL, z, z)), F(["z"], sequence(I(EQ, I(ADD, z, C(1)), Y), z))
+    # a doubled match value, with definitions and with equations in it
+    doubled = match(I(MUL, X, C(3)), (PV("z"), I(ADD, z, C(1))))
+    yield [], [D("a", C(7)), D("b", doubled), D("a", b)], [I(EQ, a, Y), I(EQ, doubled, b), doubled]
+    asserted = match(sequence(I(EQ, X, Y), I(DIV, X, Y)), (PV("z"), I(EQ, z, C(2))))
+    yield [], [D("a", asserted), D("b", X)], [asserted, I(EQ, b, C(1)), match(asserted, (PV("u"), V("u")))]
+    arms = (("pprod", PV("p"), const(4)), X), (("pprod", PV("p"), const(5)), V("p"))
+    yield [], [D("b", match(PR(I(ADD, X, C(1)), C(5)), *arms))], [I(EQ, b, Y)]
+    # a definition that later statements use, and statements that emit nothing
+    silent = [D("g", INCREASE), D("n", N), D("c", C(3))]
+    uses = [C(1), I(EQ, b, V("c")), U, I(EQ, a, a), I(EQ, b, I(ADD, a, C(1)))]
+    yield [], [D("a", I(MUL, X, Y)), *silent, D("b", a)], uses
+    # a function applied in several statements, with definitions and with equations in its body
+    yield [], [D("f", square), D("a", use(X)), D("b", use(a))], [I(EQ, use(b), use(X)), use(Y), I(EQ, a, b)]
+    yield [], [D("f", equate), D("a", use(X)), D("b", use(use(C(4))))], [use(X), I(EQ, use(Y), C(9)), sequence(use(X), use(Y))]
+    # a closure made in one statement and applied in others
+    made = F(["w"], L("m", I(MUL, V("w"), V("w")), F(["z"], sequence(I(EQ, V("m"), z), I(ADD, V("m"), z)))))
+    yield [], [D("f", made), D("g", use(X)), D("a", A(V("g"), Y))], [I(EQ, A(V("g"), a), A(V("g"), C(2))), use(X, Y)]
+    # fresh: definitions that are kept, of one statement and of several, and one that is doubled
+    kept = [D("a", fresh(I(DIV, X, Y))), D("b", fresh(I(ADD, a, C(1))))]
+    yield [], kept, [I(EQ, I(MUL, b, a), X), I(EQ, fresh(I(MUL, X, X)), b)]
+    yield [], [D("f", F(["z"], fresh(I(MOD, z, C(2))))), D("a", use(X)), D("b", use(Y))], [I(EQ, I(ADD, a, b), use(a))]
+    twice = match(fresh(PR(("neg", X), I(IDIV, X, Y))), (PV("z"), z))
+    yield [], [D("a", twice)], [I(EQ, a, PR(Y, X)), match(fresh(("neg", X)), (PV("z"), I(EQ, z, Y)))]
+    # iter and fold
+    steps = [D("f", A(V("iter"), C(3))), D("a", use(square, X)), D("b", A(V("iter"), C(0), square, a))]
+    yield [], steps, [I(EQ, use(INCREASE, b), use(square, Y)), use(equate, X)]
+    total = A(V("fold"), lst(X, C(2), I(ADD, X, Y)), F(["e", "s"], I(ADD, V("e"), V("s"))))
+    equated = A(V("fold"), lst(X, Y), F(["e", "s"], sequence(I(EQ, V("e"), V("s")), V("e"))), a)
+    yield [], [D("f", total), D("a", use(C(0)))], [I(EQ, use(Y), use(a)), total, equated]
+    # powers
+    raised = [D("a", I(EXP, X, C(5))), D("b", I(EXP, I(ADD, a, Y), C(-3)))]
+    yield [], raised, [I(EQ, I(EXP, b, C(6)), I(EXP, X, C(2))), I(EXP, Y, C(-1)), I(EQ, I(EXP, X, C(1)), I(EXP, X, C(0)))]
+    # patterns: the equations of definitions stand before those of the expressions; several entries of one pair or list
+    bound = [(const(5), X), (("pprod", PV("p"), const(6)), PR(I(ADD, X, C(1)), Y)), (("pcons", PV("h"), PV("t")), lst(V("p"), X))]
+    yield [], bound, [I(EQ, V("h"), Y), L(const(7), V("p"), I(EQ, X, Y))]
+    parts = [D("a", PR(I(MUL, X, X), lst(X, ("neg", Y))))]
+    yield ["x"], parts, [I(EQ, a, PR(C(1), lst(C(2), C(3)))), I(EQ, PR(X, PR(Y, X)), PR(Y, PR(X, Y)))]
+    # the last place: 512 definitions and as many expressions
+    yield [], [D("a", X)] * 512, [C(7)] * 256 + [I(EQ, a, Y)] * 256
+
+
 # Lists at their limits, and one over, each with its number. Definitions of one node, equations of two, prover ids without definitions.
 
 COPIES = F(["c"], functools.reduce(lambda body, _: L("c", V("c"), body), range(30), V("c")))  # a parameter and 30 lets
@@ -400,7 +446,7 @@ def hand_made(oracle):
 # seed, seeds, kind, bytes at most, records, what they need to meet
 GENERATED = (
     (1, 5000, "mixed", 1300, 850), (5001, 4500, "rich", 1300, 850), (9001, 4000, "plain", 1200, 350), (20001, 600, "mixed", 5000, 30),
-    (40001, 12000, "rich", 2500, 395, ALL), (70001, 600, "mix", 2500, 15, ALL), (12001, 600, "big", 6000, 50), (13001, 600, "deep", 11000, 25),
+    (40001, 12000, "rich", 2700, 395, ALL), (70001, 600, "mix", 2700, 15, ALL), (12001, 600, "big", 6000, 50), (13001, 600, "deep", 11000, 25),
     (1, 300, "typed", 1500, 60), (1, 600, "untyped", 700, 60), (1, 300, "closures", 2500, 60), (1, 300, "lambda", 900, 40), (1, 300, "mix", 3500, 40),
     (1, 200, "lost", 1600, 30), (1, 120, "combi", 6000, 12), (1, 200, "obs", 4000, 30), (1, 300, "rec", 2500, 80), (1, 60, "lost+", 3000, 30),
     (1, 60, "rec+", 7000, 10), (1, 40, "mix+", 12000, 4), (1, 20, "obs+", 12000, 4),
@@ -426,7 +472,7 @@ def write(oracle, twin):
     w.put_all(hand_made(oracle))
     for number, made in REFUSED.items():
         w.put_all(modules(made()), number)
-    w.put_all(modules((*accepted(), *wide(), *powers())), 0)
+    w.put_all(modules((*accepted(), *wide(), *powers(), *places())), 0)
     w.put_numbered(numbered((*list_limits(), *id_limits(), *((directed.NUMBERS[name], m) for name, m in directed.CASES if name not in LEFT_OUT))))
     for chosen in GENERATED:
         before = w.groups

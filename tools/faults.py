@@ -50,7 +50,7 @@ def many_flat(n):
     for _ in range(n):
         k = len(nodes)
         nodes += [(8, 0, 0, 0), (8, 0, 0, 0), (7, 1, 0, 0), (4, k + 1, k + 2, 3)]
-        sides += [k, k + 3]
+        sides += [k, k + 3, k]
     return words(1, 0, 0, 0, n, len(nodes), *sides, *(w for x in nodes for w in x))
 
 
@@ -96,7 +96,7 @@ def many_different(name):
 
 
 # programs that take numbers as arguments: some that change nothing
-NUMBERS = {"flatten": ("0" * 3000 + "1048560", "0" * 4000 + "1016088"), "cut_flat": ("0" * 4000 + "1016088",)}
+NUMBERS = {"flatten": ("0" * 3000 + "1048560", "0" * 4000 + "786712"), "cut_flat": ("0" * 4000 + "786712",)}
 
 PROGRAMS = {
     "cut_flat": lambda: (read("crates", "cut_flat", "stdin"), many_flat(400)),

@@ -38,7 +38,7 @@ def negated(n, e):
     return e
 
 
-CASE_F = flat(10, [(2, (MULTIPLY, (ADD, v(0), c(1)), v(0)))], [(v(2), v(1))])
+CASE_F = flat(10, [(2, (MULTIPLY, (ADD, v(0), c(1)), v(0)))], [(v(2), v(1))], places=[3, 8])
 
 
 def simplifications():
@@ -95,6 +95,21 @@ def chains():
     yield flat(1, [], [(v(0), v(0))])
     yield flat(0)
     yield flat(0, [], [(c(1), c(1)), (c(1), c(2)), (c(2147483647), c(0))])
+
+
+def lent_places():
+    """Place words as a lender may give them: at the ends, repeated, falling. On definitions cut, kept, copied and dropped, and on equations of every sort."""
+    definitions = [(2, (ADD, (MULTIPLY, v(0), v(1)), neg(v(0)))), (3, v(2)), (4, (SUBTRACT, v(3), c(1)))]
+    definitions += [(5, (DIVIDE, v(4), v(0))), (6, (DIVIDE, v(5), v(1))), (7, v(6)), (8, (POWER, v(4), c(2)))]
+    equations = [(v(3), v(6)), (v(2), v(3)), (neg(v(4)), c(7)), ((MULTIPLY, v(3), v(4)), (ADD, v(0), neg(v(1))))]
+    equations += [(c(5), c(5)), (c(5), (INT_DIVIDE, v(7), v(1))), (v(0), neg(neg(v(3))))]
+    n, last = len(definitions) + len(equations), 2**32 - 1
+    repeated = ([0], [last], [last, 0], [0, 1, last], [7, 7, 8], [2**31 - 1, 2**31, 65535, 65536])
+    for places in (range(last, last - n, -1), *(words * n for words in repeated)):
+        for provers in ([], [6], [2, 6], [7], list(range(9))):
+            yield flat(12, definitions, equations, provers, places=places)
+        yield flat(12, definitions, [], [6], places=places)
+        yield flat(12, [], [(a, b) for a, b in equations for _ in range(2)], places=places)
 
 
 def not_cut():
@@ -154,8 +169,8 @@ def limits():
     for n in (4096, 4097):
         yield flat(5000, [], [(v(0), v(1))], provers=range(n))
         # the lists without nodes: 21 at the limit, 20 above it
-        yield pack([5000, 0, 0, n, 0, 0] + [0, 0] * n)
-        yield pack([5000, 0, 0, 0, n, 0] + [0, 0] * n)
+        yield pack([5000, 0, 0, n, 0, 0] + [0, 0, 0] * n)
+        yield pack([5000, 0, 0, 0, n, 0] + [0, 0, 0] * n)
     yield flat(5000, [(k + 1, v(k)) for k in range(4096)], [(v(4096), c(1))], provers=[4096])
     # all at their limits: a chain of copies and sums, and as many equations
     sums = [(k + 1, v(k) if k % 2 else (ADD, v(k), v(0))) for k in range(4096)]
@@ -165,7 +180,7 @@ def limits():
     yield flat(40000, sums, equations + [(deepest, v(7))], provers=range(5000, 9096), publics=range(64))
     # a tree of 16,383 nodes, and one node more than a record may have
     yield flat(5, [], [(v(0), negated(16382, v(1)))])
-    yield pack([5, 0, 0, 0, 1, 16385, 0, 1] + [8, 0, 0, 0] * 16385)
+    yield pack([5, 0, 0, 0, 1, 16385, 0, 1, 0] + [8, 0, 0, 0] * 16385)
 
 
 def last_ids():
@@ -209,7 +224,7 @@ def main():
     short = [r for r in random if len(r) <= 700][:1000]
     longer = [r for r in random if 2000 < len(r)][:30]
     modules = hand_made_modules(oracle, sys.argv[2:]) + [r for r in generated_modules(oracle, 1, 400) if len(r) <= 1000]
-    hand_made = [*simplifications(), *pairs_of_sides(), *chains(), *not_cut()]
+    hand_made = [*simplifications(), *pairs_of_sides(), *chains(), *not_cut(), *lent_places()]
     write(out, oracle, [CASE_F] + hand_made, more)
     write(out, oracle, short + longer + modules, more)
     write(out, oracle, [*damaged()], more)

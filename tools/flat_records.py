@@ -7,12 +7,15 @@ answers source records with their flat records, and `asm FILE` turns a module's 
 
 An expression is a tuple: ("v", id), ("c", number), ("-", e), or (operator 0 to 8, e, e).
 """
+import itertools
 import struct
 import subprocess
 
 REFUSED = 4294901760
 LAST_NEXT = 65536
-LONGEST = 344344
+LONGEST = 377112
+# the words of an entry: publics, prover ids, definitions, equations, nodes; a definition and an equation end with their place
+WIDTHS = (1, 1, 3, 3, 4)
 DIVIDE, DIVIDE_Z, MULTIPLY, ADD, SUBTRACT, EQUAL, POWER, INT_DIVIDE, MODULO = range(9)
 
 
@@ -46,13 +49,14 @@ def put_nodes(root, nodes):
     return done[0]
 
 
-def flat(next_id, definitions=(), equations=(), provers=(), publics=()):
-    """A flat record. Definitions are pairs (id, expression), equations pairs of expressions."""
+def flat(next_id, definitions=(), equations=(), provers=(), publics=(), places=None):
+    """A flat record. Definitions are pairs (id, expression), equations pairs of expressions; their places, in this order, count from 0 if none are given."""
     nodes, lists = [], []
+    places = itertools.count() if places is None else iter(places)
     for v, e in definitions:
-        lists += [v, put_nodes(e, nodes)]
+        lists += [v, put_nodes(e, nodes), next(places)]
     for left, right in equations:
-        lists += [put_nodes(left, nodes), put_nodes(right, nodes)]
+        lists += [put_nodes(left, nodes), put_nodes(right, nodes), next(places)]
     header = [next_id, len(publics), len(provers), len(definitions), len(equations), len(nodes)]
     return pack(header + list(publics) + list(provers) + lists + [w for n in nodes for w in n])
 
@@ -61,7 +65,7 @@ def lists_of(record):
     """The lists of a record whose length and counts are right."""
     w = unpack(record)
     at, out = 6, []
-    for count, width in zip(w[1:6], (1, 1, 2, 2, 4)):
+    for count, width in zip(w[1:6], WIDTHS):
         out.append([w[at + width * k : at + width * (k + 1)] for k in range(count)])
         at += width * count
     return [[p[0] for p in out[0]], [p[0] for p in out[1]]] + out[2:]
@@ -82,15 +86,16 @@ def refusal(record):
     next_id, *counts = unpack(record[:24])
     if any(n > most for n, most in zip(counts, (64, 4096, 4096, 4096, 16384))):
         return 20
-    if len(record) != 24 + 4 * sum(n * width for n, width in zip(counts, (1, 1, 2, 2, 4))):
+    if len(record) != 24 + 4 * sum(n * width for n, width in zip(counts, WIDTHS)):
         return 20
     publics, provers, definitions, equations, nodes = lists_of(record)
-    ids = publics + provers + [v for v, _ in definitions]
+    ids = publics + provers + [v for v, _, _ in definitions]
     if next_id > LAST_NEXT or any(v >= next_id for v in ids) or any(a >= b for a, b in zip(provers, provers[1:])):
         return 21
     if not all(fits(*node, k, next_id) for k, node in enumerate(nodes)):
         return 21
-    roots = [n for _, n in definitions] + [n for pair in equations for n in pair]
+    sides = [pair[:2] for pair in equations]
+    roots = [n for _, n, _ in definitions] + [n for pair in sides for n in pair]
     children = [x for kind, a, b, _ in nodes for x in ((a, b) if kind == 4 else (a,) if kind == 5 else ())]
     if sorted(roots + children) != list(range(len(nodes))):
         return 21
@@ -102,13 +107,13 @@ def refusal(record):
         for x in below:
             uses[x] = None
     later = set()
-    for v, n in reversed(definitions):
+    for v, n, _ in reversed(definitions):
         if v in later or uses[n] & (later | {v}):
             return 21
         later.add(v)
-    reached = set().union(*(uses[n] for pair in equations for n in pair)) if equations else set()
-    wrong = any(bad[n] for pair in equations for n in pair)
-    for v, n in reversed(definitions):
+    reached = set().union(*(uses[n] for pair in sides for n in pair))
+    wrong = any(bad[n] for pair in sides for n in pair)
+    for v, n, _ in reversed(definitions):
         if v in reached and v not in provers:
             reached |= uses[n]
             wrong = wrong or bad[n]

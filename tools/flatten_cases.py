@@ -9,7 +9,9 @@ output that are just full, with a store that is a node short (30), and with an o
 """
 import sys
 
-from evaluation_cases import REFUSED, X, Y, Writer, accepted, damaged, hand_made, id_limits, list_limits, modules, negated, numbered, powers, wide, write_counts
+from evaluation_cases import (
+    REFUSED, X, Y, Writer, accepted, damaged, hand_made, id_limits, list_limits, modules, negated, numbered, places, powers, wide, write_counts,
+)
 from plain_agreement import judged, modules as plain_modules, record_of
 from source_records import LAST_STORE, MODEL_KINDS, directed, generated, model, stores
 from assemble import pack
@@ -63,7 +65,7 @@ def write(oracle, twin):
     w.put_all([*no_modules()])
     for number, made in REFUSED.items():
         w.put_all(modules(made()), number)
-    w.put_all(modules((*accepted(), *wide(), *powers())), 0)
+    w.put_all(modules((*accepted(), *wide(), *powers(), *places())), 0)
     w.put_numbered(numbered((*list_limits(), *id_limits(), *last_ids(), *((directed.NUMBERS[name], m) for name, m in directed.CASES[::4]))))
     for chosen in GENERATED:
         w.put_small(*chosen)

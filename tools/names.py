@@ -13,7 +13,7 @@ is, and behind `=` what evaluation and the copies of the passes put for it, as t
     v13 and above are made by evaluation and the passes
 
 So v14 can be read as y. What an id is: `public`, `input` (used, and never defined before), `definition K` (the pattern of definition K binds it), `inside definition K` or `inside
-expression K` (a let, a parameter or an arm in there does), `intrinsic` (fresh, iter, fold). Definitions and expressions are counted from 0, each list by itself. A value is
+expression K` (a let, a parameter or an arm in there does), `intrinsic` (fresh, iter, fold). Definitions and expressions are counted from 0, each list by itself (the place of expression K is the number of definitions plus K). A value is
 written as tools/assemble.py reads it; two stand there where a doubled match value bound the name twice, and an input has one where a match opened it. A function draws new ids for all that it
 binds whenever it is applied: `--copies` prints these too, with the id that they are copies of.
 
@@ -159,7 +159,7 @@ def copies_of(state):
     flat = model.flat_of(state)
     model.classify_defs(flat)
     model.copy_propagate(flat)
-    return {i: e for i, e in flat.defs if e[0] in ("var", "const") and i not in flat.prover}
+    return {i: e for i, e, _ in flat.defs if e[0] in ("var", "const") and i not in flat.prover}
 
 
 def lines(record, with_copies):

@@ -181,10 +181,10 @@ class Module:
 
 
 def equalities_of(record):
-    """The equalities of a constraint record: left term, operation, two terms; a term is (0, id) or (1, element)."""
+    """The equalities of a constraint record, without their places: left term, operation, two terms; a term is (0, id) or (1, element)."""
     w = struct.unpack("<%di" % (len(record) // 4), record)
     at = 6 + w[1] + w[2]
-    rows = [w[k : k + 7] for k in range(at, at + 7 * w[3], 7)]
+    rows = [w[k : k + 8] for k in range(at, at + 8 * w[3], 8)]
     return [(r[0:2], r[2], r[3:5], r[5:7]) for r in rows]
 
 

@@ -7,7 +7,7 @@ memory or time explodes, and gives a second opinion everywhere.
 The input of test_eval is a list of groups, in little-endian words of 32 bits, bytes unpadded:
 
     words    length of the source record in bytes (at most 76,052, the longest legal one), number of runs (1 to 8), length of the
-             expected record in bytes (at most 344,344, the longest flat record; 0: no run is accepted)
+             expected record in bytes (at most 377,112, the longest flat record; 0: no run is accepted)
     a run    two words: length of the lent store in bytes (at most 1,048,592), expected answer: 0 for accepted, else the refusal's number
     bytes    the source record
     bytes    the expected record: the flat record of document 01, which every accepted run has to give. Its nodes stand in list order:
@@ -37,7 +37,7 @@ import trees
 
 LAST_STORE = 1048592  # one node more than document 01's 65,535, and 16 bytes
 LAST_COUNT = 65535
-LAST_SOURCE, LAST_FLAT, LAST_ROOM = 76052, 344344, 480000
+LAST_SOURCE, LAST_FLAT, LAST_ROOM = 76052, 377112, 480000
 ORACLE_KINDS = ("mixed", "plain", "rich", "big", "deep")
 MODEL_KINDS = ("typed", "untyped", "closures", "lambda", "mix", "lost", "combi", "obs", "rec", "mix+", "lost+", "combi+", "obs+", "rec+")
 COUNTS = re.compile(r" first=(\d+) made=(\d+) made-at-first=(\d+) ")

@@ -10,7 +10,7 @@ import struct
 import sys
 
 # the lists in the order of their counts in the header, and the words of an entry
-LISTS = (("publics", 1), ("prover ids", 1), ("equalities", 7), ("kept definitions", 2), ("nodes", 4))
+LISTS = (("publics", 1), ("prover ids", 1), ("equalities", 8), ("kept definitions", 3), ("nodes", 4))
 HEADER = 1 + len(LISTS)  # the next id, and the counts
 
 

@@ -82,13 +82,13 @@ fn hex_lines(args: &[String]) -> Vec<Vec<u8>> {
 }
 
 fn case_f() -> Flat {
-    // next id 10, definition 2 = (v0 + 1) * v0, equation v2 = v1
+    // next id 10, definition 2 = (v0 + 1) * v0, equation v2 = v1; the places 3 and 8 are ours
     Flat {
         next: 10,
         pubs: vec![],
         provers: vec![],
-        defs: vec![(2, 4)],
-        eqs: vec![(5, 6)],
+        defs: vec![[2, 4, 3]],
+        eqs: vec![[5, 6, 8]],
         nodes: vec![
             [8, 0, 0, 0],
             [7, 1, 0, 0],
@@ -173,7 +173,7 @@ fn numbers(b: &[u8]) -> String {
 /* Numbering and evaluation alone; of records that the Rust accepts. */
 fn evaluate(b: &[u8]) -> String {
     let s = Source::parse(b).unwrap();
-    record::to_hex(&driver::evaluate_source(&s).flat().unwrap().to_bytes())
+    record::to_hex(&driver::evaluate_by_statement(&s).flat().unwrap().to_bytes())
 }
 
 /* The operators of `--ops`, by their numbers. */

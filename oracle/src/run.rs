@@ -95,7 +95,7 @@ pub fn src_line(bytes: &[u8], stage: &mut dyn FnMut(&str)) -> String {
     };
     take_discarded();
     stage("evaluate");
-    let ev = caught(|| driver::evaluate_source(&s));
+    let ev = caught(|| driver::evaluate_whole(&s));
     let tw = twin_counts();
     let ev = match ev {
         Ok(ev) => ev,
@@ -105,6 +105,10 @@ pub fn src_line(bytes: &[u8], stage: &mut dyn FnMut(&str)) -> String {
         }
     };
     let d = discards() + &tw;
+    stage("places");
+    // A second run, which the counters and the discarded errors leave out.
+    let ev = caught(|| ev.placed(&s)).unwrap_or_else(|m| differs(&m));
+    take_discarded();
     let (flat, o) = match ev.flat() {
         Some(f) => (to_hex(&f.to_bytes()), over(&f)),
         None => ("nonflat".to_string(), String::new()),
@@ -112,9 +116,18 @@ pub fn src_line(bytes: &[u8], stage: &mut dyn FnMut(&str)) -> String {
     stage("passes");
     match caught(|| ev.passes()) {
         Ok(c) => format!("ok flat={flat} cons={}{d}{o}", to_hex(&c.to_bytes())),
+        Err(m) if m.starts_with(driver::DIFFERS) => differs(&m),
         Err(m) => format!("panic stage=passes flat={flat}{d}{o} msg={}", clean(&m)),
     }
 }
+
+/* Called part by part the Rust gave another answer: no answer is to be had, of
+ * this record or of any other. */
+fn differs(msg: &str) -> ! {
+    println!("R {DIFFERENT}{}", clean(msg));
+    std::process::exit(1)
+}
+const DIFFERENT: &str = "differs ";
 
 #[cfg(feature = "twin")]
 fn twin_counts() -> String {
@@ -156,6 +169,7 @@ pub fn flat_line(bytes: &[u8], any: bool, stage: &mut dyn FnMut(&str)) -> String
     stage("passes");
     match caught(|| driver::run_flat(&f)) {
         Ok(c) => format!("ok cons={}", to_hex(&c.to_bytes())),
+        Err(m) if m.starts_with(driver::DIFFERS) => differs(&m),
         Err(m) => format!("panic stage=passes msg={}", clean(&m)),
     }
 }
@@ -259,6 +273,10 @@ fn batch_part(mode: &str, flags: &[String], timeout: Duration, lines: &[(usize, 
                 let left = limit.saturating_duration_since(std::time::Instant::now());
                 match kid.rx.recv_timeout(left) {
                     Ok(l) if l.starts_with("S ") => stage = l[2..].to_string(),
+                    Ok(l) if l[2..].starts_with(DIFFERENT) => {
+                        eprintln!("{} on {line}", &l[2..]);
+                        std::process::exit(1)
+                    }
                     Ok(l) => {
                         res = Some(l[2..].to_string());
                         break;

@@ -7,11 +7,13 @@ use Rattle.field.specs.declared.InfixOp.TheVariants.{Divide, DivideZ, Multiply, 
 use Rattle.flat.specs.Trees.{Flat, Definition}
 use Rattle.flat.specs.Meaning.{update}
 use Rattle.constraint.specs.declared.Term.{Term}
-use Rattle.constraint.specs.Trees.{Side, Equality}
+use Rattle.constraint.specs.Trees.{at_place, Side, Equality}
 use Rattle.pass_trees.specs.Passes
 use Rattle.pass_trees.specs.Passes.{Outcome, cut, refused}
 use Rattle.eval_trees.proofs.Compute.{answer_of}
 use Rattle.eval_trees.proofs.Cases.{Case, cases}
+use Rattle.flat.specs.Places.{bare_definitions}
+use Rattle.pass_trees.specs.Statements.{bare_cut, bare_outcome}
 use Rattle.agreement.specs.Flattened.{passed, flattened_of}
 
 abbrev v : ℕ → Term
@@ -21,10 +23,10 @@ abbrev k : ℤ → Term
 k n = Term.Constant n
 
 abbrev ◌becomes◌ : Term → Side → Equality
-t becomes s = record { left = t; right = s }
+t becomes s = record { left = t; right = s; place = 0 }
 
 abbrev ◌is◌ : ℕ → Flat → Definition
-i is e = record { id = i; right = e }
+i is e = record { id = i; right = e; place = 0 }
 
 infix 70 ◌becomes◌
 infix 70 ◌is◌
@@ -796,7 +798,7 @@ wide-patterns = cut (record {
 abbrev wide-arms : Outcome
 wide-arms = cut (record { next = 9; publics = []; provers = []; equalities = k (pos 6) becomes Side.copy (k (pos 7)) ∷ []; kept = [] })
 
--- in the order of evaluation's cases; those that evaluation refuses are refused so
+-- without the places, in the order of evaluation's cases; those that evaluation refuses are refused so
 abbrev pub answers : List Outcome
 answers =
     doubled-match ∷ unused-division ∷ fresh ∷ fresh-pair ∷ iter3 ∷ fold ∷ public-defined ∷ lost-closure ∷ refused 16 ∷ lost-closure-opened
@@ -814,7 +816,7 @@ answers =
 
 abbrev flattened : List Case → List Outcome
 flattened [] = []
-flattened (c ∷ cs) = flattened_of 65535 c.source ∷ flattened cs
+flattened (c ∷ cs) = bare_outcome (flattened_of 65535 c.source) ∷ flattened cs
 
 pub cases-hold : flattened cases ≡ answers
 unfolding answer_of flattened_of passed update Passes.member Passes.keep_if Passes.those Passes.most Passes.is_never Passes.is_witness Passes.mark_used
@@ -823,6 +825,8 @@ unfolding answer_of flattened_of passed update Passes.member Passes.keep_if Pass
     Passes.copy_propagate_equations Passes.copy_propagate Passes.same_number Passes.dead Passes.alive Passes.eliminate_dead_equalities Passes.is_one
     Passes.is_zero Passes.when Passes.infix_op Passes.or_variable Passes.push_constraint_def Passes.copied Passes.flatten_expr_to_3ac Passes.cuts_of
     Passes.joined
+    at_place Passes.all_at Passes.placed
     Passes.flatten_def_to_3ac Passes.flatten_defs Passes.sides Passes.flatten_sides Passes.flatten_equations Passes.flatten_lists Passes.flatten_module_to_3ac
     Passes.passes Passes.cuttable Passes.cuttable_expr Passes.cuttable_defs Passes.cuttable_equations Passes.counted Passes.unless Passes.fitting Passes.cut_of
+    bare_definitions bare_cut bare_outcome
 cases-hold = refl

@@ -13,7 +13,7 @@ use Rattle.field.proofs.Primality.{P-prime}
 use Rattle.field.proofs.Values.{not-zero-value, add-answer, multiply-answer, has-value-where}
 use Rattle.flat.specs.Meaning.{update, on_values}
 use Rattle.constraint.specs.declared.Term.{Term}
-use Rattle.constraint.specs.Trees.{Side, ConstraintModule}
+use Rattle.constraint.specs.Trees.{at_place, Side, ConstraintModule}
 use Rattle.pass_trees.specs.Passes
 use Rattle.pass_trees.specs.Passes.{cut}
 use Rattle.eval_trees.proofs.Compute.{answer_of}
@@ -31,10 +31,10 @@ equalities = record {
   publics = 9 ∷ [];
   provers = [];
   equalities =
-      record { left = Term.Variable 15; right = Side.infixed Add (Term.Variable 9) (Term.Constant (pos 1)) }
-      ∷ record { left = Term.Variable 16; right = Side.infixed Multiply (Term.Variable 15) (Term.Variable 15) }
-      ∷ record { left = Term.Variable 17; right = Side.infixed Multiply (Term.Variable 9) (Term.Variable 16) }
-      ∷ record { left = Term.Variable 17; right = Side.copy (Term.Variable 13) }
+      record { left = Term.Variable 15; right = Side.infixed Add (Term.Variable 9) (Term.Constant (pos 1)); place = 1 }
+      ∷ record { left = Term.Variable 16; right = Side.infixed Multiply (Term.Variable 15) (Term.Variable 15); place = 1 }
+      ∷ record { left = Term.Variable 17; right = Side.infixed Multiply (Term.Variable 9) (Term.Variable 16); place = 1 }
+      ∷ record { left = Term.Variable 17; right = Side.copy (Term.Variable 13); place = 2 }
       ∷ [];
   kept = [];
 }
@@ -46,6 +46,7 @@ unfolding answer_of flattened_of passed update Passes.member Passes.keep_if Pass
     Passes.copy_propagate_equations Passes.copy_propagate Passes.same_number Passes.dead Passes.alive Passes.eliminate_dead_equalities Passes.is_one
     Passes.is_zero Passes.when Passes.infix_op Passes.or_variable Passes.push_constraint_def Passes.copied Passes.flatten_expr_to_3ac Passes.cuts_of
     Passes.joined
+    at_place Passes.all_at Passes.placed
     Passes.flatten_def_to_3ac Passes.flatten_defs Passes.sides Passes.flatten_sides Passes.flatten_equations Passes.flatten_lists Passes.flatten_module_to_3ac
     Passes.passes Passes.cuttable Passes.cuttable_expr Passes.cuttable_defs Passes.cuttable_equations Passes.counted Passes.unless Passes.fitting Passes.cut_of
 is_cut = refl

@@ -5,3 +5,4 @@ pub mod Example
 pub mod Never
 pub mod Operators
 pub mod Ending
+pub mod Bare

@@ -15,6 +15,7 @@ use Rattle.field.specs.declared.InfixOp.TheVariants.{Divide, DivideZ, Multiply, 
 use Rattle.source.specs.Trees.{variable_p, Expr, binary, negate, constant, variable, letting, Module}
 use Rattle.flat.specs.Meaning.{update, on_values, negated}
 use Rattle.numbering.specs.Numbering.{found, same_text, named, registered}
+use Rattle.constraint.specs.Trees.{at_place}
 use Rattle.pass_trees.specs.Passes
 use Rattle.pass_trees.specs.Passes.{Outcome, cut, refused}
 use Rattle.eval_trees.proofs.Compute.{answer_of}
@@ -78,6 +79,7 @@ unfolding answer_of flattened_of passed update Passes.member Passes.keep_if Pass
     Passes.copy_propagate_equations Passes.copy_propagate Passes.same_number Passes.dead Passes.alive Passes.eliminate_dead_equalities Passes.is_one
     Passes.is_zero Passes.when Passes.infix_op Passes.or_variable Passes.push_constraint_def Passes.copied Passes.flatten_expr_to_3ac Passes.cuts_of
     Passes.joined
+    at_place Passes.all_at Passes.placed
     Passes.flatten_def_to_3ac Passes.flatten_defs Passes.sides Passes.flatten_sides Passes.flatten_equations Passes.flatten_lists Passes.flatten_module_to_3ac
     Passes.passes Passes.cuttable Passes.cuttable_expr Passes.cuttable_defs Passes.cuttable_equations Passes.counted Passes.unless Passes.fitting Passes.cut_of
 is-accepted = refl

@@ -1,2 +1,3 @@
 pub mod Flattened
 pub mod Statement
+pub mod Bare

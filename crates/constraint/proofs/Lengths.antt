@@ -21,13 +21,13 @@ unfolding term_words
 length-term (Term.Variable v) = refl
 length-term (Term.Constant c) = refl
 
-pub length-written : (q : Written) → length (written_words q) ≡ EQUALITY-WORDS
+pub length-written : (q : Written) (place : ℕ) → length (written_words q place) ≡ EQUALITY-WORDS
 unfolding written_words
-length-written q = simp length-append (omega (arith, length-term q.left, length-term q.first, length-term q.second))
+length-written q place = simp length-append (omega (arith, length-term q.left, length-term q.first, length-term q.second))
 
 pub length-equality : (q : Equality) → length (equality_words q) ≡ EQUALITY-WORDS
 unfolding equality_words
-length-equality q = length-written _
+length-equality q = length-written _ _
 
 pub length-equalities : (qs : List Equality) → length (equalities_words qs) ≡ EQUALITY-WORDS * length qs
 unfolding equalities_words

@@ -12,9 +12,9 @@ use Rattle.constraint.specs.declared.Term.{Term}
 use Rattle.constraint.specs.declared.Operation.{Operation}
 use Rattle.constraint.specs.declared.Equality.{Equality as Written}
 use Rattle.constraint.specs.declared.reading.Layout.{Layout}
-use Rattle.constraint.specs.Trees.{operation, first, second, written}
+use Rattle.constraint.specs.Trees.{operation, first, second, written_of}
 use Rattle.constraint.specs.Record.{COPY, EQUALITY-WORDS, NEGATE}
-use Rattle.constraint.specs.Reading.{next, equalities, equalities_offset, layout_of, term_at, side_for, operation_of, equality_for, equality_at, written_at}
+use Rattle.constraint.specs.Reading.{next, equalities, equalities_offset, layout_of, term_at, side_for, operation_of, equality_at, written_at}
 
 -- the parts of a layout that was read
 module _ (b : List ℕ) {l : Layout} (e : l ≡ layout_of b) where
@@ -38,7 +38,7 @@ module _ (b : List ℕ) (at k : ℕ) {l x y : Term} {n : ℕ} {o : Operation} (e
     (e1 : n ≡ word_at b (at + EQUALITY-WORDS * k + 2)) (e2 : x ≡ term_at b (at + EQUALITY-WORDS * k + 3)) (e : o ≡ operation_of n) where
   pub equality-infix : {p : InfixOp} → o ≡ Operation.Infix p → y ≡ term_at b (at + EQUALITY-WORDS * k + 5) →
       ◌≡◌ {A = Written} (record { left = l; operation = o; first = x; second = y }) (written_at b at k)
-  unfolding operation_of written_at equality_at written equality_for side_for pick operation first second
+  unfolding operation_of written_at equality_at written_of side_for pick operation first second
   equality-infix q e3 = by_number n
       (λ u. let w = rw (eq-eqb n NEGATE u) at e in cc)
       (λ u v. let w = rw (ne_eqb n NEGATE u, eq-eqb n COPY v) at e in cc)
@@ -46,7 +46,7 @@ module _ (b : List ℕ) (at k : ℕ) {l x y : Term} {n : ℕ} {o : Operation} (e
 
   pub equality-one : (o ≡ Operation.Negate) ⊎ (o ≡ Operation.Copy) → y ≡ Term.Variable 0 →
       ◌≡◌ {A = Written} (record { left = l; operation = o; first = x; second = y }) (written_at b at k)
-  unfolding operation_of written_at equality_at written equality_for side_for pick operation first second
+  unfolding operation_of written_at equality_at written_of side_for pick operation first second
   equality-one q e3 = by_number n
       (λ u. rw (e, e0, e2, e3, ← e1, eq-eqb n NEGATE u))
       (λ u v. rw (e, e0, e2, e3, ← e1, ne_eqb n NEGATE u, eq-eqb n COPY v))

@@ -15,13 +15,13 @@ use Rattle.flat.specs.Layout.{public_at, prover_at}
 pub use Rattle.flat.proofs.Standing.{Stands, stands-left, stands-right, at_place}
 pub use Rattle.flat.proofs.WriteBack.{root_below, next-below, next-words, ids-read, moved, tree-reads, definitions-back}
 use Rattle.constraint.specs.declared.Term.{Term}
-use Rattle.constraint.specs.Trees.{Side, Equality, ConstraintModule, operation, first, second, written}
+use Rattle.constraint.specs.Trees.{Side, Equality, ConstraintModule, operation, first, second, written_of}
 use Rattle.constraint.specs.Record.{number_word, term_words, operation_word, written_words, equality_words, equalities_words}
 use Rattle.constraint.specs.Record.{definitions_words, definitions_trees, header_words, constraint_words, constraint_bytes}
-use Rattle.constraint.specs.Record.{EQUALITY-WORDS, KEPT-WORDS}
+use Rattle.constraint.specs.Record.{EQUALITY-WORDS, KEPT-WORDS, PLACE-WORD}
 use Rattle.constraint.specs.Reading.{HEADER, next, publics, provers, equalities, kept, nodes}
 use Rattle.constraint.specs.Reading.{provers_offset, equalities_offset, kept_offset, nodes_offset, size}
-use Rattle.constraint.specs.Reading.{term_at, side_for, equality_for, equality_at, constraint_of}
+use Rattle.constraint.specs.Reading.{term_at, side_for, equality_at, place_at, constraint_of}
 use Rattle.constraint.specs.Reading.{SignedTerm, SignedSide, SignedEquality, SignedTree, ReadBack}
 use Rattle.constraint.proofs.Lengths.{length-term, length-equality, length-equalities, length-definitions, length-bytes}
 use Rattle.field.specs.Operators.{operator_number}
@@ -64,23 +64,28 @@ signed-second (Side.copy x) h = tt
 module _ (b : List ℕ) where
   equality-reads : (q : Equality) (at k : ℕ) → SignedTerm q.left → SignedSide q.right →
       Stands b (at + EQUALITY-WORDS * k) (equality_words q) → equality_at b at k ≡ q
-  unfolding equality_at equality_for equality_words written_words written
+  unfolding equality_at equality_words written_words written_of
   equality-reads q at k s t h =
       let i = at + EQUALITY-WORDS * k in
       let l = term_words q.left in
       let x = term_words (first q.right) in
-      let y = term_words (second q.right) in
+      let y = term_words (second q.right) ++ (q.place ∷ []) in
+      let z = term_words (second q.right) in
       let n = operation_word (operation q.right) in
       let m = length-term q.left in
       let r : Stands b (i + 2) (n ∷ (x ++ y)) = stands-right b l (n ∷ (x ++ y)) i (i + 2) (omega arith) h in
       let u : Stands b (i + 3) (x ++ y) = stands-right b (n ∷ []) (x ++ y) (i + 2) (i + 3) (omega arith) r in
+      let v : Stands b (i + 5) y = stands-right b x y (i + 3) (i + 5) (omega (arith, length-term (first q.right))) u in
       let e0 : term_at b i ≡ q.left = term-reads b q.left i s (stands-left b l (n ∷ (x ++ y)) i h) in
       let e1 : word_at b (i + 2) ≡ n = at_place b (n ∷ (x ++ y)) (i + 2) (i + 2) 0 (omega arith) (omega arith) r in
       let e2 : term_at b (i + 3) ≡ first q.right = term-reads b (first q.right) (i + 3) (signed-first q.right t) (stands-left b x y (i + 3) u) in
       let e3 : term_at b (i + 5) ≡ second q.right = term-reads b (second q.right) (i + 5) (signed-second q.right t)
-      (stands-right b x y (i + 3) (i + 5) (omega (arith, length-term (first q.right))) u) in
+      (stands-left b z (q.place ∷ []) (i + 5) v) in
+      let e4 : place_at b at k ≡ q.place =
+      at_place b (q.place ∷ []) (i + PLACE-WORD) (i + PLACE-WORD) 0 (omega arith) (omega arith)
+      (stands-right b z (q.place ∷ []) (i + 5) (i + PLACE-WORD) (omega (arith, length-term (second q.right))) v) in
       let e : side_for (word_at b (i + 2)) (term_at b (i + 3)) (term_at b (i + 5)) ≡ q.right = rw (e1, e2, e3) (side-reads q.right) in
-      λ j. record { left = e0 j; right = e j }
+      λ j. record { left = e0 j; right = e j; place = e4 j }
 
   equalities-read : (qs : List Equality) (at j : ℕ) → All SignedEquality qs →
       Stands b (at + EQUALITY-WORDS * j) (equalities_words qs) → rows (length qs) j (equality_at b at) ≡ qs

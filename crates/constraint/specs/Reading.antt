@@ -15,7 +15,7 @@ use Rattle.constraint.specs.declared.Operation.{Operation}
 use Rattle.constraint.specs.declared.Equality.{Equality as Written}
 use Rattle.constraint.specs.declared.reading.Layout.{Layout}
 use Rattle.constraint.specs.Trees.{Side, Equality, ConstraintModule, written}
-use Rattle.constraint.specs.Record.{constraint_bytes, COPY, EQUALITY-WORDS, KEPT-WORDS, NEGATE}
+use Rattle.constraint.specs.Record.{constraint_bytes, COPY, EQUALITY-WORDS, KEPT-WORDS, NEGATE, PLACE-WORD}
 
 -- ---- the layout
 
@@ -71,15 +71,15 @@ operation_of n = pick (eqb n NEGATE) Operation.Negate (pick (eqb n COPY) Operati
 unfoldable pub side_for : ℕ → Term → Term → Side
 side_for n x y = pick (eqb n NEGATE) (Side.negate x) (pick (eqb n COPY) (Side.copy x) (Side.infixed (operator_of n) x y))
 
-unfoldable pub equality_for : Term → ℕ → Term → Term → Equality
-equality_for left n x y = record { left = left; right = side_for n x y }
+abbrev pub place_at : List ℕ → ℕ → ℕ → ℕ
+place_at b at k = word_at b (at + EQUALITY-WORDS * k + PLACE-WORD)
 
 unfoldable pub equality_at : List ℕ → ℕ → ℕ → Equality
 equality_at b at k =
     let i = at + EQUALITY-WORDS * k in
-    equality_for (term_at b i) (word_at b (i + 2)) (term_at b (i + 3)) (term_at b (i + 5))
+    record { left = term_at b i; right = side_for (word_at b (i + 2)) (term_at b (i + 3)) (term_at b (i + 5)); place = place_at b at k }
 
--- the same as the code's struct
+-- the same as the code's struct, without its place
 unfoldable pub written_at : List ℕ → ℕ → ℕ → Written
 written_at b at k = written (equality_at b at k)
 

@@ -20,7 +20,11 @@ COPY = 10
 
 -- the words of an equality, of a kept definition, which is a flat record's, and of a term
 abbrev pub EQUALITY-WORDS : ℕ
-EQUALITY-WORDS = 7
+EQUALITY-WORDS = 8
+
+-- where among them its place stands, the last
+abbrev pub PLACE-WORD : ℕ
+PLACE-WORD = 7
 
 abbrev pub KEPT-WORDS : ℕ
 KEPT-WORDS = DEFINITION-WORDS
@@ -39,12 +43,12 @@ operation_word (Operation.Infix o) = operator_number o
 operation_word Operation.Negate = NEGATE
 operation_word Operation.Copy = COPY
 
--- "an equality is seven words: left term, operation, two terms"
-unfoldable pub written_words : Written → List ℕ
-written_words q = term_words q.left ++ (operation_word q.operation ∷ (term_words q.first ++ term_words q.second))
+-- "an equality is seven words: left term, operation, two terms", and "one word more, its last": its place
+unfoldable pub written_words : Written → ℕ → List ℕ
+written_words q place = term_words q.left ++ (operation_word q.operation ∷ (term_words q.first ++ (term_words q.second ++ (place ∷ []))))
 
 unfoldable pub equality_words : Equality → List ℕ
-equality_words q = written_words (written q)
+equality_words q = written_words (written q) q.place
 
 unfoldable pub equalities_words : List Equality → List ℕ
 equalities_words [] = []

@@ -12,9 +12,11 @@ pub data Side : Type 0 where
   negate : Term → Side
   copy : Term → Side
 
+-- `place`: that of the definition or the equation which it was cut from
 pub record Equality : Type 0 where
   pub left : Term
   pub right : Side
+  pub place : ℕ
 
 -- "kept definitions are those of prover variables only, uncut"
 pub record ConstraintModule : Type 0 where
@@ -24,7 +26,11 @@ pub record ConstraintModule : Type 0 where
   pub equalities : List Equality
   pub kept : List Definition
 
--- the equality struct of src/lib.rt: "an absent term is 0, 0", the words of variable 0
+-- an equality with another place
+unfoldable pub at_place : ℕ → Equality → Equality
+at_place p q = record { left = q.left; right = q.right; place = p }
+
+-- the equality struct of src/lib.rt, which has no place: "an absent term is 0, 0", the words of variable 0
 unfoldable pub operation : Side → Operation
 operation (Side.infixed o a b) = Operation.Infix o
 operation (Side.negate a) = Operation.Negate
@@ -40,5 +46,8 @@ second (Side.infixed o a b) = b
 second (Side.negate a) = Term.Variable 0
 second (Side.copy a) = Term.Variable 0
 
-unfoldable pub written : Equality → Written
-written q = record { left = q.left; operation = operation q.right; first = first q.right; second = second q.right }
+unfoldable pub written_of : Term → Side → Written
+written_of left right = record { left = left; operation = operation right; first = first right; second = second right }
+
+abbrev pub written : Equality → Written
+written q = written_of q.left q.right

@@ -6,7 +6,7 @@ pub mod reading;
 
 ghost use Rattle.std.specs.Prelude.{◌≡◌, ◌+◌, ◌*◌, ◌≤◌, length};
 ghost use Rattle.words.specs.Words.{set_words};
-ghost use Rattle.constraint.specs.Record.{EQUALITY-WORDS, TERM-WORDS, term_words, operation_word, written_words};
+ghost use Rattle.constraint.specs.Record.{EQUALITY-WORDS, PLACE-WORD, TERM-WORDS, term_words, operation_word, written_words};
 ghost use Rattle.constraint.specs.Reading.{operation_of};
 
 use field::InfixOp;
@@ -20,8 +20,10 @@ pub const HEADER: usize = flat_record::HEADER;
 
 pub const HEADER_BYTES: usize = flat_record::HEADER_BYTES;
 
-// The words of an equality and of a kept definition.
-pub const EQUALITY_WORDS: usize = 7;
+// The words of an equality, where among them its place stands, and the words of a kept definition.
+pub const EQUALITY_WORDS: usize = 8;
+
+pub const PLACE_WORD: usize = 7;
 
 pub const KEPT_WORDS: usize = DEFINITION_WORDS;
 
@@ -40,7 +42,7 @@ pub enum Operation {
     Copy,
 }
 
-// left = first OP second. Negate and copy have no second term: there it is Variable(0).
+// left = first OP second; its place goes beside it. Negate and copy have no second term: there it is Variable(0).
 // Kept as it is: a struct of three terms and the operation is the form that was asked for (docs/DECISIONS.md).
 #[derive(Clone, Copy, PartialEq, Eq, Debug)]
 pub struct Equality {
@@ -92,13 +94,14 @@ fn put_term(out: &mut [u8], at: usize, term: Term)
     put_words(out, at, words);
 }
 
-// An equality at word `at`.
-pub fn put_equality(out: &mut [u8], at: usize, equality: Equality)
+// An equality at word `at`, with its place.
+pub fn put_equality(out: &mut [u8], at: usize, equality: Equality, place: u32)
     requires { 4 * (at + EQUALITY-WORDS) ≤ length out.old }
-    ensures { out.new ≡ set_words out.old at (written_words equality) }
+    ensures { out.new ≡ set_words out.old at (written_words equality place) }
 {
     put_term(out, at, equality.left);
     put_word(out, at + 2, u32::from(equality.operation));
     put_term(out, at + 3, equality.first);
     put_term(out, at + 5, equality.second);
+    put_word(out, at + PLACE_WORD, place);
 }

@@ -2,9 +2,9 @@
 // stand as a flat record's do: `flat::entries::public_at`, `prover_at`, `definition_at`, `flat::node_at`.
 ghost use Rattle.std.specs.Prelude.{◌≡◌, ◌+◌, ◌*◌, ◌≤◌, length};
 ghost use Rattle.constraint.specs.Record.{EQUALITY-WORDS, TERM-WORDS};
-ghost use Rattle.constraint.specs.Reading.{HEADER, layout_of, term_at, written_at};
+ghost use Rattle.constraint.specs.Reading.{HEADER, layout_of, term_at, written_at, place_at};
 
-use super::{EQUALITY_WORDS, Equality, HEADER, KEPT_WORDS, Operation, Term};
+use super::{EQUALITY_WORDS, Equality, HEADER, KEPT_WORDS, Operation, PLACE_WORD, Term};
 use records::NODE_WORDS;
 use words::{count, signed, word_at};
 
@@ -68,7 +68,7 @@ fn term_at(s: &[u8], i: usize) -> Term
     }
 }
 
-// Equality k of those that start at word `at`: negate and copy leave the second term out.
+// Equality k of those that start at word `at`, without its place: negate and copy leave the second term out.
 pub fn equality_at(s: &[u8], at: usize, k: usize) -> Equality
     requires { 4 * (at + EQUALITY-WORDS * k + EQUALITY-WORDS) ≤ length s.now }
     ensures { result ≡ written_at s.now at k }
@@ -85,4 +85,12 @@ pub fn equality_at(s: &[u8], at: usize, k: usize) -> Equality
         first: term_at(s, base + 3),
         second,
     }
+}
+
+// The place of equality k of those that start at word `at`.
+pub fn place_at(s: &[u8], at: usize, k: usize) -> u32
+    requires { 4 * (at + EQUALITY-WORDS * k + EQUALITY-WORDS) ≤ length s.now }
+    ensures { result ≡ place_at s.now at k }
+{
+    word_at(s, at + EQUALITY_WORDS * k + PLACE_WORD)
 }

@@ -3,7 +3,7 @@ use Rattle.std.specs.Prelude.{◌≡◌, refl, List, [], ◌∷◌, ◌++◌, �
 use Rattle.field.specs.Element.{res, centre, elem}
 use Rattle.field.specs.declared.InfixOp.{InfixOp}
 use Rattle.constraint.specs.declared.Term.{Term}
-use Rattle.constraint.specs.Trees.{Side, ConstraintModule, operation, first, second, written}
+use Rattle.constraint.specs.Trees.{Side, ConstraintModule, operation, first, second, written_of}
 use Rattle.constraint_text.specs.Text.{decimal_from, decimal, number_text, term_text, sign_of, between}
 use Rattle.constraint_text.specs.Text.{side_text, equality_text, line_text, next_text, equalities_text, listing}
 
@@ -15,9 +15,9 @@ case_f =
       publics = [];
       provers = [];
       equalities =
-          record { left = Term.Variable 10; right = Side.infixed InfixOp.Add (Term.Variable 0) (Term.Constant (pos 1)) }
-          ∷ record { left = Term.Variable 2; right = Side.infixed InfixOp.Multiply (Term.Variable 10) (Term.Variable 0) }
-          ∷ record { left = Term.Variable 2; right = Side.copy (Term.Variable 1) }
+          record { left = Term.Variable 10; right = Side.infixed InfixOp.Add (Term.Variable 0) (Term.Constant (pos 1)); place = 0 }
+          ∷ record { left = Term.Variable 2; right = Side.infixed InfixOp.Multiply (Term.Variable 10) (Term.Variable 0); place = 0 }
+          ∷ record { left = Term.Variable 2; right = Side.copy (Term.Variable 1); place = 1 }
           ∷ [];
       kept = [];
     }
@@ -31,7 +31,7 @@ case_f-text =
 
 pub case_f-printed : listing case_f ≡ case_f-text
 unfolding decimal_from decimal number_text term_text sign_of between side_text equality_text line_text next_text equalities_text listing operation first
-    second written res centre elem
+    second written_of res centre elem
 case_f-printed = refl
 
 -- next 0; -5 = --5; v65535 = -v0; 0 = 1073741823 % -1073741823
@@ -42,11 +42,12 @@ others =
       publics = [];
       provers = [];
       equalities =
-          record { left = Term.Constant (negsuc 4); right = Side.negate (Term.Constant (negsuc 4)) }
-          ∷ record { left = Term.Variable 65535; right = Side.negate (Term.Variable 0) }
+          record { left = Term.Constant (negsuc 4); right = Side.negate (Term.Constant (negsuc 4)); place = 4294967295 }
+          ∷ record { left = Term.Variable 65535; right = Side.negate (Term.Variable 0); place = 0 }
           ∷ record {
             left = Term.Constant (pos 2147483647);
             right = Side.infixed InfixOp.Modulo (Term.Constant (pos 1073741823)) (Term.Constant (pos 1073741824));
+            place = 7;
           }
           ∷ [];
       kept = [];
@@ -61,5 +62,5 @@ others-text =
 
 pub others-printed : listing others ≡ others-text
 unfolding decimal_from decimal number_text term_text sign_of between side_text equality_text line_text next_text equalities_text listing operation first
-    second written res centre elem
+    second written_of res centre elem
 others-printed = refl

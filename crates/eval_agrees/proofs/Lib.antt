@@ -12,3 +12,4 @@ pub mod Closures
 pub mod Cycle
 pub mod Definitions
 pub mod Loops
+pub mod Placed

@@ -9,3 +9,4 @@ pub mod Refreshed
 pub mod Expands
 pub mod Begin
 pub mod Record
+pub mod Places

@@ -11,6 +11,7 @@ ghost use Rattle.records.specs.FlatRecord.{HEADER, IDS, LISTED, PUBLICS};
 ghost use Rattle.records.specs.Kinds.{NODE-WORDS};
 
 use eval_memory::Memory;
+use eval_places::Places;
 use flat::Layout;
 use flat::entries::{BYTES, Header, put_header};
 use records::NODE_WORDS;
@@ -60,13 +61,13 @@ fn write_provers(out: &mut FlatBytes, memory: &Memory, at: usize)
 
 // The whole record: how many bytes it has.
 #[tactic(auto, unfolding(crate::specs::Written::write_flat, crate::specs::Written::write_ids, flat::specs::Layout::layout_by))]
-pub fn write_flat(memory: &Memory, publics: &[u32], out: &mut FlatBytes) -> usize
+pub fn write_flat(memory: &Memory, places: &Places, publics: &[u32], out: &mut FlatBytes) -> usize
     requires { ((length publics.now ≤ PUBLICS) × (memory.now.state.provers ≤ LISTED))
         × ((memory.now.state.definitions ≤ LISTED) × (memory.now.state.equations ≤ LISTED)) }
     ensures { (out.new ≡ (write_flat memory.now.fixed memory.now.store.now
-        memory.now.rows memory.now.marks memory.now.state publics.now (length publics.now) out.old).bytes)
+        memory.now.rows memory.now.marks places.now.words memory.now.state publics.now (length publics.now) out.old).bytes)
         × (result ≡ 4 * (nodes_from memory.now.state (length publics.now) + NODE-WORDS
-        * (write_flat memory.now.fixed memory.now.store.now memory.now.rows memory.now.marks memory.now.state
+        * (write_flat memory.now.fixed memory.now.store.now memory.now.rows memory.now.marks places.now.words memory.now.state
         publics.now (length publics.now) out.old).nodes)) }
 {
     let s = memory.state;
@@ -88,7 +89,7 @@ pub fn write_flat(memory: &Memory, publics: &[u32], out: &mut FlatBytes) -> usiz
         at: layout.nodes_at,
         nodes: 0,
     };
-    writer.definitions(layout.definitions_at);
-    writer.equations(layout.equations_at);
+    writer.definitions(places, layout.definitions_at);
+    writer.equations(places, layout.equations_at);
     4 * (layout.nodes_at + NODE_WORDS * (writer.nodes as usize))
 }

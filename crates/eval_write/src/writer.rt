@@ -10,6 +10,7 @@ use eval_memory::Memory;
 use eval_memory::columns::Row;
 use eval_memory::nodes::part;
 use eval_memory::numbers::FLAT_NODES;
+use eval_places::{Column, Places};
 use flat::entries::{DEFINITION_WORDS, EQUATION_WORDS, put_definition, put_equation, put_node};
 use flat::narrow::narrow;
 use records::NODE_WORDS;
@@ -103,11 +104,11 @@ impl Writer<'_, '_> {
         }
     }
 
-    // The definitions' nodes, and their ids and roots from word `list` on.
-    #[tactic(auto, using(crate::proofs::Laws::lists), unfolding(crate::specs::Written::write_definition))]
-    pub fn definitions(&mut self, list: usize)
+    // The definitions' nodes, and their ids, roots and places from word `list` on.
+    #[tactic(auto, using(crate::proofs::Laws::lists), unfolding(crate::specs::Written::write_definition, eval_places::specs::Places::column_number))]
+    pub fn definitions(&mut self, places: &Places, list: usize)
         requires { (list ≤ LAST-DEFINITIONS-AT) × (self.old.memory.now.state.definitions ≤ LISTED) }
-        ensures { Wrote (write_definitions self.old.memory.now.fixed self.old.memory.now.store.now self.old.at self.old.memory.now.rows list
+        ensures { Wrote (write_definitions self.old.memory.now.fixed self.old.memory.now.store.now self.old.at self.old.memory.now.rows places.now.words list
             self.old.memory.now.state.definitions) self.old self.new }
     {
         let memory = self.memory;
@@ -116,15 +117,17 @@ impl Writer<'_, '_> {
             let at = list + DEFINITION_WORDS * (d as usize);
             let root = self.last();
             let out = &mut *self.out;
-            put_definition(out, at, memory.row(Row::DefinedId, d), root);
+            let emitter = places.place(Column::Definitions, d);
+            put_definition(out, at, memory.row(Row::DefinedId, d), root, emitter);
         }
     }
 
-    // The equations' nodes, and their roots from word `list` on.
-    #[tactic(auto, using(crate::proofs::Laws::lists), unfolding(crate::specs::Written::write_sides, crate::specs::Written::write_equation))]
-    pub fn equations(&mut self, list: usize)
+    // The equations' nodes, and their roots and places from word `list` on.
+    #[tactic(auto, using(crate::proofs::Laws::lists), // and an entry's place
+    unfolding(crate::specs::Written::write_sides, crate::specs::Written::write_equation, eval_places::specs::Places::column_number))]
+    pub fn equations(&mut self, places: &Places, list: usize)
         requires { (list ≤ LAST-EQUATIONS-AT) × (self.old.memory.now.state.equations ≤ LISTED) }
-        ensures { Wrote (write_equations self.old.memory.now.fixed self.old.memory.now.store.now self.old.at self.old.memory.now.rows list
+        ensures { Wrote (write_equations self.old.memory.now.fixed self.old.memory.now.store.now self.old.at self.old.memory.now.rows places.now.words list
             self.old.memory.now.state.equations) self.old self.new }
     {
         let memory = self.memory;
@@ -135,7 +138,8 @@ impl Writer<'_, '_> {
             let at = list + EQUATION_WORDS * (e as usize);
             let right = self.last();
             let out = &mut *self.out;
-            put_equation(out, at, left, right);
+            let emitter = places.place(Column::Equations, e);
+            put_equation(out, at, left, right, emitter);
         }
     }
 }

@@ -13,11 +13,11 @@ use Rattle.flat.specs.Record.{has_few, ids_hold, every, total, rows, pick, measu
 use Rattle.flat.specs.Record.{equation_at, module_of, all_below, rising, definitions_fit, equations_fit, node_fits, nodes_fit, same}
 use Rattle.flat.specs.Record.{used_by, by_nodes, by_definitions, by_equations, used_once, trees_hold, ordered, rules, flat_of, Read}
 
--- "next id 10, no publics, no prover ids, definition 2 = (v0 + 1) * v0, equation v2 = v1"
+-- "next id 10, no publics, no prover ids, definition 2 = (v0 + 1) * v0, equation v2 = v1", the places 3 and 8
 unfoldable pub record_f : List ℕ
 record_f =
     bytes_of
-    (10 ∷ 0 ∷ 0 ∷ 1 ∷ 1 ∷ 7 ∷ 2 ∷ 4 ∷ 5 ∷ 6
+    (10 ∷ 0 ∷ 0 ∷ 1 ∷ 1 ∷ 7 ∷ 2 ∷ 4 ∷ 3 ∷ 5 ∷ 6 ∷ 8
     ∷ 8 ∷ 0 ∷ 0 ∷ 0
     ∷ 7 ∷ 1 ∷ 0 ∷ 0
     ∷ 4 ∷ 0 ∷ 1 ∷ 3
@@ -32,8 +32,9 @@ module_f = record {
   next = 10;
   publics = [];
   provers = [];
-  definitions = record { id = 2; right = Flat.infixed Multiply (Flat.infixed Add (Flat.variable 0) (Flat.constant (pos 1))) (Flat.variable 0) } ∷ [];
-  equations = record { left = Flat.variable 2; right = Flat.variable 1 } ∷ [];
+  definitions =
+      record { id = 2; right = Flat.infixed Multiply (Flat.infixed Add (Flat.variable 0) (Flat.constant (pos 1))) (Flat.variable 0); place = 3 } ∷ [];
+  equations = record { left = Flat.variable 2; right = Flat.variable 1; place = 8 } ∷ [];
 }
 
 pub case-F : flat_of record_f ≡ Read.module-of module_f
@@ -43,7 +44,7 @@ unfolding record_f module_f word_at bytes_of defines every_id every total rows p
     trees_hold ordered rules flat_of
 case-F = refl
 
-pub case-short : flat_of (take 151 record_f) ≡ Read.refused Refusal.FlatLength
+pub case-short : flat_of (take 159 record_f) ≡ Read.refused Refusal.FlatLength
 unfolding record_f word_at bytes_of pick has_few layout_of measured flat_of
 case-short = refl
 

@@ -10,29 +10,35 @@ use Rattle.flat.proofs.Standing.{Stands, at_place}
 
 -- ---- how wide
 
-pub length-definition : (id node : ℕ) → length (definition_words id node) ≡ DEFINITION-WORDS
+pub length-definition : (id node place : ℕ) → length (definition_words id node place) ≡ DEFINITION-WORDS
 unfolding definition_words
-length-definition id node = refl
+length-definition id node place = refl
 
-pub length-equation : (left right : ℕ) → length (equation_words left right) ≡ EQUATION-WORDS
+pub length-equation : (left right place : ℕ) → length (equation_words left right place) ≡ EQUATION-WORDS
 unfolding equation_words
-length-equation left right = refl
+length-equation left right place = refl
 
 -- ---- read
 
 module _ (b : List ℕ) (at j i : ℕ) where
-  pub definition-reads : (id node : ℕ) → i ≡ at + DEFINITION-WORDS * j → Stands b i (definition_words id node)
-      → ((definition_entry b at j).id ≡ id) × ((definition_entry b at j).node ≡ node)
+  pub definition-reads : (id node place : ℕ) → i ≡ at + DEFINITION-WORDS * j → Stands b i (definition_words id node place)
+      → ((definition_entry b at j).id ≡ id) × ((definition_entry b at j).node ≡ node) × ((definition_entry b at j).place ≡ place)
   unfolding definition_words
-  definition-reads id node here h =
-      let ws = definition_words id node in
-      let place = at + DEFINITION-WORDS * j in
-      (at_place b ws i place 0 (omega arith) (omega arith) h, at_place b ws i (place + 1) 1 (omega arith) (omega arith) h)
+  definition-reads id node place here h =
+      let ws = definition_words id node place in
+      let first = at + DEFINITION-WORDS * j in (
+        at_place b ws i first 0 (omega arith) (omega arith) h,
+        at_place b ws i (first + 1) 1 (omega arith) (omega arith) h,
+        at_place b ws i (first + 2) 2 (omega arith) (omega arith) h,
+      )
 
-  pub equation-reads : (left right : ℕ) → i ≡ at + EQUATION-WORDS * j → Stands b i (equation_words left right)
-      → ((equation_entry b at j).left ≡ left) × ((equation_entry b at j).right ≡ right)
+  pub equation-reads : (left right place : ℕ) → i ≡ at + EQUATION-WORDS * j → Stands b i (equation_words left right place)
+      → ((equation_entry b at j).left ≡ left) × ((equation_entry b at j).right ≡ right) × ((equation_entry b at j).place ≡ place)
   unfolding equation_words
-  equation-reads left right here h =
-      let ws = equation_words left right in
-      let place = at + EQUATION-WORDS * j in
-      (at_place b ws i place 0 (omega arith) (omega arith) h, at_place b ws i (place + 1) 1 (omega arith) (omega arith) h)
+  equation-reads left right place here h =
+      let ws = equation_words left right place in
+      let first = at + EQUATION-WORDS * j in (
+        at_place b ws i first 0 (omega arith) (omega arith) h,
+        at_place b ws i (first + 1) 1 (omega arith) (omega arith) h,
+        at_place b ws i (first + 2) 2 (omega arith) (omega arith) h,
+      )

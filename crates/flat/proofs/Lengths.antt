@@ -37,7 +37,7 @@ pub length-definitions : (ds : List Definition) (base : ℕ) → length (definit
 unfolding definitions_words
 length-definitions [] base = refl
 length-definitions (d ∷ ds) base =
-    simp length-append (omega (arith, length-definition d.id (root_from base d.right), length-definitions ds (next_from base d.right)))
+    simp length-append (omega (arith, length-definition d.id (root_from base d.right) d.place, length-definitions ds (next_from base d.right)))
 
 pub length-definitions-trees : (ds : List Definition) (base : ℕ) → length (definitions_trees base ds) ≡ 4 * definitions_nodes ds
 unfolding definitions_trees definitions_nodes
@@ -61,7 +61,7 @@ unfolding definitions_words definitions_nodes
 definitions-append [] ys base = let e : base + 0 ≡ base = omega arith in rw e
 definitions-append (d ∷ xs) ys base =
     rw (definitions-append xs ys (next_from base d.right), next-plus base d (definitions_nodes xs))
-    (sym (append_assoc (definition_words d.id (root_from base d.right)) (definitions_words (next_from base d.right) xs) _))
+    (sym (append_assoc (definition_words d.id (root_from base d.right) d.place) (definitions_words (next_from base d.right) xs) _))
 
 pub definitions-trees-append : (xs ys : List Definition) (base : ℕ)
     → definitions_trees base (xs ++ ys) ≡ definitions_trees base xs ++ definitions_trees (base + definitions_nodes xs) ys
@@ -77,7 +77,7 @@ unfolding equations_words
 length-equations [] base = refl
 length-equations (e ∷ es) base =
     let middle = next_from base e.left in
-    let one = length-equation (root_from base e.left) (root_from middle e.right) in
+    let one = length-equation (root_from base e.left) (root_from middle e.right) e.place in
     simp length-append (omega (arith, one, length-equations es (next_from middle e.right)))
 
 pub length-equations-trees : (es : List Equation) (base : ℕ) → length (equations_trees base es) ≡ 4 * equations_nodes es

@@ -14,3 +14,9 @@ left_is q = ap (λ (e : EquationEntry). e.left) q
 
 pub right_is : {e f : EquationEntry} → e ≡ f → e.right ≡ f.right
 right_is q = ap (λ (e : EquationEntry). e.right) q
+
+pub place_is : {d e : DefinitionEntry} → d ≡ e → d.place ≡ e.place
+place_is q = ap (λ (d : DefinitionEntry). d.place) q
+
+pub equation_place-is : {d e : EquationEntry} → d ≡ e → d.place ≡ e.place
+equation_place-is q = ap (λ (d : EquationEntry). d.place) q

@@ -10,17 +10,17 @@ use Rattle.records.specs.FlatRecord.{HEADER, LISTED, NODES, PUBLICS}
 use Rattle.records.specs.Kinds.{NODE-WORDS}
 pub use Rattle.records.specs.Nodes.{node_entry}
 
--- the words of a definition (id, node) and of an equation (node, node)
+-- the words of a definition (id, node, place) and of an equation (node, node, place)
 abbrev pub DEFINITION-WORDS : ℕ
-DEFINITION-WORDS = 2
+DEFINITION-WORDS = 3
 
 abbrev pub EQUATION-WORDS : ℕ
-EQUATION-WORDS = 2
+EQUATION-WORDS = 3
 
 -- ---- the header and the places of the lists
 
 -- "Words: next id, counts of publics, prover ids, definitions, equations, nodes; public ids; prover ids; definitions (id, node); equations (node, node);
--- nodes"
+-- nodes"; definitions and equations with "one word more, its last: the place of its statement in the source record"
 module _ (b : List ℕ) where
   abbrev pub next : ℕ
   next = word_at b 0
@@ -125,10 +125,14 @@ abbrev pub prover_at : List ℕ → ℕ → ℕ → ℕ
 prover_at b at k = word_at b (at + k)
 
 abbrev pub definition_entry : List ℕ → ℕ → ℕ → DefinitionEntry
-definition_entry b at k = record { id = word_at b (at + DEFINITION-WORDS * k); node = word_at b (at + DEFINITION-WORDS * k + 1) }
+definition_entry b at k =
+    let i = at + DEFINITION-WORDS * k in
+    record { id = word_at b i; node = word_at b (i + 1); place = word_at b (i + 2) }
 
 abbrev pub equation_entry : List ℕ → ℕ → ℕ → EquationEntry
-equation_entry b at k = record { left = word_at b (at + EQUATION-WORDS * k); right = word_at b (at + EQUATION-WORDS * k + 1) }
+equation_entry b at k =
+    let i = at + EQUATION-WORDS * k in
+    record { left = word_at b i; right = word_at b (i + 1); place = word_at b (i + 2) }
 
 -- what a function makes of a node's four words: kind, a, b, c
 unfoldable pub node_at : {A : Type 0} → List ℕ → ℕ → ℕ → (ℕ → ℕ → ℕ → ℕ → A) → A
@@ -142,11 +146,11 @@ node_at b at k f =
 unfoldable pub header_words : ℕ → ℕ → ℕ → ℕ → ℕ → ℕ → List ℕ
 header_words next publics provers first second nodes = next ∷ publics ∷ provers ∷ first ∷ second ∷ nodes ∷ []
 
-unfoldable pub definition_words : ℕ → ℕ → List ℕ
-definition_words id node = id ∷ node ∷ []
+unfoldable pub definition_words : ℕ → ℕ → ℕ → List ℕ
+definition_words id node place = id ∷ node ∷ place ∷ []
 
-unfoldable pub equation_words : ℕ → ℕ → List ℕ
-equation_words left right = left ∷ right ∷ []
+unfoldable pub equation_words : ℕ → ℕ → ℕ → List ℕ
+equation_words left right place = left ∷ right ∷ place ∷ []
 
 -- "nodes of four words (kind, a, b, c)": 4 infix(a, b, operator c), 5 negate(a), 7 constant a, 8 variable a; "unused words are 0"
 unfoldable pub node_words : ℕ → ℕ → ℕ → ℕ → List ℕ

@@ -1,4 +1,5 @@
 pub mod Trees
+pub mod Places
 pub mod Layout
 pub mod Record
 pub mod Rules

@@ -56,11 +56,14 @@ tree b at (suc n) k = elim (eqb k n) [ true ↦ grown (tree b at n) (node_of b a
 -- ---- the module
 
 unfoldable pub definition_at : List ℕ → ℕ → ℕ → ℕ → ℕ → Definition
-definition_at b at trees_at count j = record { id = (definition_entry b at j).id; right = tree b trees_at count (definition_entry b at j).node }
+definition_at b at trees_at count j =
+    let d = definition_entry b at j in
+    record { id = d.id; right = tree b trees_at count d.node; place = d.place }
 
 unfoldable pub equation_at : List ℕ → ℕ → ℕ → ℕ → ℕ → Equation
 equation_at b at trees_at count j =
-    record { left = tree b trees_at count (equation_entry b at j).left; right = tree b trees_at count (equation_entry b at j).right }
+    let e = equation_entry b at j in
+    record { left = tree b trees_at count e.left; right = tree b trees_at count e.right; place = e.place }
 
 unfoldable pub module_of : List ℕ → FlatModule
 module_of b = record {

@@ -9,13 +9,16 @@ pub data Flat : Type 0 where
   constant : ℤ → Flat
   variable : ℕ → Flat
 
+-- `place`: that of the statement of the source record it comes from; in a lent record any word
 pub record Definition : Type 0 where
   pub id : ℕ
   pub right : Flat
+  pub place : ℕ
 
 pub record Equation : Type 0 where
   pub left : Flat
   pub right : Flat
+  pub place : ℕ
 
 pub record FlatModule : Type 0 where
   pub next : ℕ

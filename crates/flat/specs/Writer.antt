@@ -32,7 +32,7 @@ nodes_from base (Flat.variable v) = node_words VARIABLE v 0 0
 -- definitions in their order, and their nodes, where the first has the index `base`: of a flat record, and the kept ones of a constraint record
 unfoldable pub definitions_words : ℕ → List Definition → List ℕ
 definitions_words base [] = []
-definitions_words base (d ∷ ds) = definition_words d.id (root_from base d.right) ++ definitions_words (next_from base d.right) ds
+definitions_words base (d ∷ ds) = definition_words d.id (root_from base d.right) d.place ++ definitions_words (next_from base d.right) ds
 
 unfoldable pub definitions_trees : ℕ → List Definition → List ℕ
 definitions_trees base [] = []
@@ -43,7 +43,7 @@ unfoldable pub equations_words : ℕ → List Equation → List ℕ
 equations_words base [] = []
 equations_words base (e ∷ es) =
     let middle = next_from base e.left in
-    equation_words (root_from base e.left) (root_from middle e.right) ++ equations_words (next_from middle e.right) es
+    equation_words (root_from base e.left) (root_from middle e.right) e.place ++ equations_words (next_from middle e.right) es
 
 unfoldable pub equations_trees : ℕ → List Equation → List ℕ
 equations_trees base [] = []
@@ -52,7 +52,7 @@ equations_trees base (e ∷ es) =
     nodes_from base e.left ++ (nodes_from middle e.right ++ equations_trees (next_from middle e.right) es)
 
 -- "Words: next id, counts of publics, prover ids, definitions, equations, nodes; public ids; prover ids; definitions (id, node); equations (node, node);
--- nodes"
+-- nodes"; definitions and equations with their place
 unfoldable pub flat_words : FlatModule → List ℕ
 flat_words m =
     header_words m.next (length m.publics) (length m.provers) (length m.definitions) (length m.equations) (module_nodes m)

@@ -12,9 +12,9 @@ use records::nodes::NodeEntry;
 use words::{count, put_words, word_at};
 
 // The words of a definition and of an equation.
-pub const DEFINITION_WORDS: usize = 2;
+pub const DEFINITION_WORDS: usize = 3;
 
-pub const EQUATION_WORDS: usize = 2;
+pub const EQUATION_WORDS: usize = 3;
 
 // The longest record: the most of each list.
 const MOST_DEFINITIONS: usize = DEFINITION_WORDS * LISTED;
@@ -24,18 +24,20 @@ const MOST_EQUATIONS: usize = EQUATION_WORDS * LISTED;
 pub const BYTES: usize = 4
     * (HEADER + PUBLICS + LISTED + MOST_DEFINITIONS + MOST_EQUATIONS + NODE_WORDS * NODES);
 
-// A definition: its id, and the root of its right side.
+// A definition: its id, the root of its right side, and the place of its statement.
 #[derive(Clone, Copy)]
 pub struct DefinitionEntry {
     pub id: u32,
     pub node: usize,
+    pub place: u32,
 }
 
-// An equation: the roots of its sides.
+// An equation: the roots of its sides, and the place of its statement.
 #[derive(Clone, Copy)]
 pub struct EquationEntry {
     pub left: usize,
     pub right: usize,
+    pub place: u32,
 }
 
 // A header: the next id, the counts of publics and prover ids, of the two lists behind them, and of nodes.
@@ -74,6 +76,7 @@ pub fn definition_at(s: &[u8], at: usize, k: usize) -> DefinitionEntry
     DefinitionEntry {
         id: word_at(s, base),
         node: count(s, base + 1),
+        place: word_at(s, base + 2),
     }
 }
 
@@ -86,6 +89,7 @@ pub fn equation_at(s: &[u8], at: usize, k: usize) -> EquationEntry
     EquationEntry {
         left: count(s, base),
         right: count(s, base + 1),
+        place: word_at(s, base + 2),
     }
 }
 
@@ -106,24 +110,24 @@ pub fn put_header(out: &mut [u8], header: Header)
     put_words(out, 0, [next, publics, provers, first, second, nodes]);
 }
 
-// A definition at word `at`: its id and its root.
-// Kept as it is: two words, and no DefinitionEntry, whose node is an index of any size; it would have to be below 4294967296 then.
+// A definition at word `at`: its id, its root and its place.
+// Kept as it is: three words, and no DefinitionEntry, whose node is an index of any size; it would have to be below 4294967296 then.
 #[tactic(auto, unfolding(crate::specs::Layout::definition_words))]
-pub fn put_definition(out: &mut [u8], at: usize, id: u32, node: u32)
+pub fn put_definition(out: &mut [u8], at: usize, id: u32, node: u32, place: u32)
     requires { 4 * (at + DEFINITION-WORDS) ≤ length out.old }
-    ensures { out.new ≡ set_words out.old at (definition_words id node) }
+    ensures { out.new ≡ set_words out.old at (definition_words id node place) }
 {
-    put_words(out, at, [id, node]);
+    put_words(out, at, [id, node, place]);
 }
 
-// An equation at word `at`: the roots of its sides.
-// Kept as it is: a form for this and put_definition is no plainer, since each names what its two words are; both are calls of put_words.
+// An equation at word `at`: the roots of its sides, and its place.
+// Kept as it is: a form for this and put_definition is no plainer, since each names what its three words are; both are calls of put_words.
 #[tactic(auto, unfolding(crate::specs::Layout::equation_words))]
-pub fn put_equation(out: &mut [u8], at: usize, left: u32, right: u32)
+pub fn put_equation(out: &mut [u8], at: usize, left: u32, right: u32, place: u32)
     requires { 4 * (at + EQUATION-WORDS) ≤ length out.old }
-    ensures { out.new ≡ set_words out.old at (equation_words left right) }
+    ensures { out.new ≡ set_words out.old at (equation_words left right place) }
 {
-    put_words(out, at, [left, right]);
+    put_words(out, at, [left, right, place]);
 }
 
 // A node at word `at`.

@@ -78,7 +78,7 @@ written-read-back b out len n e =
     ap constraint_of w.bytes ∙ read_back w.list (flattened-signed b len w.list w.is_cut) in
     (w.is_cut ∙ ap cut (sym back), ap constraint_bytes back ∙ sym w.bytes)
 
-module-flattened :
+pub module-flattened :
     (b : List ℕ) (len : ℕ) (m : Module) → source_of b ≡ Read.module-of m →
     {c : ConstraintModule} → flattened b len ≡ cut c → flattened_of (capacity_of len) m ≡ cut c
 unfolding flattened flattened_read

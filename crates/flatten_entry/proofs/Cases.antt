@@ -21,7 +21,7 @@ use Rattle.source.specs.Record.{expression_of, pattern_of, link_of, grown, tree,
 use Rattle.source.specs.Record
 use Rattle.flat.specs.Meaning.{update}
 use Rattle.constraint.specs.declared.Term.{Term}
-use Rattle.constraint.specs.Trees.{Side, Equality, ConstraintModule}
+use Rattle.constraint.specs.Trees.{at_place, Side, Equality, ConstraintModule}
 use Rattle.pass_trees.specs.Passes
 use Rattle.pass_trees.specs.Passes.{Outcome, cut, cut_of}
 use Rattle.pass_trees.specs.Cases.{case_f, case_f-cut}
@@ -43,8 +43,9 @@ abbrev pub ◌gives◌ : Worked → Worked → Case
 a gives b = record { worked = a; answer = b }
 
 infix 70 ◌gives◌
+-- of the first statement
 abbrev pub ◌becomes◌ : Term → Side → Equality
-t becomes s = record { left = t; right = s }
+t becomes s = record { left = t; right = s; place = 0 }
 
 infix 70 ◌becomes◌
 -- def y = 1 / x
@@ -89,7 +90,7 @@ product-list = record {
   equalities =
       Term.Variable 13 becomes Side.infixed Add (Term.Variable 10) (Term.Constant (pos 1))
       ∷ Term.Variable 14 becomes Side.infixed Multiply (Term.Variable 13) (Term.Variable 10)
-      ∷ Term.Variable 14 becomes Side.copy (Term.Variable 9)
+      ∷ record { left = Term.Variable 14; right = Side.copy (Term.Variable 9); place = 2 }
       ∷ [];
   kept = [];
 }
@@ -135,7 +136,8 @@ unfolding answer_of flattened flattened_read flattened_of passed capacity_of upd
     Passes.classify_defs Passes.follow Passes.walk Passes.to_expr Passes.copy_propagate_expr Passes.substituting Passes.copy_propagate_def Passes.after_def
     Passes.copy_propagate_defs Passes.after_defs Passes.copy_propagate_equations Passes.copy_propagate Passes.same_number Passes.dead Passes.alive
     Passes.eliminate_dead_equalities Passes.is_one Passes.is_zero Passes.when Passes.infix_op Passes.or_variable Passes.push_constraint_def Passes.copied
-    Passes.flatten_expr_to_3ac Passes.cuts_of Passes.joined Passes.flatten_def_to_3ac Passes.flatten_defs Passes.sides Passes.flatten_sides
+    Passes.flatten_expr_to_3ac Passes.cuts_of Passes.joined at_place Passes.all_at Passes.placed
+    Passes.flatten_def_to_3ac Passes.flatten_defs Passes.sides Passes.flatten_sides
     Passes.flatten_equations Passes.flatten_lists Passes.flatten_module_to_3ac Passes.passes Passes.cuttable Passes.cuttable_expr Passes.cuttable_defs
     Passes.cuttable_equations Passes.counted Passes.unless Passes.fitting Passes.cut_of word_at bytes_of every total rows pick Layout.counted listed
     offset_of length_of end_of printed name_fits names_fit same_bytes same_name name_new names_differ name_of operator_of infix_for entry_for entry_of

@@ -76,12 +76,12 @@ is_cut = ap (λ (ws : List Worked). outcome_of (get_or ws 12 (list (refused 0)))
     outcome_of (element a) = refused 0
     outcome_of (list o) = o
 
--- 6 words of header, 1 public, 3 equalities of 7 words
-is-long : length (constraint_bytes product-list) ≡ 112
+-- 6 words of header, 1 public, 3 equalities of 8 words
+is-long : length (constraint_bytes product-list) ≡ 124
 unfolding definitions_nodes
 is-long = omega (arith, length-bytes product-list)
 
-is-written : (out : List ℕ) → 112 ≤ length out → answer_for (length out) (flattened product 1048560) ≡ Ok 112
+is-written : (out : List ℕ) → 124 ≤ length out → answer_for (length out) (flattened product 1048560) ≡ Ok 124
 unfolding answer_for Flat.pick
 is-written out l =
     ap (answer_for (length out)) is_cut ∙ rw (le-leb (length (constraint_bytes product-list)) (length out) (omega (arith, is-long))) (ap Ok is-long)
@@ -94,8 +94,8 @@ not-zero ρ c h =
     let up = add-answer P (ρ 2) (elem P (pos 1)) in
     ((((tt, tt, (_, up)), tt, rw up (_, multiply-answer P _ (ρ 2))), ((tt, tt, quotient), tt)), ((tt, tt), tt))
 
-pub example : (out : List ℕ) → 112 ≤ length out → (ρ : ℕ → ℤ) → ((x : ℕ) → elem P (ρ x) ≡ ρ x) → (Some (ρ 2) ≡ Some (pos 0) → ⊥)
-    → Agrees module-text (constraint_of (take 112 (output_for out (flattened product 1048560)))) ρ
+pub example : (out : List ℕ) → 124 ≤ length out → (ρ : ℕ → ℤ) → ((x : ℕ) → elem P (ρ x) ≡ ρ x) → (Some (ρ 2) ≡ Some (pos 0) → ⊥)
+    → Agrees module-text (constraint_of (take 124 (output_for out (flattened product 1048560)))) ρ
 example out l ρ elements h =
-    let agrees = flatten-agrees product out 1048560 112 module-text (is-written out l) is_read (plain-has-plain-body module-text is-plain) in
+    let agrees = flatten-agrees product out 1048560 124 module-text (is-written out l) is_read (plain-has-plain-body module-text is-plain) in
     agrees.1 ρ elements (not-zero ρ (elements 2) h)

@@ -1,4 +1,5 @@
 pub mod Buffers
 pub mod Flatten
 pub mod Statement
+pub mod Places
 pub mod Ending

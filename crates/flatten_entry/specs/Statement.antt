@@ -63,6 +63,6 @@ LongAsFront = (b : List ℕ) (len n : ℕ) → LONGEST-SOURCE < n → flattened 
 abbrev pub LargeAsMost : Type 0
 LargeAsMost = (b : List ℕ) (len : ℕ) → STORE-BYTES ≤ len → flattened b len ≡ flattened b STORE-BYTES
 
--- and no constraint record is longer than 1,016,088 bytes: an output of so many is never too short
+-- and no constraint record is longer than 786,712 bytes: an output of so many is never too short
 abbrev pub LongestRecord : Type 0
 LongestRecord = (b : List ℕ) (len : ℕ) (c : ConstraintModule) → flattened b len ≡ cut c → length (constraint_bytes c) ≤ OUTPUT-BYTES

@@ -11,7 +11,7 @@ use Rattle.flat.specs.Record.{module_of}
 use Rattle.constraint.specs.declared.Term.{Term}
 use Rattle.pass_trees.specs.declared.Usage.{Usage}
 use Rattle.pass_trees.specs.Passes.{member, keep_if, those, is_never, usage, Substitutions, copy_propagate_def}
-use Rattle.pass_trees.specs.Passes.{copy_propagate_defs, Cuts, cuts_of, joined, flatten_def_to_3ac, flatten_defs}
+use Rattle.pass_trees.specs.Passes.{copy_propagate_defs, Cuts, cuts_of, joined, placed, flatten_def_to_3ac, flatten_defs}
 use Rattle.pass_trees.proofs.Loops.{copies-append, defs-append}
 use Rattle.pass_classify.proofs.Whole.{used-first, says-used, says-prover}
 use Rattle.pass_classify.specs.Arrays.{usage_of, marked, Classified}
@@ -28,9 +28,9 @@ use Rattle.pass_3ac.proofs.Joining.{place-next, puts_none, puts-tree, puts-join,
 
 -- ---- one definition
 
-module _ (b : List ℕ) (k : ℕ) (s : Substitutions) (id : ℕ) (e : Flat) (n : ℕ) where
+module _ (b : List ℕ) (k : ℕ) (s : Substitutions) (id : ℕ) (e : Flat) (place n : ℕ) where
   abbrev the : Definition
-  the = record { id = id; right = e }
+  the = record { id = id; right = e; place = place }
 
   used-not : is_never (usage (module_of b) id) ≡ true → used_of b (the ∷ []) ≡ []
   unfolding used_of those keep_if
@@ -53,13 +53,13 @@ module _ (b : List ℕ) (k : ℕ) (s : Substitutions) (id : ℕ) (e : Flat) (n :
 
   -- counted
   pub cut-counted : is_never (usage (module_of b) id) ≡ false → member id (provers_of b) ≡ false
-      → defs_cut b k s (the ∷ []) n ≡ cuts_of (tree_cut (Some (Term.Variable id)) k s e n)
-  unfolding defs_cut copy_propagate_defs copy_propagate_def flatten_defs flatten_def_to_3ac tree_cut option_of
+      → defs_cut b k s (the ∷ []) n ≡ cuts_of (tree_cut place (Some (Term.Variable id)) k s e n)
+  unfolding defs_cut copy_propagate_defs copy_propagate_def flatten_defs flatten_def_to_3ac placed cuts_of tree_cut option_of
   cut-counted h p = rw (used-so h, p) (joined-none _)
 
-  few-tree : Few (cuts_of (tree_cut (Some (Term.Variable id)) k s e n)) (tree_nodes e) n
+  few-tree : Few (cuts_of (tree_cut place (Some (Term.Variable id)) k s e n)) (tree_nodes e) n
   unfolding cuts_of
-  few-tree = record { equalities = cut-few k s e n _; ids = cut-ids k s e n _ }
+  few-tree = record { equalities = cut-few place k s e n _; ids = cut-ids place k s e n _ }
 
   few-one : (u p : Bool) → is_never (usage (module_of b) id) ≡ u → member id (provers_of b) ≡ p → Few (defs_cut b k s (the ∷ []) n) (tree_nodes e) n
   few-one true p h q = rw (cut-unused h) (few-less _ (few-none n) (omega arith))
@@ -84,7 +84,7 @@ module _ (b : List ℕ) (k : ℕ) where
   pub few-defs : (s : Substitutions) (ds : List Definition) (n : ℕ) → Few (defs_cut b k s ds n) (definitions_nodes ds) n
   unfolding definitions_nodes
   few-defs s [] n = rw (defs-none s n) (few-none n)
-  few-defs s (d ∷ ds) n = rw (defs-first s d ds n) (few-join _ _ (few-def b k s d.id d.right n) (few-defs (defs_after b k s (d ∷ [])) ds _))
+  few-defs s (d ∷ ds) n = rw (defs-first s d ds n) (few-join _ _ (few-def b k s d.id d.right d.place n) (few-defs (defs_after b k s (d ∷ [])) ds _))
 
 -- ---- what is left of cut definitions: the body, the answer, the substitutions
 
@@ -120,29 +120,33 @@ room-defs b k ds m m' {n = n} p l h = room-puts (defs_cut b k (subst_of m) ds n)
 
 -- ---- the ways through one definition
 
-module _ {b : List ℕ} {us : List Usage} {ps : List Bool} (c : Classified b us ps) (k : ℕ) (m : List Substitute) (body : List ℕ) (at n id : ℕ) (e : Flat) where
+module _ {b : List ℕ} {us : List Usage} {ps : List Bool} (c : Classified b us ps) (k : ℕ) (m : List Substitute) (body : List ℕ)
+    (at n id : ℕ) (e : Flat) (place : ℕ) where
   abbrev Leaving : List Substitute → List ℕ → Place → Type 0
-  Leaving m' body' r = DefsPut b k (record { id = id; right = e } ∷ []) m m' body body' at n r
+  Leaving m' body' r = DefsPut b k (record { id = id; right = e; place = place } ∷ []) m m' body body' at n r
 
-  skipped : defs_cut b k (subst_of m) (record { id = id; right = e } ∷ []) n ≡ record { next = n; equalities = [] } →
-      m ≡ put_definitions k m (counted_of b (record { id = id; right = e } ∷ [])) → Leaving m body (record { next = n; at = at })
+  skipped : defs_cut b k (subst_of m) (record { id = id; right = e; place = place } ∷ []) n ≡ record { next = n; equalities = [] } →
+      m ≡ put_definitions k m (counted_of b (record { id = id; right = e; place = place } ∷ [])) → Leaving m body (record { next = n; at = at })
   skipped q a = let p = puts_none body at n in (rw q p.0, rw q p.1, a)
 
   pub way-unused : is_never (usage_of us id) ≡ true → Leaving m body (record { next = n; at = at })
-  way-unused h = let u = says-used c id h in skipped (cut-unused b k (subst_of m) id e n u) (put-unused b k m (record { id = id; right = e }) u)
+  way-unused h =
+      let u = says-used c id h in
+      skipped (cut-unused b k (subst_of m) id e place n u) (put-unused b k m (record { id = id; right = e; place = place }) u)
 
   pub way-prover : is_never (usage_of us id) ≡ false → marked ps id ≡ true → Leaving m body (record { next = n; at = at })
   way-prover h g =
       let u = says-used c id h in
       let p = says-prover c id g in
-      skipped (cut-prover b k (subst_of m) id e n u p) (put-prover b k m (record { id = id; right = e }) u p)
+      skipped (cut-prover b k (subst_of m) id e place n u p) (put-prover b k m (record { id = id; right = e; place = place }) u p)
 
   pub way-counted : (m' : List Substitute) {body' : List ℕ} {r : Cut} → is_never (usage_of us id) ≡ false → marked ps id ≡ false →
-      Leaves body body' at (tree_cut (Some (Term.Variable id)) k (subst_of m) e n) r → m' ≡ put_definition k m (record { id = id; right = e }) →
+      Leaves body body' at (tree_cut place (Some (Term.Variable id)) k (subst_of m) e n) r →
+      m' ≡ put_definition k m (record { id = id; right = e; place = place }) →
       Leaving m' body' r.place
   way-counted m' h g l a =
       let u = says-used c id h in
       let p = says-prover c id g in
-      let w = puts-tree body at (tree_cut (Some (Term.Variable id)) k (subst_of m) e n) l in
-      let q = cut-counted b k (subst_of m) id e n u p in
-      (rw q w.0, rw q w.1, a ∙ put-counted b k m (record { id = id; right = e }) u p)
+      let w = puts-tree body at (tree_cut place (Some (Term.Variable id)) k (subst_of m) e n) l in
+      let q = cut-counted b k (subst_of m) id e place n u p in
+      (rw q w.0, rw q w.1, a ∙ put-counted b k m (record { id = id; right = e; place = place }) u p)

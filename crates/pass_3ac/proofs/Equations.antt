@@ -10,15 +10,16 @@ use Rattle.flat.specs.Trees.{Flat, Equation, tree_nodes, equations_nodes}
 use Rattle.constraint.specs.declared.Term.{Term}
 use Rattle.constraint.specs.Record.{EQUALITY-WORDS}
 use Rattle.pass_trees.specs.Passes.{keep_if, Substitutions, copy_propagate_expr, copy_propagate_equations, dead, alive, Cut as Cutting}
-use Rattle.pass_trees.specs.Passes.{copied, Cuts, cuts_of, joined, Sides as SidesOf, into, both, sides, flatten_sides, flatten_equations}
+use Rattle.pass_trees.specs.Passes.{copied, Cuts, cuts_of, joined, all_at, placed, Sides as SidesOf, into, both, sides, flatten_sides, flatten_equations}
 use Rattle.pass_trees.proofs.Loops.{copied-equations-append, alive-append, equations-append}
+use Rattle.pass_trees.proofs.Placed.{placed-append}
 use Rattle.pass_copies.specs.Substituted.{option_of, copied_of, dead_roots}
 use Rattle.pass_copies.proofs.Shapes.{dead-by-roots}
 use Rattle.pass_3ac.specs.Cutting.{Cut}
 use Rattle.pass_3ac.specs.Cutting.{Place}
 use Rattle.pass_3ac.specs.declared.Sides.{Sides}
 use Rattle.pass_3ac.specs.declared.Sides.TheVariants.{Left, Right, Neither}
-use Rattle.pass_3ac.specs.Cutting.{tree_cut, after, sides_of, equations_cut, Room}
+use Rattle.pass_3ac.specs.Cutting.{placed_cut, tree_cut, after, sides_of, equations_cut, Room}
 use Rattle.pass_3ac.proofs.Trees.{term-cut, cut-new-few, cut-few, cut-ids}
 use Rattle.pass_3ac.proofs.Placing.{length-put}
 use Rattle.pass_3ac.proofs.Ways.{Leaves, its-term, its-next, its-at}
@@ -53,9 +54,9 @@ sides-by (Flat.infixed o a c) (Flat.infixed q b d) = refl
 
 -- ---- one equation
 
-module _ (k : ℕ) (s : Substitutions) (l r : Flat) (n : ℕ) where
+module _ (k : ℕ) (s : Substitutions) (l r : Flat) (place n : ℕ) where
   abbrev the : Equation
-  the = record { left = l; right = r }
+  the = record { left = l; right = r; place = place }
 
   abbrev x : Flat
   x = copy_propagate_expr k s l
@@ -67,45 +68,46 @@ module _ (k : ℕ) (s : Substitutions) (l r : Flat) (n : ℕ) where
   unfolding equations_cut copy_propagate_equations alive keep_if flatten_equations
   cut-dead h = rw h
 
-  cut-alive : dead x y ≡ false → equations_cut k s (the ∷ []) n ≡ flatten_sides (sides x y) n
+  cut-alive : dead x y ≡ false → equations_cut k s (the ∷ []) n ≡ placed place (flatten_sides (sides x y) n)
   unfolding equations_cut copy_propagate_equations alive keep_if flatten_equations
   cut-alive h = rw h (joined-none _)
 
-  cut_by : (q : Sides) → sides_of (copied_of x) (copied_of y) ≡ q → dead x y ≡ false → equations_cut k s (the ∷ []) n ≡ flatten_sides (sides_by q x y) n
-  cut_by q e h = cut-alive h ∙ ap (λ (z : SidesOf). flatten_sides z n) (sides-by x y ∙ ap (λ (z : Sides). sides_by z x y) e)
+  cut_by : (q : Sides) → sides_of (copied_of x) (copied_of y) ≡ q → dead x y ≡ false
+      → equations_cut k s (the ∷ []) n ≡ placed place (flatten_sides (sides_by q x y) n)
+  cut_by q e h = cut-alive h ∙ ap (λ (z : SidesOf). placed place (flatten_sides z n)) (sides-by x y ∙ ap (λ (z : Sides). sides_by z x y) e)
 
-  cut_left : (t : Term) → flatten_sides (sides_by (Left t) x y) n ≡ cuts_of (tree_cut (Some t) k s r n)
-  unfolding sides_by flatten_sides tree_cut option_of
+  cut_left : (t : Term) → placed place (flatten_sides (sides_by (Left t) x y) n) ≡ cuts_of (tree_cut place (Some t) k s r n)
+  unfolding sides_by flatten_sides placed cuts_of tree_cut option_of
   cut_left t = refl
 
-  cut_right : (t : Term) → flatten_sides (sides_by (Right t) x y) n ≡ cuts_of (tree_cut (Some t) k s l n)
-  unfolding sides_by flatten_sides tree_cut option_of
+  cut_right : (t : Term) → placed place (flatten_sides (sides_by (Right t) x y) n) ≡ cuts_of (tree_cut place (Some t) k s l n)
+  unfolding sides_by flatten_sides placed cuts_of tree_cut option_of
   cut_right t = refl
 
-  cut-neither : flatten_sides (sides_by Neither x y) n ≡ flatten_sides (both x y) n
+  cut-neither : placed place (flatten_sides (sides_by Neither x y) n) ≡ placed place (flatten_sides (both x y) n)
   unfolding sides_by
   cut-neither = refl
 
-  cut-both : (a b : Cutting) → a ≡ tree_cut None k s l n → b ≡ tree_cut None k s r a.next
-      → flatten_sides (both x y) n
-      ≡ joined (cuts_of a).equalities (joined (cuts_of b).equalities (cuts_of (copied (option_of (Some a.term)) b.term b.next)))
-  unfolding flatten_sides tree_cut option_of cuts_of
-  cut-both a b p q = rw (q, p, term-cut)
+  cut-both : (a b : Cutting) → a ≡ tree_cut place None k s l n → b ≡ tree_cut place None k s r a.next
+      → placed place (flatten_sides (both x y) n)
+      ≡ joined (cuts_of a).equalities (joined (cuts_of b).equalities (cuts_of (placed_cut place (copied (option_of (Some a.term)) b.term b.next))))
+  unfolding flatten_sides placed joined tree_cut option_of cuts_of
+  cut-both a b p q = rw (q, p, placed-append, placed-append, term-cut)
 
   -- how much it takes
-  few-given : (t : Term) (e : Flat) → Few (cuts_of (tree_cut (Some t) k s e n)) (tree_nodes e) n
+  few-given : (t : Term) (e : Flat) → Few (cuts_of (tree_cut place (Some t) k s e n)) (tree_nodes e) n
   unfolding cuts_of
-  few-given t e = record { equalities = cut-few k s e n _; ids = cut-ids k s e n _ }
+  few-given t e = record { equalities = cut-few place k s e n _; ids = cut-ids place k s e n _ }
 
-  few-both : Few (flatten_sides (both x y) n) (tree_nodes l + tree_nodes r) n
-  unfolding joined cuts_of copied option_of
+  few-both : Few (placed place (flatten_sides (both x y) n)) (tree_nodes l + tree_nodes r) n
+  unfolding joined cuts_of copied option_of all_at
   few-both =
-      let a : Cutting = tree_cut None k s l n in
-      let b : Cutting = tree_cut None k s r a.next in
-      let e : length a.equalities < tree_nodes l = cut-new-few k s l n in
-      let f : length b.equalities < tree_nodes r = cut-new-few k s r a.next in
-      let g : a.next ≤ n + tree_nodes l = cut-ids k s l n None in
-      let h : b.next ≤ a.next + tree_nodes r = cut-ids k s r a.next None in
+      let a : Cutting = tree_cut place None k s l n in
+      let b : Cutting = tree_cut place None k s r a.next in
+      let e : length a.equalities < tree_nodes l = cut-new-few place k s l n in
+      let f : length b.equalities < tree_nodes r = cut-new-few place k s r a.next in
+      let g : a.next ≤ n + tree_nodes l = cut-ids place k s l n None in
+      let h : b.next ≤ a.next + tree_nodes r = cut-ids place k s r a.next None in
       rw (cut-both a b refl refl) (record { equalities = simp length-append (omega arith); ids = omega arith })
 
   few-by : (q : Sides) (d : Bool) → sides_of (copied_of x) (copied_of y) ≡ q → dead x y ≡ d
@@ -130,43 +132,45 @@ module _ (k : ℕ) (s : Substitutions) (l r : Flat) (n : ℕ) where
       side-is : sides_of (copied_of x) (copied_of y) ≡ z
       side-is = sym (f ∙ ap₂ sides_of p q)
 
-      pub way-left : (b : List ℕ) {b' : List ℕ} (at : ℕ) {t : Term} {u : Place} → z ≡ Left t → Puts b b' at (cuts_of (tree_cut (Some t) k s r n)) u
+      pub way-left : (b : List ℕ) {b' : List ℕ} (at : ℕ) {t : Term} {u : Place} → z ≡ Left t → Puts b b' at (cuts_of (tree_cut place (Some t) k s r n)) u
           → Puts b b' at (equations_cut k s (the ∷ []) n) u
       way-left b at {t} g w = rw (cut_by (Left t) (side-is ∙ g) (dead-is ∙ h) ∙ cut_left t) w
 
-      pub way-right : (b : List ℕ) {b' : List ℕ} (at : ℕ) {t : Term} {u : Place} → z ≡ Right t → Puts b b' at (cuts_of (tree_cut (Some t) k s l n)) u
+      pub way-right : (b : List ℕ) {b' : List ℕ} (at : ℕ) {t : Term} {u : Place} → z ≡ Right t → Puts b b' at (cuts_of (tree_cut place (Some t) k s l n)) u
           → Puts b b' at (equations_cut k s (the ∷ []) n) u
       way-right b at {t} g w = rw (cut_by (Right t) (side-is ∙ g) (dead-is ∙ h) ∙ cut_right t) w
 
-      pub way-neither : (b : List ℕ) {b' : List ℕ} (at : ℕ) {u : Place} → z ≡ Neither → Puts b b' at (flatten_sides (both x y) n) u
+      pub way-neither : (b : List ℕ) {b' : List ℕ} (at : ℕ) {u : Place} → z ≡ Neither → Puts b b' at (placed place (flatten_sides (both x y) n)) u
           → Puts b b' at (equations_cut k s (the ∷ []) n) u
       way-neither b at g w = rw (cut_by Neither (side-is ∙ g) (dead-is ∙ h) ∙ cut-neither) w
 
 -- ---- both sides cut
 
-module _ (k : ℕ) (s : Substitutions) (l r : Flat) (b : List ℕ) {c : List ℕ} (at n : ℕ) {r1 : Cut} (l1 : Leaves b c at (tree_cut None k s l n) r1) where
-  pub room-both : {d : List ℕ} {r2 : Cut} → Leaves c d r1.place.at (tree_cut None k s r r1.place.next) r2 → Room (tree_nodes l + tree_nodes r) at n b
+module _ (place : ℕ) (k : ℕ) (s : Substitutions) (l r : Flat) (b : List ℕ) {c : List ℕ} (at n : ℕ) {r1 : Cut}
+    (l1 : Leaves b c at (tree_cut place None k s l n) r1) where
+  pub room-both : {d : List ℕ} {r2 : Cut} → Leaves c d r1.place.at (tree_cut place None k s r r1.place.next) r2 → Room (tree_nodes l + tree_nodes r) at n b
       → 4 * (r2.place.at + EQUALITY-WORDS) ≤ length d
   unfolding after
   room-both {d} {r2} l2 h =
-      let a : Cutting = tree_cut None k s l n in
-      let y : Cutting = tree_cut None k s r r1.place.next in
+      let a : Cutting = tree_cut place None k s l n in
+      let y : Cutting = tree_cut place None k s r r1.place.next in
       let i : r1.place.at ≡ at + EQUALITY-WORDS * length a.equalities = its-at at a l1.1 in
       let j : r2.place.at ≡ r1.place.at + EQUALITY-WORDS * length y.equalities = its-at r1.place.at y l2.1 in
-      let e : length a.equalities < tree_nodes l = cut-new-few k s l n in
-      let f : length y.equalities < tree_nodes r = cut-new-few k s r r1.place.next in
+      let e : length a.equalities < tree_nodes l = cut-new-few place k s l n in
+      let f : length y.equalities < tree_nodes r = cut-new-few place k s r r1.place.next in
       let g : length d ≡ length b = ap length l2.0 ∙ length-put c r1.place.at y.equalities ∙ ap length l1.0 ∙ length-put b at a.equalities in
       omega (arith, h.words)
 
-  pub way-both : {d f : List ℕ} {r2 r3 : Cut} → Leaves c d r1.place.at (tree_cut None k s r r1.place.next) r2
-      → Leaves d f r2.place.at (copied (option_of (Some r1.term)) r2.term r2.place.next) r3
-      → Puts b f at (flatten_sides (both (copy_propagate_expr k s l) (copy_propagate_expr k s r)) n) r3.place
+  pub way-both : {d f : List ℕ} {r2 r3 : Cut} → Leaves c d r1.place.at (tree_cut place None k s r r1.place.next) r2
+      → Leaves d f r2.place.at (placed_cut place (copied (option_of (Some r1.term)) r2.term r2.place.next)) r3
+      → Puts b f at (placed place (flatten_sides (both (copy_propagate_expr k s l) (copy_propagate_expr k s r)) n)) r3.place
   way-both {d} {f} {r2} {r3} l2 l3 =
-      let a : Cutting = tree_cut None k s l n in
-      let y : Cutting = tree_cut None k s r r1.place.next in
-      let z : Cutting = copied (option_of (Some r1.term)) r2.term r2.place.next in
-      let e : flatten_sides (both (copy_propagate_expr k s l) (copy_propagate_expr k s r)) n
-      ≡ joined (cuts_of a).equalities (joined (cuts_of y).equalities (cuts_of z)) = cut-both k s l r n a y refl (ap (tree_cut None k s r) (its-next at a l1.1))
+      let a : Cutting = tree_cut place None k s l n in
+      let y : Cutting = tree_cut place None k s r r1.place.next in
+      let z : Cutting = placed_cut place (copied (option_of (Some r1.term)) r2.term r2.place.next) in
+      let e : placed place (flatten_sides (both (copy_propagate_expr k s l) (copy_propagate_expr k s r)) n)
+      ≡ joined (cuts_of a).equalities (joined (cuts_of y).equalities (cuts_of z)) =
+      cut-both k s l r place n a y refl (ap (tree_cut place None k s r) (its-next at a l1.1))
       ∙ rw (its-term at a l1.1, its-term r1.place.at y l2.1, its-next r1.place.at y l2.1) in
       rw e (puts-join b at (cuts_of a) (joined (cuts_of y).equalities (cuts_of z)) (puts-tree b at a l1)
       (puts-join c r1.place.at (cuts_of y) (cuts_of z) (puts-tree c r1.place.at y l2) (puts-tree d r2.place.at z l3)))
@@ -187,7 +191,7 @@ module _ (k : ℕ) (s : Substitutions) where
   pub few-equations : (es : List Equation) (n : ℕ) → Few (equations_cut k s es n) (equations_nodes es) n
   unfolding equations_nodes
   few-equations [] n = rw (equations-cut-none n) (few-none n)
-  few-equations (e ∷ es) n = rw (equations-first e es n) (few-join _ _ (few-equation k s e.left e.right n) (few-equations es _))
+  few-equations (e ∷ es) n = rw (equations-first e es n) (few-join _ _ (few-equation k s e.left e.right e.place n) (few-equations es _))
 
   -- nothing from there on; one, and then the others
   pub put-equations-none : (c : List ℕ) (at n : ℕ) → Puts c c at (equations_cut k s [] n) (record { next = n; at = at })

@@ -10,11 +10,11 @@ use Rattle.words.specs.Words.{set_words}
 use Rattle.words.proofs.Laws.{set_words-append, length-set_words}
 use Rattle.constraint.specs.declared.Term.{Term}
 use Rattle.constraint.specs.declared.Equality.{Equality as Written}
-use Rattle.constraint.specs.Trees.{Side, Equality}
+use Rattle.constraint.specs.Trees.{Side, Equality, written_of, at_place}
 use Rattle.constraint.specs.Record.{EQUALITY-WORDS, written_words, equality_words, equalities_words}
 use Rattle.constraint.proofs.Lengths.{length-equalities, equalities-append}
-use Rattle.pass_trees.specs.Passes.{or_variable, copied}
-use Rattle.pass_3ac.specs.Cutting.{equality_of, put_equalities, after, cut_from}
+use Rattle.pass_trees.specs.Passes.{or_variable, copied, all_at}
+use Rattle.pass_3ac.specs.Cutting.{placed_cut, put_equalities, after, cut_from}
 
 -- ---- lists of equalities
 
@@ -41,10 +41,10 @@ pub length-put : (b : List ℕ) (at : ℕ) (qs : List Equality) → length (put_
 unfolding put_equalities
 length-put b at qs = length-set_words (equalities_words qs) b at
 
-pub put_one : (b : List ℕ) (at : ℕ) (l : Term) (r : Side)
-    → set_words b at (written_words (equality_of l r)) ≡ put_equalities b at (record { left = l; right = r } ∷ [])
-unfolding put_equalities equalities_words equality_words equality_of
-put_one b at l r = ap (set_words b at) (sym (append-nil _))
+pub put_one : (b : List ℕ) (at place : ℕ) (l : Term) (r : Side)
+    → set_words b at (written_words (written_of l r) place) ≡ put_equalities b at (record { left = l; right = r; place = place } ∷ [])
+unfolding put_equalities equalities_words equality_words
+put_one b at place l r = ap (set_words b at) (sym (append-nil _))
 
 pub after_one : (at : ℕ) (q : Equality) → after at (q ∷ []) ≡ at + EQUALITY-WORDS
 unfolding after
@@ -57,18 +57,19 @@ unfolding option_of or_variable
 left_is None n = refl
 left_is (Some l) n = refl
 
-module _ (b : List ℕ) (at n : ℕ) (target : Maybe Term) (t : Term) where
+module _ (place : ℕ) (b : List ℕ) (at n : ℕ) (target : Maybe Term) (t : Term) where
   pub placed-new : target ≡ None
-      → (b ≡ put_equalities b at (copied (option_of target) t n).equalities)
-      × (record { term = t; place = record { next = n; at = at } } ≡ cut_from at (copied (option_of target) t n))
-  unfolding option_of copied cut_from
+      → (b ≡ put_equalities b at (placed_cut place (copied (option_of target) t n)).equalities)
+      × (record { term = t; place = record { next = n; at = at } } ≡ cut_from at (placed_cut place (copied (option_of target) t n)))
+  unfolding option_of copied cut_from all_at
   placed-new e = rw e (sym (put-none b at), ap (λ (m : ℕ). record { term = t; place = record { next = n; at = m } }) (sym (after_none at)))
 
-  pub placed-given : {l : Term} {q : Written} {c : List ℕ} → target ≡ Some l → q ≡ equality_of l (Side.copy t) → c ≡ set_words b at (written_words q)
-      → (c ≡ put_equalities b at (copied (option_of target) t n).equalities)
-      × (record { term = l; place = record { next = n; at = at + EQUALITY-WORDS } } ≡ cut_from at (copied (option_of target) t n))
-  unfolding option_of copied cut_from
+  pub placed-given : {l : Term} {q : Written} {c : List ℕ} → target ≡ Some l → q ≡ written_of l (Side.copy t)
+      → c ≡ set_words b at (written_words q place)
+      → (c ≡ put_equalities b at (placed_cut place (copied (option_of target) t n)).equalities)
+      × (record { term = l; place = record { next = n; at = at + EQUALITY-WORDS } } ≡ cut_from at (placed_cut place (copied (option_of target) t n)))
+  unfolding option_of copied cut_from all_at at_place
   placed-given {l} e p q = rw e (
-    q ∙ ap (λ (w : Written). set_words b at (written_words w)) p ∙ put_one b at l (Side.copy t),
+    q ∙ ap (λ (w : Written). set_words b at (written_words w place)) p ∙ put_one b at place l (Side.copy t),
     ap (λ (m : ℕ). record { term = l; place = record { next = n; at = m } }) (sym (after_one at _)),
   )

@@ -1,8 +1,8 @@
 -- A tree with the substitutions made, cut: by its root; and how many equalities and ids the cut takes at most. Assumes nothing.
-use mathlib.Core.Path.{◌≡◌, refl}
-use mathlib.Core.List.{◌++◌}
+use mathlib.Core.Path.{◌≡◌, refl, ap, ◌∙◌}
+use mathlib.Core.List.{List, [], ◌∷◌, ◌++◌}
 use mathlib.Core.Option.{Option, none, some}
-use Prim.Native.Nat.{ℕ, ◌+◌, ◌≤◌, ◌<◌}
+use Prim.Native.Nat.{ℕ, suc, ◌+◌, ◌≤◌, ◌<◌}
 use native.Mathlib.Omega.{arith}
 use lib.IntN.{ℤ}
 use lib.ListN.{length, length-append}
@@ -11,9 +11,11 @@ use Rattle.std.specs.Prelude.{Option as Maybe, None}
 use Rattle.pass_copies.specs.Substituted.{option_of}
 use Rattle.flat.specs.Trees.{Flat, tree_nodes}
 use Rattle.constraint.specs.declared.Term.{Term}
-use Rattle.constraint.specs.Trees.{Side}
+use Rattle.constraint.specs.Trees.{Side, Equality, at_place}
 use Rattle.pass_trees.specs.Passes.{Substitutions, walk, to_expr, copy_propagate_expr, infix_op, Cut, push_constraint_def, copied, flatten_expr_to_3ac}
-use Rattle.pass_3ac.specs.Cutting.{tree_cut}
+use Rattle.pass_trees.specs.Passes.{or_variable, all_at}
+use Rattle.pass_trees.proofs.Placed.{placed-append}
+use Rattle.pass_3ac.specs.Cutting.{placed_cut, tree_cut}
 
 -- a term draws no id
 pub term-cut : (out : Option Term) (t : Term) (n : ℕ) → flatten_expr_to_3ac out (to_expr t) n ≡ copied out t n
@@ -21,24 +23,45 @@ unfolding flatten_expr_to_3ac to_expr
 term-cut out (Term.Variable v) n = refl
 term-cut out (Term.Constant c) n = refl
 
-module _ (target : Maybe Term) (k : ℕ) (s : Substitutions) {e : Flat} (n : ℕ) where
-  pub cut-infix : {o : InfixOp} {a b : Flat} (x y : Cut) → e ≡ Flat.infixed o a b → x ≡ tree_cut None k s a n → y ≡ tree_cut None k s b x.next
-      → tree_cut target k s e n ≡ push_constraint_def (option_of target) (x.equalities ++ y.equalities) y.next (infix_op o x.term y.term)
-  unfolding tree_cut copy_propagate_expr flatten_expr_to_3ac option_of
-  cut-infix x y p q r = rw (p, r, q)
+-- a place given to the equalities: as many, and those of an operation behind those of its parts
+length-placed : (place : ℕ) (qs : List Equality) → length (all_at place qs) ≡ length qs
+unfolding all_at
+length-placed place [] = refl
+length-placed place (q ∷ qs) = ap suc (length-placed place qs)
 
-  pub cut-negate : {a : Flat} (x : Cut) → e ≡ Flat.negate a → x ≡ tree_cut None k s a n
-      → tree_cut target k s e n ≡ push_constraint_def (option_of target) x.equalities x.next (Side.negate x.term)
-  unfolding tree_cut copy_propagate_expr flatten_expr_to_3ac option_of
-  cut-negate x p q = rw (p, q)
+abbrev pub push_at : ℕ → Option Term → List Equality → ℕ → Side → Cut
+push_at place out es n s =
+    record { term = or_variable out n; next = suc n; equalities = es ++ (record { left = or_variable out n; right = s; place = place } ∷ []) }
 
-  pub cut-constant : {c : ℤ} → e ≡ Flat.constant c → tree_cut target k s e n ≡ copied (option_of target) (Term.Constant c) n
+push_placed : (place : ℕ) (out : Option Term) (es : List Equality) (n : ℕ) (s : Side)
+    → placed_cut place (push_constraint_def out es n s) ≡ push_at place out (all_at place es) n s
+unfolding push_constraint_def all_at at_place
+push_placed place out es n s = ap (λ (l : List Equality). record { term = or_variable out n; next = suc n; equalities = l }) (placed-append place es _)
+
+module _ (place : ℕ) (target : Maybe Term) (k : ℕ) (s : Substitutions) {e : Flat} (n : ℕ) where
+  pub cut-infix : {o : InfixOp} {a b : Flat} (x y : Cut) → e ≡ Flat.infixed o a b → x ≡ tree_cut place None k s a n → y ≡ tree_cut place None k s b x.next
+      → tree_cut place target k s e n ≡ push_at place (option_of target) (x.equalities ++ y.equalities) y.next (infix_op o x.term y.term)
+  unfolding tree_cut copy_propagate_expr flatten_expr_to_3ac option_of
+  cut-infix {o} {a} {b} x y p q r =
+      let f : Cut = flatten_expr_to_3ac none (copy_propagate_expr k s a) n in
+      let g : Cut = flatten_expr_to_3ac none (copy_propagate_expr k s b) f.next in
+      rw (p, r, q)
+      (push_placed place (option_of target) (f.equalities ++ g.equalities) g.next (infix_op o f.term g.term)
+      ∙ ap (λ (l : List Equality). push_at place (option_of target) l g.next (infix_op o f.term g.term)) (placed-append place f.equalities g.equalities))
+
+  pub cut-negate : {a : Flat} (x : Cut) → e ≡ Flat.negate a → x ≡ tree_cut place None k s a n
+      → tree_cut place target k s e n ≡ push_at place (option_of target) x.equalities x.next (Side.negate x.term)
+  unfolding tree_cut copy_propagate_expr flatten_expr_to_3ac option_of
+  cut-negate x p q = rw (p, q) (push_placed place (option_of target) _ _ _)
+
+  pub cut-constant : {c : ℤ} → e ≡ Flat.constant c → tree_cut place target k s e n ≡ placed_cut place (copied (option_of target) (Term.Constant c) n)
   unfolding tree_cut copy_propagate_expr flatten_expr_to_3ac
   cut-constant p = rw p
 
-  pub cut-variable : {v : ℕ} → e ≡ Flat.variable v → tree_cut target k s e n ≡ copied (option_of target) (walk k s (Term.Variable v)) n
+  pub cut-variable : {v : ℕ} → e ≡ Flat.variable v
+      → tree_cut place target k s e n ≡ placed_cut place (copied (option_of target) (walk k s (Term.Variable v)) n)
   unfolding tree_cut copy_propagate_expr
-  cut-variable {v} p = rw p (term-cut (option_of target) (walk k s (Term.Variable v)) n)
+  cut-variable {v} p = rw p (ap (placed_cut place) (term-cut (option_of target) (walk k s (Term.Variable v)) n))
 
 -- ---- sizes
 
@@ -115,15 +138,19 @@ ids (some t) (Flat.negate a) n = let p : (flatten_expr_to_3ac none a n).next < n
 ids (some t) (Flat.constant c) n = omega arith
 ids (some t) (Flat.variable v) n = omega arith
 
-module _ (k : ℕ) (s : Substitutions) (e : Flat) (n : ℕ) where
-  pub cut-new-few : length (tree_cut None k s e n).equalities < tree_nodes e
+module _ (place : ℕ) (k : ℕ) (s : Substitutions) (e : Flat) (n : ℕ) where
+  pub cut-new-few : length (tree_cut place None k s e n).equalities < tree_nodes e
   unfolding tree_cut option_of
-  cut-new-few = omega (arith, new-few (copy_propagate_expr k s e) n, copied-nodes k s e)
+  cut-new-few =
+      let qs = (flatten_expr_to_3ac none (copy_propagate_expr k s e) n).equalities in
+      omega (arith, length-placed place qs, new-few (copy_propagate_expr k s e) n, copied-nodes k s e)
 
-  pub cut-few : (target : Maybe Term) → length (tree_cut target k s e n).equalities ≤ tree_nodes e
+  pub cut-few : (target : Maybe Term) → length (tree_cut place target k s e n).equalities ≤ tree_nodes e
   unfolding tree_cut
-  cut-few target = omega (arith, few (option_of target) (copy_propagate_expr k s e) n, copied-nodes k s e)
+  cut-few target =
+      let qs = (flatten_expr_to_3ac (option_of target) (copy_propagate_expr k s e) n).equalities in
+      omega (arith, length-placed place qs, few (option_of target) (copy_propagate_expr k s e) n, copied-nodes k s e)
 
-  pub cut-ids : (target : Maybe Term) → (tree_cut target k s e n).next ≤ n + tree_nodes e
+  pub cut-ids : (target : Maybe Term) → (tree_cut place target k s e n).next ≤ n + tree_nodes e
   unfolding tree_cut
   cut-ids target = omega (arith, ids (option_of target) (copy_propagate_expr k s e) n, copied-nodes k s e)

@@ -47,7 +47,7 @@ module _ (b : List ℕ) {j : ℕ} where
     right = tree_of b entry.node
 
     abbrev this : Definition
-    this = record { id = entry.id; right = right }
+    this = record { id = entry.id; right = right; place = entry.place }
 
     size : definitions_nodes (definitions_from b j) ≡ tree_nodes right + definitions_nodes (definitions_from b (j + 1))
     unfolding definitions_nodes
@@ -64,7 +64,8 @@ module _ (b : List ℕ) {j : ℕ} where
 
       pub room-turn : Room (definitions_nodes (definitions_from b j)) at n c → Room (definitions_nodes (definitions_from b (j + 1))) a.at a.next c1
       room-turn g =
-          room-puts (defs_cut b k (subst_of m) (this ∷ []) n) (tree_nodes right) _ (few-def b k (subst_of m) entry.id right n) (l1.0, l1.1) (rw size at g)
+          room-puts (defs_cut b k (subst_of m) (this ∷ []) n) (tree_nodes right) _
+          (few-def b k (subst_of m) entry.id right entry.place n) (l1.0, l1.1) (rw size at g)
 
 -- ---- equations
 
@@ -100,11 +101,13 @@ module _ (b : List ℕ) {j : ℕ} where
     room-equation g = room-less _ g (omega (arith, sizes))
 
     module _ (k : ℕ) (s : Substitutions) (c : List ℕ) {c1 : List ℕ} (at n : ℕ) {a : Place}
-        (l1 : Puts c c1 at (equations_cut k s (record { left = x; right = y } ∷ []) n) a) where
+        (l1 : Puts c c1 at (equations_cut k s (record { left = x; right = y; place = entry.place } ∷ []) n) a) where
       pub equations-turn : (c₀ : List ℕ) (at₀ n₀ : ℕ) → EquationsFrom b k s c₀ at₀ n₀ c at n j → EquationsFrom b k s c₀ at₀ n₀ c1 a.at a.next (j + 1)
       equations-turn c₀ at₀ n₀ f c' z l2 =
-          f c' z (rw (equations-more b h read within) (put-equations-join k s (record { left = x; right = y }) (equations_from b (j + 1)) c at n l1 l2))
+          f c' z (rw (equations-more b h read within)
+          (put-equations-join k s (record { left = x; right = y; place = entry.place }) (equations_from b (j + 1)) c at n l1 l2))
 
       pub room-equations-turn : Room (equations_nodes (equations_from b j)) at n c → Room (equations_nodes (equations_from b (j + 1))) a.at a.next c1
       room-equations-turn g =
-          room-puts (equations_cut k s (record { left = x; right = y } ∷ []) n) (tree_nodes x + tree_nodes y) _ (few-equation k s x y n) l1 (rw sizes at g)
+          room-puts (equations_cut k s (record { left = x; right = y; place = entry.place } ∷ []) n) (tree_nodes x + tree_nodes y) _
+          (few-equation k s x y entry.place n) l1 (rw sizes at g)

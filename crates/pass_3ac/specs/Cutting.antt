@@ -4,18 +4,17 @@ use Rattle.words.specs.Words.{set_words}
 use Rattle.flat.specs.Trees.{Flat, Definition, Equation}
 use Rattle.flat.specs.Record.{module_of}
 use Rattle.constraint.specs.declared.Term.{Term}
-use Rattle.constraint.specs.declared.Equality.{Equality as Written}
-use Rattle.constraint.specs.Trees.{Side, Equality, written}
+use Rattle.constraint.specs.Trees.{Equality}
 use Rattle.constraint.specs.Record.{EQUALITY-WORDS, equalities_words}
 use Rattle.pass_trees.specs.Passes.{Substitutions, copy_propagate_expr, copy_propagate_defs, after_defs, copy_propagate_equations}
-use Rattle.pass_trees.specs.Passes.{alive, flatten_expr_to_3ac, flatten_defs, flatten_equations, Cut as Cutting, Cuts}
+use Rattle.pass_trees.specs.Passes.{alive, flatten_expr_to_3ac, all_at, flatten_defs, flatten_equations, Cut as Cutting, Cuts}
 use Rattle.pass_classify.specs.Arrays.{provers_of, used_of, counted_of}
 use Rattle.pass_copies.specs.declared.Substitute.{Substitute}
 use Rattle.pass_copies.specs.Substituted.{option_of, subst_of, put_definitions}
 use Rattle.pass_3ac.specs.declared.Sides.{Sides}
 use Rattle.pass_3ac.specs.declared.Sides.TheVariants.{Left, Right, Neither}
 
--- the next id, and the word after the last equality
+-- where the code writes next: the next id, and the word after the last equality. The place of a statement is the `place` of a `Writer`
 pub record Place : Type 0 where
   pub next : ℕ
   pub at : ℕ
@@ -25,13 +24,13 @@ pub record Cut : Type 0 where
   pub term : Term
   pub place : Place
 
--- the equality of a left term and a right side
-unfoldable pub equality_of : Term → Side → Written
-equality_of left right = written (record { left = left; right = right })
+-- a cut whose equalities have a place
+abbrev pub placed_cut : ℕ → Cutting → Cutting
+placed_cut place c = record { term = c.term; next = c.next; equalities = all_at place c.equalities }
 
--- a tree with the substitutions made, cut: into the left side that is given, or into none
-unfoldable pub tree_cut : Option Term → ℕ → Substitutions → Flat → ℕ → Cutting
-tree_cut target steps s e next = flatten_expr_to_3ac (option_of target) (copy_propagate_expr steps s e) next
+-- a tree with the substitutions made, cut with a place: into the left side that is given, or into none
+unfoldable pub tree_cut : ℕ → Option Term → ℕ → Substitutions → Flat → ℕ → Cutting
+tree_cut place target steps s e next = placed_cut place (flatten_expr_to_3ac (option_of target) (copy_propagate_expr steps s e) next)
 
 -- the body with equalities from word `at` on, and the word after them
 unfoldable pub put_equalities : List ℕ → ℕ → List Equality → List ℕ

@@ -13,10 +13,11 @@ place_of w = record { next = w.next; at = w.at }
 abbrev pub RoomIn : ℕ → Writer → Type 0
 RoomIn n w = Room n w.at w.next w.body.now
 
--- the body after the step, the term that the step answers, and where it writes next; all else stays
+-- the body after the step, the term that the step answers, and where it writes next; the statement's place and all else stay
 pub record Placed (body : List ℕ) (cut : Cut) (term : Term) (old new : Writer) : Type 0 where
   pub body_is : new.body.now ≡ body
   pub cut_is : record { term = term; place = place_of new } ≡ cut
+  pub same_place : new.place ≡ old.place
   pub lent : new.body ≡ record old.body { now = new.body.now }
 
 -- a tree is cut

@@ -9,10 +9,10 @@ ghost use Rattle.flat.specs.Trees.{tree_nodes, definitions_nodes, equations_node
 ghost use Rattle.flat.specs.Layout.{nodes};
 ghost use Rattle.flat.specs.Record.{module_of};
 ghost use Rattle.constraint.specs.Record.{EQUALITY-WORDS, written_words};
-ghost use Rattle.pass_trees.specs.Passes.{counted, copy_propagate_expr, copied, cuts_of, both, flatten_sides};
+ghost use Rattle.pass_trees.specs.Passes.{counted, copy_propagate_expr, copied, placed, cuts_of, both, flatten_sides};
 ghost use Rattle.pass_classify.specs.Readable.{tree_of};
 ghost use Rattle.pass_copies.specs.Substituted.{option_of, subst_of, put_definitions};
-ghost use Rattle.pass_3ac.specs.Cutting.{DRAWN, tree_cut, Room, put_equalities, place_from, Cut, Place};
+ghost use Rattle.pass_3ac.specs.Cutting.{DRAWN, placed_cut, tree_cut, Room, put_equalities, place_from, Cut, Place};
 ghost use Rattle.pass_3ac.specs.Cutting.{DefsPut, record_defs, equations_cut, record_equations, sides_of};
 ghost use Rattle.pass_3ac.specs.Writers.{Placed, TreePut, CutsPut, RoomIn, place_of};
 ghost use Rattle.records.specs.FlatRecord.{IDS};
@@ -25,22 +25,23 @@ use pass_classify::record::Record;
 use pass_copies::{Substitutions, is_dead};
 use simplify::{copy, infix_op, negate};
 
-// Writes equalities into the body: from word `at` on, and with the ids from `next` on.
+// Writes equalities into the body: from word `at` on, with the ids from `next` on, and with the place of the definition or equation that is cut.
 #[derive(Drop)]
 pub struct Writer<'a> {
     pub body: &'a mut [u8],
     pub next: u32,
     pub at: usize,
+    pub place: u32,
 }
 
 impl Writer<'_> {
     // An equality of an operation: an id is drawn, also where the left side is given.
     fn push_constraint_def(&mut self, equality: Equality) -> Term
         requires { (4 * (self.old.at + EQUALITY-WORDS) ≤ length self.old.body.now) × (self.old.next < DRAWN) }
-        ensures { Placed (set_words self.old.body.now self.old.at (written_words equality))
+        ensures { Placed (set_words self.old.body.now self.old.at (written_words equality self.old.place))
             (record { term = equality.left; place = record { next = self.old.next + 1; at = self.old.at + EQUALITY-WORDS } }) result self.old self.new }
     {
-        put_equality(self.body, self.at, equality);
+        put_equality(self.body, self.at, equality, self.place);
         self.next += 1;
         self.at += EQUALITY_WORDS;
         equality.left
@@ -49,12 +50,12 @@ impl Writer<'_> {
     // A term draws no id: it stands for itself, or is copied to the left side that is given.
     fn place_term(&mut self, target: Option<Term>, term: Term) -> Term
         requires { 4 * (self.old.at + EQUALITY-WORDS) ≤ length self.old.body.now }
-        ensures { TreePut (copied (option_of target) term self.old.next) result self.old self.new }
+        ensures { TreePut (placed_cut self.old.place (copied (option_of target) term self.old.next)) result self.old self.new }
     {
         let Some(left) = target else {
             return term;
         };
-        put_equality(self.body, self.at, copy(term).equality(left));
+        put_equality(self.body, self.at, copy(term).equality(left), self.place);
         self.at += EQUALITY_WORDS;
         left
     }
@@ -69,7 +70,8 @@ impl Writer<'_> {
         target: Option<Term>,
     ) -> Term
         requires { (k < nodes record.now.bytes.now) × RoomIn (tree_nodes (tree_of record.now.bytes.now k)) self.old }
-        ensures { TreePut (tree_cut target subs.now.steps (subst_of subs.now.terms) (tree_of record.now.bytes.now k) self.old.next) result self.old self.new }
+        ensures { TreePut (tree_cut self.old.place target subs.now.steps (subst_of subs.now.terms) (tree_of record.now.bytes.now k) self.old.next)
+            result self.old self.new }
     {
         match record.node(k) {
             Node::Infix(op, x, y) => {
@@ -88,7 +90,7 @@ impl Writer<'_> {
         }
     }
 
-    // One definition: cut where it is counted, and then its substitution.
+    // One definition: cut where it is counted, with its place, and then its substitution.
     fn flatten_def_to_3ac(
         &mut self,
         classes: &Classes,
@@ -99,7 +101,7 @@ impl Writer<'_> {
             × (d.node < nodes classes.now.record.bytes.now)
             × RoomIn (tree_nodes (tree_of classes.now.record.bytes.now d.node)) self.old }
         ensures defs_put { DefsPut classes.now.record.bytes.now subs.old.steps
-            (record { id = d.id; right = tree_of classes.now.record.bytes.now d.node } ∷ []) subs.old.terms
+            (record { id = d.id; right = tree_of classes.now.record.bytes.now d.node; place = d.place } ∷ []) subs.old.terms
             subs.new.terms self.old.body.now self.new.body.now self.old.at self.old.next (place_of self.new) }
         ensures lent { self.new.body ≡ record self.old.body { now = self.new.body.now } }
         ensures steps { subs.new.steps ≡ subs.old.steps }
@@ -113,6 +115,7 @@ impl Writer<'_> {
         }
         let record = &classes.record;
         let left = Some(Term::Variable(d.id));
+        self.place = d.place;
         self.flatten_expr_to_3ac(record, d.node, subs, left);
         subs.substitute(record, d);
     }
@@ -139,27 +142,30 @@ impl Writer<'_> {
         requires { (e.left < nodes record.now.bytes.now)
             × (e.right < nodes record.now.bytes.now)
             × RoomIn (tree_nodes (tree_of record.now.bytes.now e.left) + tree_nodes (tree_of record.now.bytes.now e.right)) self.old }
-        ensures { CutsPut (flatten_sides (both (copy_propagate_expr subs.now.steps (subst_of subs.now.terms) (tree_of record.now.bytes.now e.left))
-            (copy_propagate_expr subs.now.steps (subst_of subs.now.terms) (tree_of record.now.bytes.now e.right))) self.old.next) self.old self.new }
+        ensures { CutsPut (placed self.old.place (flatten_sides (both
+            (copy_propagate_expr subs.now.steps (subst_of subs.now.terms) (tree_of record.now.bytes.now e.left))
+            (copy_propagate_expr subs.now.steps (subst_of subs.now.terms) (tree_of record.now.bytes.now e.right))) self.old.next)) self.old self.new }
     {
         let a = self.flatten_expr_to_3ac(record, e.left, subs, None);
         let b = self.flatten_expr_to_3ac(record, e.right, subs, None);
         self.place_term(Some(a), b);
     }
 
-    // One equation: nothing where it is obviously true.
+    // One equation, with its place: nothing where it is obviously true.
     fn flatten_equation(&mut self, record: &Record, e: EquationEntry, subs: &Substitutions)
         requires { (e.left < nodes record.now.bytes.now)
             × (e.right < nodes record.now.bytes.now)
             × RoomIn (tree_nodes (tree_of record.now.bytes.now e.left) + tree_nodes (tree_of record.now.bytes.now e.right)) self.old }
         ensures { CutsPut (equations_cut subs.now.steps (subst_of subs.now.terms)
-            (record { left = tree_of record.now.bytes.now e.left; right = tree_of record.now.bytes.now e.right } ∷ []) self.old.next) self.old self.new }
+            (record { left = tree_of record.now.bytes.now e.left; right = tree_of record.now.bytes.now e.right; place = e.place } ∷ []) self.old.next)
+            self.old self.new }
     {
         let a = subs.copy_expr(record, e.left);
         let b = subs.copy_expr(record, e.right);
         if is_dead(a, b) {
             return;
         }
+        self.place = e.place;
         match left_side(a, b) {
             Sides::Left(x) => {
                 self.flatten_expr_to_3ac(record, e.right, subs, Some(x));

@@ -1,9 +1,8 @@
 // infix_op: the simplifications that the Rust makes, tried in its order; two constants are not folded.
 ghost use Rattle.std.specs.Prelude.{◌≡◌};
 ghost use Rattle.field.specs.declared.InfixOp.TheVariants.{DivideZ, Multiply, Add, Subtract, Modulo};
-ghost use Rattle.constraint.specs.Trees.{Side as Right};
+ghost use Rattle.constraint.specs.Trees.{Side as Right, written_of};
 ghost use Rattle.pass_trees.specs.Passes.{is_one, is_zero, when, infix_op};
-ghost use Rattle.pass_3ac.specs.Cutting.{equality_of};
 ghost use Rattle.pass_3ac.specs.Sides.{side_of};
 
 use constraint::{Equality, Operation, Term};
@@ -34,9 +33,9 @@ pub struct Side {
 
 impl Side {
     // The equality of a left term and this side.
-    #[tactic(auto, unfolding(crate::specs::Sides::side_of, crate::specs::Cutting::equality_of, constraint::specs::Trees::written))]
+    #[tactic(auto, unfolding(crate::specs::Sides::side_of, constraint::specs::Trees::written_of))]
     pub fn equality(self, left: Term) -> Equality
-        ensures { (side : Right) → self ≡ side_of side → result ≡ equality_of left side }
+        ensures { (side : Right) → self ≡ side_of side → result ≡ written_of left side }
     {
         Equality {
             left,

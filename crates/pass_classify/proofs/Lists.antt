@@ -11,7 +11,7 @@ use Rattle.flat.specs.Layout.{provers, definitions, equations, nodes, provers_of
 use Rattle.flat.specs.Layout.{equations_offset, nodes_offset, prover_at, definition_entry, equation_entry}
 use Rattle.flat.specs.Record.{rows, definition_at, equation_at, module_of}
 use Rattle.flat.proofs.Nodes.{settled}
-use Rattle.flat.proofs.Parts.{id-is, node-is, left_is, right_is}
+use Rattle.flat.proofs.Parts.{id-is, node-is, place_is, left_is, right_is, equation_place-is}
 use Rattle.pass_classify.specs.Readable.{tree_of}
 
 -- ---- rows from an index on
@@ -74,17 +74,18 @@ module _ (b : List ℕ) {k id : ℕ} (h : k < provers b) (read : id ≡ prover_a
 -- a definition that was read
 module _ (b : List ℕ) {k : ℕ} {entry : DefinitionEntry} (h : k < definitions b) (read : entry ≡ definition_entry b (definitions_offset b) k)
     (within : (entry.id < 65536) × (entry.node < nodes b)) where
-  pub definitions-more : definitions_from b k ≡ record { id = entry.id; right = tree_of b entry.node } ∷ definitions_from b (k + 1)
+  pub definitions-more : definitions_from b k ≡ record { id = entry.id; right = tree_of b entry.node; place = entry.place } ∷ definitions_from b (k + 1)
   unfolding definitions_from definition_at
   definitions-more =
-      rows_more (definitions b) k _ h ∙ rw (← id-is read, ← node-is read, settled b (nodes_offset b) (nodes b) entry.node within.1)
+      rows_more (definitions b) k _ h ∙ rw (← id-is read, ← node-is read, ← place_is read, settled b (nodes_offset b) (nodes b) entry.node within.1)
 
 -- an equation that was read
 module _ (b : List ℕ) {k : ℕ} {entry : EquationEntry} (h : k < equations b) (read : entry ≡ equation_entry b (equations_offset b) k)
     (within : (entry.left < nodes b) × (entry.right < nodes b)) where
-  pub equations-more : equations_from b k ≡ record { left = tree_of b entry.left; right = tree_of b entry.right } ∷ equations_from b (k + 1)
+  pub equations-more : equations_from b k
+      ≡ record { left = tree_of b entry.left; right = tree_of b entry.right; place = entry.place } ∷ equations_from b (k + 1)
   unfolding equations_from equation_at
   equations-more =
       let left-settled = settled b (nodes_offset b) (nodes b) entry.left within.0 in
       let right-settled = settled b (nodes_offset b) (nodes b) entry.right within.1 in
-      rows_more (equations b) k _ h ∙ rw (← left_is read, ← right_is read, left-settled, right-settled)
+      rows_more (equations b) k _ h ∙ rw (← left_is read, ← right_is read, ← equation_place-is read, left-settled, right-settled)

@@ -64,10 +64,10 @@ pub classified-start : (b : List ℕ) {k : ℕ} (m : List Usage) → definitions
 unfolding classified
 classified-start b {k} m h = sym (ap (λ (ds : List Definition). classified (module_of b).provers ds (usage_of m)) (definitions-none b k h))
 
-classify-def : (ps : List ℕ) (f : ℕ → Usage) (id : ℕ) (right : Flat) (u : Usage) → u ≡ override (member id ps) (f id)
-    → mark_used u right (update f id u) ≡ classify_def ps (record { id = id; right = right }) f
+classify-def : (ps : List ℕ) (f : ℕ → Usage) (id : ℕ) (right : Flat) (place : ℕ) (u : Usage) → u ≡ override (member id ps) (f id)
+    → mark_used u right (update f id u) ≡ classify_def ps (record { id = id; right = right; place = place }) f
 unfolding classify_def
-classify-def ps f id right u e = ap (λ (x : Usage). mark_used x right (update f id x)) e
+classify-def ps f id right place u e = ap (λ (x : Usage). mark_used x right (update f id x)) e
 
 pub classified-turn : (b : List ℕ) {k : ℕ} {entry : DefinitionEntry} (u : Usage) (p : List Bool) (m₀ m : List Usage) {m' m'' : List Usage} → k < definitions b →
     entry ≡ definition_entry b (definitions_offset b) k → (entry.id < 65536) × (entry.node < nodes b) →
@@ -84,7 +84,7 @@ classified-turn b {k} {entry} u p m₀ m h read within g i e x y =
     e ∙ ap (λ (c : Bool). override c (usage_of m id)) (ap (λ (c : ℕ → Bool). c id) g) ∙ ap (λ (c : ℕ → Usage). override (member id ps) (c id)) i in
     y.says
     ∙ ap (mark_used u t) (x.says ∙ ap (λ (c : ℕ → Usage). update c id u) i)
-    ∙ classify-def ps f id t u a
+    ∙ classify-def ps f id t entry.place u a
     ∙ sym (ap (λ (ds : List Definition). classified ps ds (usage_of m₀)) (definitions-more b h read within))
 
 pub classified-end : (b : List ℕ) (m₀ m : List Usage) → ClassifiedFrom b m₀ m 0 → length m ≡ 65536 →
@@ -226,7 +226,8 @@ module _ (b : List ℕ) (u : List Usage) (m : List Bool) where
       let d = definition-below r k l in
       let entry : DefinitionEntry = definition_entry b (definitions_offset b) k in
       ap (λ (ds : List Definition). cuttable_defs (counted_of b ds)) (definitions-more b l refl (omega (arith, d.0, r.next_small), d.1))
-      ∙ counted_step _ _ (record { id = entry.id; right = tree_of b entry.node }) (definitions_from b (k + 1)) (is_never (usage_of u entry.id))
-      (marked m entry.id) (ap (λ (c : ℕ → Usage). not (is_never (c entry.id))) (sym w.used)) (ap (λ (c : ℕ → Bool). not (c entry.id)) (sym w.proved)))
+      ∙ counted_step _ _ (record { id = entry.id; right = tree_of b entry.node; place = entry.place }) (definitions_from b (k + 1))
+      (is_never (usage_of u entry.id)) (marked m entry.id)
+      (ap (λ (c : ℕ → Usage). not (is_never (c entry.id))) (sym w.used)) (ap (λ (c : ℕ → Bool). not (c entry.id)) (sym w.proved)))
       (ap (λ (ds : List Definition). cuttable_defs (counted_of b ds)) (definitions-none b (definitions b) (omega arith)))
       ∙ ap (λ (ds : List Definition). cuttable_defs (counted_of b ds)) (sym (definitions-whole b))

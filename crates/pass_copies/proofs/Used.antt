@@ -50,7 +50,7 @@ module _ {b : List ℕ} (r : Readable b) (m : List Usage) where
       let l : k < definitions b = omega arith in
       let w = definition-below r k l in
       let entry : DefinitionEntry = definition_entry b (definitions_offset b) k in
-      let d : Definition = record { id = entry.id; right = tree_of b entry.node } in
+      let d : Definition = record { id = entry.id; right = tree_of b entry.node; place = entry.place } in
       let first : used_from k ≡ pick (used-at k) 1 0 + used_from (k + 1) =
       ap (λ (ds : List Definition). length (those used ds)) (definitions-more b l refl (omega (arith, w.0, r.next_small), w.1))
       ∙ kept-length (used-at k) d (those used (definitions_from b (k + 1))) in

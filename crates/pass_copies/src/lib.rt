@@ -92,7 +92,8 @@ impl Substitutions {
     // Kept as it is: a term becomes a substitute here alone, with the test beside it; a `From` would have one caller.
     pub fn substitute(&mut self, record: &Record, d: DefinitionEntry)
         requires { (d.id < IDS) × (d.node < nodes record.now.bytes.now) }
-        ensures { (self.new.terms ≡ put_definition self.old.steps self.old.terms (record { id = d.id; right = tree_of record.now.bytes.now d.node }))
+        ensures { (self.new.terms ≡ put_definition self.old.steps self.old.terms
+            (record { id = d.id; right = tree_of record.now.bytes.now d.node; place = d.place }))
             × (self.new.steps ≡ self.old.steps) }
     {
         match self.copy_expr(record, d.node) {

@@ -105,7 +105,7 @@ lists-made b provers body {body1 = body1} e g h =
 
 -- ---- kept definitions are no more, and have no more nodes, than the record's
 
-those-nodes : (t : ℕ → Bool) (ds : List Definition) → definitions_nodes (those t ds) ≤ definitions_nodes ds
+pub those-nodes : (t : ℕ → Bool) (ds : List Definition) → definitions_nodes (those t ds) ≤ definitions_nodes ds
 unfolding those keep_if definitions_nodes
 those-nodes t [] = omega arith
 those-nodes t (d ∷ ds) = go (t d.id) (those-nodes t ds)

@@ -3,3 +3,4 @@ pub mod Delivered
 pub mod Building
 pub mod Fits
 pub mod Answers
+pub mod Longest

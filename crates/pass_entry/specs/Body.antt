@@ -9,12 +9,11 @@ use Rattle.constraint.specs.Record.{EQUALITY-WORDS, KEPT-WORDS, equalities_words
 use Rattle.pass_entry.specs.declared.built.Built.{Built}
 use Rattle.records.specs.declared.refusals.Refusal.{Refusal}
 use Rattle.records.specs.Refusals.{refusal_number}
-use Rattle.records.specs.FlatRecord.{HEADER}
-use Rattle.pass_entry.specs.Sizes.{BODY-BYTES, LIST-BYTES}
+use Rattle.records.specs.FlatRecord.{HEADER, IDS, NODES, PUBLICS}
 
--- no constraint record of a flat record is longer
+-- no constraint record of a flat record is longer: a node gives an equality, or it is kept with its definition, in fewer words (`passes-short`)
 abbrev pub OUTPUT-BYTES : ℕ
-OUTPUT-BYTES = 4 * HEADER + BODY-BYTES + LIST-BYTES
+OUTPUT-BYTES = 4 * (HEADER + PUBLICS + IDS + EQUALITY-WORDS * NODES)
 
 -- the words of a constraint record between its header and its nodes
 unfoldable pub body_words : ConstraintModule → List ℕ

@@ -1,3 +1,4 @@
 pub mod Sizes
 pub mod Body
 pub mod Cut
+pub mod Longest

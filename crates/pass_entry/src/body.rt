@@ -85,11 +85,12 @@ pub fn build(classes: &Classes, body: &mut [u8], list: &mut [u8]) -> Built
         body,
         next: layout.next as u32,
         at: start,
+        place: 0,
     };
     let mut subs = Substitutions::new(used_definitions(classes));
     writer.flatten_defs(classes, &mut subs);
     writer.flatten_equations(record, &subs);
-    let Writer { body, next, at } = writer;
+    let Writer { body, next, at, .. } = writer;
     subs.clear();
     let mut keeper = pass_keep::Writer {
         body,

@@ -20,8 +20,8 @@ pub const BODY_BYTES: usize = 4
 
 pub const LIST_BYTES: usize = 4 * NODE_WORDS * NODES;
 
-// So no constraint record of a flat record is longer.
-pub const OUTPUT_BYTES: usize = 4 * HEADER + BODY_BYTES + LIST_BYTES;
+// No constraint record of a flat record is longer: a node gives an equality, or it is kept with its definition, in fewer words.
+pub const OUTPUT_BYTES: usize = 4 * (HEADER + PUBLICS + ID_COUNT + EQUALITY_WORDS * NODES);
 
 // The n words of a record from word `at` on, at the front of the body.
 fn copy_words(s: &[u8], at: usize, n: usize, body: &mut [u8])

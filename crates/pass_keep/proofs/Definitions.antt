@@ -87,12 +87,12 @@ module _ (b : List ℕ) (steps : ℕ) (ds : List Definition) (at base : ℕ) (m 
   -- one definition is kept
   pub keeps-one : (m' : List Substitute) {body' list' : List ℕ} {root after : ℕ} (d : Definition) → kept_of b steps (subst_of m) ds ≡ d ∷ [] →
       list' ≡ put_tree list base d.right → root ≡ root_from base d.right → after ≡ next_from base d.right →
-      body' ≡ set_words body at (definition_words d.id root) →
+      body' ≡ set_words body at (definition_words d.id root d.place) →
       m' ≡ put_definitions steps m (counted_of b ds) → Keeps b steps ds at base m body list m' body' list' (record { at = at + KEPT-WORDS; nodes = after })
   unfolding put_kept put_nodes put_tree kept_from definitions_words definitions_trees definitions_nodes next_from root_from
   keeps-one m' {root = root} {after = after} d e p x q r f =
-      let w : definition_words d.id root ≡ definition_words d.id (root_from base d.right) ++ [] =
-      ap (definition_words d.id) x ∙ sym (append-nil (definition_words d.id (root_from base d.right))) in
+      let one : ℕ → List ℕ = λ n. definition_words d.id n d.place in
+      let w : one root ≡ one (root_from base d.right) ++ [] = ap one x ∙ sym (append-nil (one (root_from base d.right))) in
       let n : nodes_from base d.right ≡ nodes_from base d.right ++ [] = sym (append-nil (nodes_from base d.right)) in
       let y : at + KEPT-WORDS ≡ at + KEPT-WORDS * 1 = omega arith in
       let z : after ≡ base + (tree_nodes d.right + 0) = after_plus base d.right after q in
@@ -103,10 +103,10 @@ module _ (b : List ℕ) (steps : ℕ) (ds : List Definition) (at base : ℕ) (m 
         subs-are = f;
       }
 
-module _ {b : List ℕ} {u : List Usage} {p : List Bool} (c : Classified b u p) (steps id : ℕ) (right : Flat) (at base : ℕ) (m : List Substitute)
+module _ {b : List ℕ} {u : List Usage} {p : List Bool} (c : Classified b u p) (steps id : ℕ) (right : Flat) (place at base : ℕ) (m : List Substitute)
     (body list : List ℕ) where
   abbrev definition : Definition
-  definition = record { id = id; right = right }
+  definition = record { id = id; right = right; place = place }
 
   abbrev Way : List Substitute → List ℕ → List ℕ → Kept → Type 0
   Way = Keeps b steps (definition ∷ []) at base m body list
@@ -126,7 +126,7 @@ module _ {b : List ℕ} {u : List Usage} {p : List Bool} (c : Classified b u p) 
 
     pub way-kept : {body' list' : List ℕ} {root after : ℕ} → marked p id ≡ true → list' ≡ put_tree list base (copy_propagate_expr steps (subst_of m) right) →
         root ≡ root_from base (copy_propagate_expr steps (subst_of m) right) → after ≡ next_from base (copy_propagate_expr steps (subst_of m) right) →
-        body' ≡ set_words body at (definition_words id root) → Way m body' list' (record { at = at + KEPT-WORDS; nodes = after })
+        body' ≡ set_words body at (definition_words id root place) → Way m body' list' (record { at = at + KEPT-WORDS; nodes = after })
     unfolding copy_propagate_def
     way-kept f x r y z =
         let n = says-used c id e in

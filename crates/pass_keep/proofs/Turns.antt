@@ -133,7 +133,7 @@ module _ (b : List ℕ) (steps n at base₀ : ℕ) (m₀ : List Substitute) (bod
     module _ {entry : DefinitionEntry} (count : n ≡ definitions b) (h : k < n) (read : entry ≡ definition_entry b (definitions_offset b) k)
         (inside : (entry.id < 65536) × (entry.node < count_nodes b)) where
       abbrev first : Definition
-      first = record { id = entry.id; right = tree_of b entry.node }
+      first = record { id = entry.id; right = tree_of b entry.node; place = entry.place }
 
       from_is : definitions_from b k ≡ first ∷ definitions_from b (k + 1)
       from_is = definitions-more b (omega (arith, count)) read inside

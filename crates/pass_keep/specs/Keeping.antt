@@ -23,7 +23,7 @@ record_kept b steps subs = kept_of b steps (subst_of subs) (module_of b).definit
 unfoldable pub put_tree : List ℕ → ℕ → Flat → List ℕ
 put_tree list base e = set_words list (4 * base) (nodes_from base e)
 
--- the body with kept definitions (id, node) from word `at` on, the list with their nodes from index `base` on, and the places after both
+-- the body with kept definitions (id, node, place) from word `at` on, the list with their nodes from index `base` on, and the places after both
 unfoldable pub put_kept : List ℕ → ℕ → ℕ → List Definition → List ℕ
 put_kept body at base ds = set_words body at (definitions_words base ds)
 

@@ -96,12 +96,12 @@ impl Writer<'_> {
         }
     }
 
-    // One definition: nothing where it is not used, its substitution where its id is not the prover's, else it is kept.
+    // One definition: nothing where it is not used, its substitution where its id is not the prover's, else it is kept, with its place.
     fn keep_def(&mut self, classes: &Classes, d: DefinitionEntry, subs: &mut Substitutions)
         requires inside { (d.id < IDS) × (d.node < nodes classes.now.record.bytes.now) }
         requires word_room { WordsIn 1 self.old × NodesIn (tree_nodes (tree_of classes.now.record.bytes.now d.node)) self.old }
         ensures keeps { Keeps classes.now.record.bytes.now subs.old.steps
-            (record { id = d.id; right = tree_of classes.now.record.bytes.now d.node } ∷ []) self.old.at self.old.nodes subs.old.terms
+            (record { id = d.id; right = tree_of classes.now.record.bytes.now d.node; place = d.place } ∷ []) self.old.at self.old.nodes subs.old.terms
             self.old.body.now self.old.list.now subs.new.terms self.new.body.now self.new.list.now (place_of self.new) }
         ensures lent { Lent self.old self.new }
         ensures steps { subs.new.steps ≡ subs.old.steps }
@@ -116,7 +116,7 @@ impl Writer<'_> {
             return;
         }
         let root = self.put_tree(record, d.node, subs);
-        put_definition(self.body, self.at, d.id, root);
+        put_definition(self.body, self.at, d.id, root, d.place);
         self.at += KEPT_WORDS;
     }
 

@@ -12,3 +12,6 @@ pub mod Loops
 pub mod Rust
 pub mod Example
 pub mod SignedConstants
+pub mod Placed
+pub mod Inherited
+pub mod Apart

@@ -10,7 +10,7 @@ use Rattle.pass_trees.specs.declared.Usage.{Usage}
 use Rattle.pass_trees.specs.Passes.{member, keep_if, those, used_in, classify_def, classified, ids_from, Substitutions, follow}
 use Rattle.pass_trees.specs.Passes.{walk, copy_propagate_expr, copy_propagate_def, after_def, copy_propagate_defs, after_defs}
 use Rattle.pass_trees.specs.Passes.{copy_propagate_equations, alive, push_constraint_def, copied, flatten_expr_to_3ac, Cuts, cuts_of}
-use Rattle.pass_trees.specs.Passes.{joined, flatten_def_to_3ac, flatten_defs, Sides, into, both, sides, flatten_sides, flatten_equations}
+use Rattle.pass_trees.specs.Passes.{joined, placed, flatten_def_to_3ac, flatten_defs, Sides, into, both, sides, flatten_sides, flatten_equations}
 use Rattle.pass_trees.specs.Statements.{Resolved}
 use Rattle.pass_trees.proofs.Lists.{all_keep}
 
@@ -57,7 +57,7 @@ pub copied-equations-append : (k : ℕ) (s : Substitutions) (xs ys : List Equati
 unfolding copy_propagate_equations
 copied-equations-append k s [] ys = refl
 copied-equations-append k s (e ∷ xs) ys =
-    ap (λ (l : List Equation). record { left = copy_propagate_expr k s e.left; right = copy_propagate_expr k s e.right } ∷ l)
+    ap (λ (l : List Equation). record { left = copy_propagate_expr k s e.left; right = copy_propagate_expr k s e.right; place = e.place } ∷ l)
     (copied-equations-append k s xs ys)
 
 joined-twice : (a b : List Equality) (c : Cuts) → joined (a ++ b) c ≡ joined a (joined b c)
@@ -78,7 +78,7 @@ pub equations-append : (xs ys : List Equation) (n : ℕ)
 unfolding flatten_equations joined
 equations-append [] ys n = refl
 equations-append (e ∷ xs) ys n =
-    let x : Cuts = flatten_sides (sides e.left e.right) n in
+    let x : Cuts = placed e.place (flatten_sides (sides e.left e.right) n) in
     ap (joined x.equalities) (equations-append xs ys x.next)
     ∙ sym (joined-twice x.equalities (flatten_equations xs x.next).equalities (flatten_equations ys (flatten_equations xs x.next).next))
 
@@ -136,7 +136,7 @@ expr-grows out (Flat.infixed o a b) n =
     omega arith
 
 pub def-grows : (b : Bool) (d : Definition) (n : ℕ) → n ≤ (flatten_def_to_3ac b d n).next
-unfolding flatten_def_to_3ac cuts_of
+unfolding flatten_def_to_3ac placed cuts_of
 def-grows true d n = le_refl n
 def-grows false d n = expr-grows _ d.right n
 
@@ -151,6 +151,6 @@ sides-grow (into t e) n = expr-grows (some t) e n
 sides-grow (both a b) n = le_trans (expr-grows none a n) (le_trans (expr-grows none b _) (expr-grows (some _) _ _))
 
 pub equations-grow : (es : List Equation) (n : ℕ) → n ≤ (flatten_equations es n).next
-unfolding flatten_equations joined
+unfolding flatten_equations placed joined
 equations-grow [] n = le_refl n
 equations-grow (e ∷ es) n = le_trans (sides-grow (sides e.left e.right) n) (equations-grow es _)

@@ -7,12 +7,14 @@ use Rattle.flat.specs.Trees.{Flat, Definition, Equation}
 use Rattle.flat.specs.Rules.{All, Every}
 use Rattle.flat.specs.Meaning.{Assignment, Elements, value, DefinitionHolds, EquationHolds}
 use Rattle.constraint.specs.declared.Term.{Term}
-use Rattle.constraint.specs.Meaning.{InTerm, InEquality, term_value, side_value, EqualityHolds}
+use Rattle.constraint.specs.Trees.{Side}
+use Rattle.constraint.specs.Meaning.{InTerm, InSide, InEquality, term_value, side_value, EqualityHolds}
 use Rattle.pass_trees.specs.Passes.{member, keep_if, those, Cut, or_variable, push_constraint_def, copied, to_expr, flatten_expr_to_3ac, Cuts, cuts_of}
-use Rattle.pass_trees.specs.Passes.{joined, flatten_def_to_3ac, flatten_defs, Sides, into, both, sides, flatten_sides, flatten_equations, flatten_lists}
+use Rattle.pass_trees.specs.Passes.{joined, placed, flatten_def_to_3ac, flatten_defs, Sides, into, both, sides, flatten_sides, flatten_equations, flatten_lists}
 use Rattle.pass_trees.specs.Statements.{Extension}
 use Rattle.pass_trees.proofs.Lists.{all_append, all_split, every_map, term-map, term-agrees, value-agrees}
 use Rattle.pass_trees.proofs.Copied.{CountedIn}
+use Rattle.pass_trees.proofs.Placed.{placed-all, unplaced-all}
 use Rattle.pass_trees.proofs.Cutting.{read, Same, determined, Bounded, raise, bounded, Extended, holds-below, below-value, Extended2, in-turn, write}
 
 -- a term that is given another
@@ -35,6 +37,13 @@ copy-sides a b =
     let x : Cut = flatten_expr_to_3ac none a n in
     let y : Cut = flatten_expr_to_3ac none b x.next in
     ap (λ (c : Cut). joined x.equalities (joined y.equalities (cuts_of c))) (sym (copied-term x.term y.term y.next)))
+
+-- what an equality says, and which variables it has, is of its sides alone
+abbrev Holds : Assignment → Term → Side → Type 0
+Holds σ l r = side_value σ r ≡ Some (term_value σ l)
+
+abbrev Within : (ℕ → Type 0) → Term → Side → Type 0
+Within Q l r = InTerm Q l × InSide Q r
 
 -- what is cut has its variables in S, which lie below k; new ids are drawn from n on
 pub record Piece (k : ℕ) (S : ℕ → Type 0) (means : Assignment → Type 0) (cuts : ℕ → Cuts) : Type 0 where
@@ -107,6 +116,28 @@ module _ (k : ℕ) (S : ℕ → Type 0) (low : (v : ℕ) → S v → v < k) wher
         grows = a.grows;
         ids = a.ids;
         writes = λ σ el n l h. a.writes σ el n l (g σ h);
+      }
+
+  -- with another place
+  pub piece-placed : {A : Assignment → Type 0} {c : ℕ → Cuts} (p : ℕ) → Piece k S A c → Piece k S A (λ n. placed p (c n))
+  unfolding placed
+  piece-placed {A} {c} p a =
+      record {
+        local = a.local;
+        reads = λ σ el n h. a.reads σ el n (unplaced-all (Holds σ) p (c n).equalities h);
+        determines = λ σ τ s n h i.
+            placed-all (Within (λ v. σ v ≡ τ v)) p (c n).equalities
+            (a.determines σ τ s n (unplaced-all (Holds σ) p (c n).equalities h) (unplaced-all (Holds τ) p (c n).equalities i));
+        grows = a.grows;
+        ids = λ n l. placed-all (Within (λ v. v < (c n).next)) p (c n).equalities (a.ids n l);
+        writes = λ σ el n l h.
+            let x : Extension σ n (c n).equalities = a.writes σ el n l h in
+            record {
+              assignment = x.assignment;
+              elements = x.elements;
+              same = x.same;
+              holds = placed-all (Holds x.assignment) p (c n).equalities x.holds;
+            };
       }
 
   -- an expression whose left side is given
@@ -269,7 +300,8 @@ module _ (k : ℕ) (S : ℕ → Type 0) (low : (v : ℕ) → S v → v < k) wher
   unfolding flatten_equations
   equations-piece [] h = nothing k S low
   equations-piece (e ∷ es) h =
-      follows k S low (renamed k S low (sides-piece k S low (sides e.left e.right) (sides-below k S low e.left e.right h.0.0 h.0.1))
+      let cut = sides-piece k S low (sides e.left e.right) (sides-below k S low e.left e.right h.0.0 h.0.1) in
+      follows k S low (renamed k S low (piece-placed k S low _ cut)
       (λ σ. sides-equal σ e.left e.right) (λ σ. equal-sides σ e.left e.right))
       (equations-piece es h.1)
 
@@ -286,7 +318,8 @@ module _ (k : ℕ) (S : ℕ → Type 0) (low : (v : ℕ) → S v → v < k) wher
           → Piece k S (λ σ. All (DefinitionHolds σ) (keep_if (not b) d rest))
           (λ n. joined (flatten_def_to_3ac b d n).equalities (flatten_defs ps ds (flatten_def_to_3ac b d n).next))
       go ih true e = ih
-      go ih false e = follows k S low (given-piece k S low (Term.Variable d.id) d.right (h.0 e).0 (h.0 e).1) ih
+      go ih false e =
+          follows k S low (piece-placed k S low _ (given-piece k S low (Term.Variable d.id) d.right (h.0 e).0 (h.0 e).1)) ih
 
   pub module-piece : (ps : List ℕ) (ds : List Definition) (es : List Equation) → All (CountedIn S ps) ds → All EquationIn es
       → Piece k S (λ σ. All (DefinitionHolds σ) (those (λ v. not (member v ps)) ds) × All (EquationHolds σ) es) (flatten_lists ps ds es)

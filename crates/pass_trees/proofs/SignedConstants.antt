@@ -16,11 +16,13 @@ use Rattle.constraint.specs.Trees.{Side, Equality}
 use Rattle.constraint.specs.Reading.{SignedTerm, SignedSide, SignedTree, Signed}
 use Rattle.pass_trees.specs.Passes.{member, classify_defs, Substitutions, follow, walk, to_expr, copy_propagate_expr, copy_propagate_def, after_def}
 use Rattle.pass_trees.specs.Passes.{copy_propagate_defs, after_defs, copy_propagate_equations, copy_propagate, eliminate_dead_equalities, when, infix_op}
-use Rattle.pass_trees.specs.Passes.{Cut, or_variable, push_constraint_def, copied, flatten_expr_to_3ac, Cuts, cuts_of, joined, flatten_def_to_3ac}
-use Rattle.pass_trees.specs.Passes.{flatten_defs, Sides, into, both, sides, flatten_sides, flatten_equations, flatten_lists, flatten_module_to_3ac, passes}
+use Rattle.pass_trees.specs.Passes.{Cut, or_variable, push_constraint_def, copied, flatten_expr_to_3ac, Cuts, cuts_of, joined, all_at, placed}
+use Rattle.pass_trees.specs.Passes.{flatten_def_to_3ac, flatten_defs, Sides, into, both, sides, flatten_sides, flatten_equations, flatten_lists}
+use Rattle.pass_trees.specs.Passes.{flatten_module_to_3ac, passes}
 use Rattle.pass_trees.specs.Statements.{SignedModule, PassesKeepSigned, LentReadBack}
 use Rattle.pass_trees.proofs.Lists.{all_append, all-those}
 use Rattle.pass_trees.proofs.Agreement.{accepted}
+use Rattle.pass_trees.proofs.Placed.{placed-all}
 use Rattle.pass_trees.proofs.Copied.{Entries, none-entries, substituting-entries, alive-in}
 
 abbrev SignedEquation : Equation → Type 0
@@ -141,9 +143,9 @@ abbrev SignedCuts : Cuts → Type 0
 SignedCuts c = All SignedEquality c.equalities
 
 def-signed : (b : Bool) (d : Definition) (n : ℕ) → SignedTree d.right → SignedCuts (flatten_def_to_3ac b d n)
-unfolding flatten_def_to_3ac cuts_of
+unfolding flatten_def_to_3ac placed cuts_of
 def-signed true d n h = tt
-def-signed false d n h = (expr-signed (some (Term.Variable d.id)) d.right n tt h).0
+def-signed false d n h = placed-all (λ l r. SignedTerm l × SignedSide r) _ _ (expr-signed (some (Term.Variable d.id)) d.right n tt h).0
 
 defs-signed : (ps : List ℕ) (ds : List Definition) (n : ℕ) → All (λ d. SignedTree d.right) ds → SignedCuts (flatten_defs ps ds n)
 unfolding flatten_defs joined
@@ -184,11 +186,12 @@ cut-sides-signed (both a b) n h =
     (all_append SignedEquality y.equalities _ s.0 (expr-signed (some x.term) (to_expr y.term) y.next r.1 (term-tree y.term s.1)).0)
 
 cut-equations-signed : (es : List Equation) (n : ℕ) → All SignedEquation es → SignedCuts (flatten_equations es n)
-unfolding flatten_equations joined
+unfolding flatten_equations placed joined
 cut-equations-signed [] n h = tt
 cut-equations-signed (e ∷ es) n h =
     let x : Cuts = flatten_sides (sides e.left e.right) n in
-    all_append SignedEquality x.equalities _ (cut-sides-signed (sides e.left e.right) n (sides-signed e.left e.right h.0.0 h.0.1))
+    let own = cut-sides-signed (sides e.left e.right) n (sides-signed e.left e.right h.0.0 h.0.1) in
+    all_append SignedEquality (all_at e.place x.equalities) _ (placed-all (λ l r. SignedTerm l × SignedSide r) _ x.equalities own)
     (cut-equations-signed es x.next h.1)
 
 -- each pass

@@ -5,7 +5,7 @@ use Rattle.field.specs.declared.InfixOp.{InfixOp}
 use Rattle.flat.specs.Trees.{Flat, Definition, Equation, FlatModule}
 use Rattle.flat.specs.Meaning.{update}
 use Rattle.constraint.specs.declared.Term.{Term}
-use Rattle.constraint.specs.Trees.{Side, Equality, ConstraintModule}
+use Rattle.constraint.specs.Trees.{Side, Equality, ConstraintModule, at_place}
 use Rattle.records.specs.FlatRecord.{IDS}
 use Rattle.pass_trees.specs.declared.Usage.{Usage}
 use Rattle.pass_trees.specs.declared.Usage.TheVariants.{Never, Witness, Constraint}
@@ -134,7 +134,7 @@ substituting false v (Flat.variable w) s = cond (w == v) s (update s v (some (Te
 
 -- "apply the given substitutions into the given definition's expression": the definition, and the substitutions after it
 unfoldable pub copy_propagate_def : ℕ → Substitutions → Definition → Definition
-copy_propagate_def k s d = record { id = d.id; right = copy_propagate_expr k s d.right }
+copy_propagate_def k s d = record { id = d.id; right = copy_propagate_expr k s d.right; place = d.place }
 
 unfoldable pub after_def : List ℕ → ℕ → Substitutions → Definition → Substitutions
 after_def ps k s d = substituting (member d.id ps) d.id (copy_propagate_expr k s d.right) s
@@ -150,7 +150,7 @@ after_defs ps k s (d ∷ ds) = after_defs ps k (after_def ps k s d) ds
 unfoldable pub copy_propagate_equations : ℕ → Substitutions → List Equation → List Equation
 copy_propagate_equations k s [] = []
 copy_propagate_equations k s (e ∷ es) =
-    record { left = copy_propagate_expr k s e.left; right = copy_propagate_expr k s e.right } ∷ copy_propagate_equations k s es
+    record { left = copy_propagate_expr k s e.left; right = copy_propagate_expr k s e.right; place = e.place } ∷ copy_propagate_equations k s es
 
 -- the equations are copied with the substitutions after the last definition
 unfoldable pub copy_propagate : FlatModule → FlatModule
@@ -235,15 +235,19 @@ unfoldable pub or_variable : Option Term → ℕ → Term
 or_variable none n = Term.Variable n
 or_variable (some t) n = t
 
+-- an equality of a cut: its place comes of the definition or the equation that is cut (`placed`)
+abbrev pub unplaced : Term → Side → Equality
+unplaced left right = record { left = left; right = right; place = 0 }
+
 -- push_constraint_def after the equalities of the parts: "an id is drawn for every operation, also where the left side is given"
 unfoldable pub push_constraint_def : Option Term → List Equality → ℕ → Side → Cut
 push_constraint_def out es n s =
-    record { term = or_variable out n; next = suc n; equalities = es ++ (record { left = or_variable out n; right = s } ∷ []) }
+    record { term = or_variable out n; next = suc n; equalities = es ++ (unplaced (or_variable out n) s ∷ []) }
 
 -- a term draws no id: it stands for itself, or is copied to the left side that is given
 unfoldable pub copied : Option Term → Term → ℕ → Cut
 copied none t n = record { term = t; next = n; equalities = [] }
-copied (some l) t n = record { term = l; next = n; equalities = record { left = l; right = Side.copy t } ∷ [] }
+copied (some l) t n = record { term = l; next = n; equalities = unplaced l (Side.copy t) ∷ [] }
 
 -- "flatten the given expression down to a single term and place the definitions of its parts"
 unfoldable pub flatten_expr_to_3ac : Option Term → Flat → ℕ → Cut
@@ -268,10 +272,18 @@ cuts_of c = record { next = c.next; equalities = c.equalities }
 unfoldable pub joined : List Equality → Cuts → Cuts
 joined es c = record { next = c.next; equalities = es ++ c.equalities }
 
+-- "three-address equalities inherit it from the definition or equation they cut": each equality with that place
+unfoldable pub all_at : ℕ → List Equality → List Equality
+all_at p [] = []
+all_at p (q ∷ qs) = at_place p q ∷ all_at p qs
+
+unfoldable pub placed : ℕ → Cuts → Cuts
+placed p c = record { next = c.next; equalities = all_at p c.equalities }
+
 -- the definition of a prover variable (true) is kept uncut
 unfoldable pub flatten_def_to_3ac : Bool → Definition → ℕ → Cuts
 flatten_def_to_3ac true d n = record { next = n; equalities = [] }
-flatten_def_to_3ac false d n = cuts_of (flatten_expr_to_3ac (some (Term.Variable d.id)) d.right n)
+flatten_def_to_3ac false d n = placed d.place (cuts_of (flatten_expr_to_3ac (some (Term.Variable d.id)) d.right n))
 
 unfoldable pub flatten_defs : List ℕ → List Definition → ℕ → Cuts
 flatten_defs ps [] n = record { next = n; equalities = [] }
@@ -312,7 +324,7 @@ flatten_sides (both a b) n =
 unfoldable pub flatten_equations : List Equation → ℕ → Cuts
 flatten_equations [] n = record { next = n; equalities = [] }
 flatten_equations (e ∷ es) n =
-    let x : Cuts = flatten_sides (sides e.left e.right) n in
+    let x : Cuts = placed e.place (flatten_sides (sides e.left e.right) n) in
     joined x.equalities (flatten_equations es x.next)
 
 unfoldable pub flatten_lists : List ℕ → List Definition → List Equation → ℕ → Cuts

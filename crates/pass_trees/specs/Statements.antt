@@ -1,7 +1,8 @@
 -- What is proved of the passes, in proofs/: their statements.
-use Rattle.std.specs.Prelude.{◌≡◌, ℕ, ◌<◌, Bool, true, false, ◌↔◌, List, [], ◌∷◌, length, ◌≢◌, slice_index}
+use Rattle.std.specs.Prelude.{◌≡◌, ℕ, ◌+◌, ◌<◌, Bool, true, false, cond, ◌↔◌, List, [], ◌∷◌, ◌++◌, length, ◌≢◌, slice_index, replicate}
 use Rattle.std.proofs.Math.Option.{none, some}
 use Rattle.flat.specs.Trees.{Flat, Definition, Equation, FlatModule, defines}
+use Rattle.flat.specs.Places.{bare_definitions, bare}
 use Rattle.flat.specs.Record.{Read, flat_of}
 use Rattle.flat.specs.Rules.{All, Every, Ordered, WellFormed}
 use Rattle.flat.specs.Meaning.{update, Assignment, Elements, DefinitionHolds, EquationHolds, NoZeroDivisor, worked_out, NoZeroInTurn}
@@ -11,7 +12,8 @@ use Rattle.constraint.specs.Reading.{constraint_of, SignedTree, Signed}
 use Rattle.constraint.specs.Record.{constraint_bytes}
 use Rattle.constraint.specs.Meaning.{InTerm, InEquality, EqualityHolds, Solution}
 use Rattle.pass_trees.specs.Passes.{member, classify_defs, Substitutions, walk, copy_propagate_expr, copy_propagate_def}
-use Rattle.pass_trees.specs.Passes.{after_def, copy_propagate_equations, copy_propagate, counted, cut, passes, cut_of}
+use Rattle.pass_trees.specs.Passes.{after_def, copy_propagate_equations, copy_propagate, counted, Outcome, cut, refused, passes, cut_of}
+use Rattle.pass_trees.specs.Passes.{those, dead, Sides, into, both, sides, all_at}
 use Rattle.pass_trees.specs.Meaning.{Inputs, Uncounted, Given, worked}
 
 -- THE PASSES KEEP THE MEANING. For inputs I with the values ρ, and the module's values τ: the equations hold under τ just if the equalities have a solution
@@ -81,6 +83,72 @@ PassesKeepSolutions =
     All (λ d. (d.id < f.next) × Every (λ v. v < f.next) d.right) f.definitions →
     All (λ e. Every (λ v. v < f.next) e.left × Every (λ v. v < f.next) e.right) f.equations →
     KeepsSolutions f (passes f)
+
+-- PLACES ARE INHERITED: the places of the equalities are, definition by definition and then equation by equation, that of the definition or equation as often
+-- as it has equalities
+
+-- how many equalities a tree is cut into for a left side that is given: one for each operation, and one for a term alone
+unfoldable pub operations : Flat → ℕ
+operations (Flat.infixed o a b) = operations a + operations b + 1
+operations (Flat.negate a) = operations a + 1
+operations (Flat.constant c) = 0
+operations (Flat.variable v) = 0
+
+unfoldable pub equalities_into : Flat → ℕ
+equalities_into (Flat.infixed o a b) = operations (Flat.infixed o a b)
+equalities_into (Flat.negate a) = operations (Flat.negate a)
+equalities_into (Flat.constant c) = 1
+equalities_into (Flat.variable v) = 1
+
+-- and an equation: none where it is obviously true; where neither side is a term, one more
+unfoldable pub equalities_of : Sides → ℕ
+equalities_of (into t e) = equalities_into e
+equalities_of (both a b) = operations a + (operations b + 1)
+
+unfoldable pub places : List Equality → List ℕ
+places [] = []
+places (q ∷ qs) = q.place ∷ places qs
+
+unfoldable pub definition_places : List Definition → List ℕ
+definition_places [] = []
+definition_places (d ∷ ds) = replicate (equalities_into d.right) d.place ++ definition_places ds
+
+unfoldable pub equation_places : List Equation → List ℕ
+equation_places [] = []
+equation_places (e ∷ es) = replicate (cond (dead e.left e.right) 0 (equalities_of (sides e.left e.right))) e.place ++ equation_places es
+
+unfoldable pub own_places : List Definition → List ℕ
+own_places [] = []
+own_places (d ∷ ds) = d.place ∷ own_places ds
+
+unfoldable pub own_equation_places : List Equation → List ℕ
+own_equation_places [] = []
+own_equation_places (e ∷ es) = e.place ∷ own_equation_places es
+
+-- of the counted definitions, and of the equations as copy propagation leaves them, which are the module's with their places; kept definitions have theirs
+pub record PlacesInherited (f : FlatModule) : Type 0 where
+  pub equalities : places (passes f).equalities ≡ definition_places (counted f) ++ equation_places (copy_propagate (classify_defs f)).equations
+  pub equations : own_equation_places (copy_propagate (classify_defs f)).equations ≡ own_equation_places f.equations
+  pub kept : own_places (passes f).kept ≡ own_places (those (λ v. member v (classify_defs f).provers) (classify_defs f).definitions)
+
+-- PLACES STAND APART: with the place words taken out the list is what it is without them, and so is whether it is cut
+unfoldable pub bare_cut : ConstraintModule → ConstraintModule
+bare_cut c =
+    record {
+      next = c.next;
+      publics = c.publics;
+      provers = c.provers;
+      equalities = all_at 0 c.equalities;
+      kept = bare_definitions c.kept;
+    }
+
+unfoldable pub bare_outcome : Outcome → Outcome
+bare_outcome (cut c) = cut (bare_cut c)
+bare_outcome (refused n) = refused n
+
+pub record PlacesApart (f : FlatModule) : Type 0 where
+  pub passes-are : bare_cut (passes f) ≡ passes (bare f)
+  pub cut-is : bare_outcome (cut_of f) ≡ cut_of (bare f)
 
 -- CONSTANTS STAY SIGNED 32-BIT, so that the record's bytes say the list that the passes leave (ReadBack in crate constraint)
 abbrev pub SignedModule : FlatModule → Type 0

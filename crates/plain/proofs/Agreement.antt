@@ -29,7 +29,9 @@ use Rattle.plain.specs.Meaning.{Equal-sides, sides, start, NoDivisorZero}
 use Rattle.plain.specs.Meaning
 use Rattle.plain.specs.Statements.{IsInput, Gives, PlainFlat, SaysTheSame, PlainModulesAgree}
 use Rattle.plain.proofs.Values.{false-true, table}
-use Rattle.plain.proofs.Modules.{ScopedDefinitions, ScopedEquations, flat_sides, InTurnValued, evaluated-kept}
+use Rattle.plain.proofs.Modules.{ScopedDefinitions, ScopedEquations, flat_sides, InTurnValued, Kept, evaluated-kept}
+use Rattle.plain.proofs.Placed.{kept-placed, order-placed}
+use Rattle.eval_trees.proofs.Made.{evaluated-back}
 use Rattle.plain.proofs.Order.{Input, not-true}
 use Rattle.plain.proofs.OrderModules.{SpansDefinitions, SpansEquations, InOrder, order-kept}
 use Rattle.plain.proofs.OrderModules.{input-undefined, ordered, known, ids-below, defined-ids, every_map}
@@ -174,12 +176,14 @@ module _ (m : Module) (plain : is_plain_body m ≡ true) where
 
   module _ (capacity : ℕ) (f : FlatModule) (e : evaluated capacity (numbered m) ≡ flat f) where
     in_order : InOrder (Input bound N beyond) f
-    unfolding evaluated N numbered
+    unfolding N numbered
     in_order =
         let sp = spanned in
-        order-kept bound N beyond 256 capacity 9 (numbered m) Δ f {mid = sp.mid} refl (intrinsic 0 (omega arith)) (intrinsic 2 (omega arith))
+        let u = evaluated-back capacity (numbered m) f e in
+        subst (InOrder (Input bound N beyond)) (sym u.is) (order-placed (Input bound N beyond) _ _ u.made
+        (order-kept bound N beyond 256 capacity 9 (numbered m) Δ u.made {mid = sp.mid} refl (intrinsic 0 (omega arith)) (intrinsic 2 (omega arith))
         (intrinsic 5 (omega arith)) scoped-definitions scoped-equations sp.definitions sp.equations
-        (rules-all (λ v. v < (names_of m).next) (numbered m).publics (module-step m).publics.uses) e
+        (rules-all (λ v. v < (names_of m).next) (numbered m).publics (module-step m).publics.uses) u.by))
 
     known-definitions : Rules.All (λ d. Every (λ v. defines f.definitions v ≡ false → Input bound N beyond v) d.right) f.definitions
     unfolding defines
@@ -232,7 +236,7 @@ module _ (m : Module) (plain : is_plain_body m ≡ true) where
         pub same-sides : flat_sides (worked_out f.definitions υ) f.equations ≡ sides (Meaning.defined (start ρ) m.definitions) m.expressions
 
       kept : Evaluated
-      unfolding numbered number_module_variables ◌>>=◌ return inputs input_ids free_in_module evaluated N Δ
+      unfolding numbered number_module_variables ◌>>=◌ return inputs input_ids free_in_module N Δ
       kept =
           let g = (number_publics m.publics (registered m.names)).1 in
           let p = publics-step m.publics (registered m.names) (registered-well m.names) in
@@ -245,8 +249,10 @@ module _ (m : Module) (plain : is_plain_body m ≡ true) where
           (Meaning.defined (table υ) (numbered m).definitions) (start ρ) (table υ) ds.step.grown.well ds.scope dm.means k.1 in
           let dv = definitions-valued definitions-plain (start ρ) (λ x. (ρ x, refl)) no_zero.0 in
           let ev = equations-valued equations-plain (Meaning.defined (start ρ) m.definitions) dv.total no_zero.1 in
-          let kp = evaluated-kept bound N beyond υ υ-elements 256 capacity (numbered m) Δ f refl (intrinsic 0 (omega arith)) (intrinsic 2 (omega arith))
-          (intrinsic 5 (omega arith)) scoped-definitions scoped-equations (dm.valued dv.valued) (em.valued ev) e in
+          let u = evaluated-back capacity (numbered m) f e in
+          let made = evaluated-kept bound N beyond υ υ-elements 256 capacity (numbered m) Δ u.made refl (intrinsic 0 (omega arith)) (intrinsic 2 (omega arith))
+          (intrinsic 5 (omega arith)) scoped-definitions scoped-equations (dm.valued dv.valued) (em.valued ev) u.by in
+          let kp = subst (Kept bound N beyond υ υ-elements _ _) (sym u.is) (kept-placed bound N beyond υ υ-elements _ _ _ _ u.made made) in
           record { in-turn = kp.in-turn; same-sides = kp.same-sides ∙ em.means }
 
       pub says-the-same : SaysTheSame m ρ f υ (worked_out f.definitions υ)

@@ -46,15 +46,15 @@ made = record {
   publics = 9 ∷ [];
   provers = [];
   definitions =
-      record { id = 14; right = Flat.infixed Divide (Flat.constant (pos 1)) (Flat.variable 9) }
-      ∷ record { id = 10; right = Flat.variable 14 }
-      ∷ record { id = 15; right = Flat.infixed Add (Flat.variable 9) (Flat.constant (pos 1)) }
-      ∷ record { id = 11; right = Flat.variable 15 }
-      ∷ record { id = 16; right = Flat.infixed Multiply (Flat.variable 15) (Flat.variable 15) }
-      ∷ record { id = 17; right = Flat.infixed Multiply (Flat.variable 9) (Flat.variable 16) }
-      ∷ record { id = 12; right = Flat.variable 17 }
+      record { id = 14; right = Flat.infixed Divide (Flat.constant (pos 1)) (Flat.variable 9); place = 0 }
+      ∷ record { id = 10; right = Flat.variable 14; place = 0 }
+      ∷ record { id = 15; right = Flat.infixed Add (Flat.variable 9) (Flat.constant (pos 1)); place = 1 }
+      ∷ record { id = 11; right = Flat.variable 15; place = 1 }
+      ∷ record { id = 16; right = Flat.infixed Multiply (Flat.variable 15) (Flat.variable 15); place = 1 }
+      ∷ record { id = 17; right = Flat.infixed Multiply (Flat.variable 9) (Flat.variable 16); place = 1 }
+      ∷ record { id = 12; right = Flat.variable 17; place = 1 }
       ∷ [];
-  equations = record { left = Flat.variable 17; right = Flat.variable 13 } ∷ [];
+  equations = record { left = Flat.variable 17; right = Flat.variable 13; place = 2 } ∷ [];
 }
 
 pub is-plain : is_plain source ≡ true
@@ -94,7 +94,13 @@ fresh-public-body = refl
 
 abbrev fresh-public-made : FlatModule
 fresh-public-made =
-    record { next = 10; publics = 0 ∷ []; provers = []; definitions = []; equations = record { left = Flat.variable 9; right = Flat.constant (pos 1) } ∷ [] }
+    record {
+      next = 10;
+      publics = 0 ∷ [];
+      provers = [];
+      definitions = [];
+      equations = record { left = Flat.variable 9; right = Flat.constant (pos 1); place = 0 } ∷ [];
+    }
 
 fresh-public-makes : evaluated 65535 (Rattle.numbering.specs.Numbering.numbered fresh-public) ≡ flat fresh-public-made
 unfolding answer_of

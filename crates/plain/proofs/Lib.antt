@@ -5,6 +5,7 @@ pub mod Lets
 pub mod Modules
 pub mod Order
 pub mod OrderModules
+pub mod Placed
 pub mod PowerCounts
 pub mod Numbered
 pub mod Working

@@ -199,7 +199,7 @@ module _ (B : ℕ → Bool) (N : ℕ) (beyond : (x : ℕ) → N ≤ x → B x �
         bindings = q.bindings ∙ m.bindings;
         provers = q.provers ∙ m.provers;
         definitions = q.definitions ∙ m.definitions;
-        equations = q.equations ∙ ap (λ (l : List Equation). record { left = q.left-tree; right = q.right-tree } ∷ l) m.equations;
+        equations = q.equations ∙ ap (λ (l : List Equation). record { left = q.left-tree; right = q.right-tree; place = 0 } ∷ l) m.equations;
       }
 
   pub equal-back : (ev : Expr → Run Expr) {n : ℕ} (a b : Expr) (s u : State) (v : Expr) → Term B n a
@@ -243,7 +243,7 @@ module _ (B : ℕ → Bool) (N : ℕ) (beyond : (x : ℕ) → N ≤ x → B x �
         agree = agree-kept B N t h n kept bi ag;
         matched =
             subst (λ (es : List Equation). Matched u es ((x, y) ∷ ps))
-            (sym (q.equations ∙ ap (λ (l : List Equation). record { left = q.left-tree; right = q.right-tree } ∷ l) g.equations)) (
+            (sym (q.equations ∙ ap (λ (l : List Equation). record { left = q.left-tree; right = q.right-tree; place = 0 } ∷ l) g.equations)) (
               free_up _ _ n2 q.left-tree fa,
               free_up _ _ n2 q.right-tree fb,
               free-value s2 u same q.left-tree fa ∙ flat-value _ a q.left-tree q.left_is ∙ va,

@@ -66,7 +66,7 @@ spans-le (spans_let a h b) = omega (arith, spans-le a, spans-le b)
 
 -- what defines an id
 abbrev pub same : ℕ → Flat → Definition
-same i f = record { id = i; right = f }
+same i f = record { id = i; right = f; place = 0 }
 
 pub defines-head : (d : Definition) (ds : List Definition) → defines (d ∷ ds) d.id ≡ true
 unfolding defines

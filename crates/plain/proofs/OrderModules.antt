@@ -188,7 +188,7 @@ module _ (B : ℕ → Bool) (N : ℕ) (beyond : (x : ℕ) → N ≤ x → B x �
         free = free-alike B N beyond al f;
         scope = scope-alike B N beyond n al g;
         sides =
-            pushed u.next (record { left = x.left-tree; right = x.right-tree }) s.equations s2.equations u.equations x.equations
+            pushed u.next (record { left = x.left-tree; right = x.right-tree; place = 0 }) s.equations s2.equations u.equations x.equations
             (r'.equations ∙ r.equations)
             (ul.ids x.left-tree x.left_is, ur.ids x.right-tree x.right_is) (sides-up s.next u.next n s.equations tm);
       }

@@ -54,19 +54,19 @@ raised-value x n z c h = value-path _ z (sym (power-natural P P-prime x (pos n) 
 
 module _ (B : ℕ → Bool) (N : ℕ) (beyond : (x : ℕ) → N ≤ x → B x ≡ false) (t : Assignment) (elements : Elements t) where
   -- a definition was pushed
-  pub grew_by : (s u : State) (i : ℕ) (f : Flat) → s.next ≤ u.next → u.definitions ≡ record { id = i; right = f } ∷ s.definitions
+  pub grew_by : (s u : State) (i : ℕ) (f : Flat) → s.next ≤ u.next → u.definitions ≡ record { id = i; right = f; place = 0 } ∷ s.definitions
       → u.equations ≡ s.equations → ((x : ℕ) → B x ≡ false → x < s.next → x ≡ i → ⊥) → Grew B N t s u
   unfolding run
   grew_by s u i f n d q a =
       record { next = n; equations = q; kept = λ x b l. ap (λ (ds : List Definition). run t ds x) d ∙ update_other (run t s.definitions) i _ x (a x b l) }
 
   pub core-by : (s u : State) (i : ℕ) (f : Flat) (z : ℤ) → u.provers ≡ s.provers → s.next ≤ u.next
-      → u.definitions ≡ record { id = i; right = f } ∷ s.definitions → value (run t s.definitions) f ≡ Some z → Core B N t s → Core B N t u
+      → u.definitions ≡ record { id = i; right = f; place = 0 } ∷ s.definitions → value (run t s.definitions) f ≡ Some z → Core B N t s → Core B N t u
   core-by s u i f z p n d h c =
       record { provers = p ∙ c.provers; above = le_trans c.above n; valued = subst (λ (ds : List Definition). RunValued t ds) (sym d) ((z, h), c.valued) }
 
   new-definition : (f : Flat) (s u : State) (v : Expr) (z : ℤ) (i : ℕ) → v ≡ variable i → i ≡ s.next → u.next ≡ suc s.next → u.bindings ≡ s.bindings
-      → u.provers ≡ s.provers → u.definitions ≡ record { id = i; right = f } ∷ s.definitions → u.equations ≡ s.equations → Core B N t s
+      → u.provers ≡ s.provers → u.definitions ≡ record { id = i; right = f; place = 0 } ∷ s.definitions → u.equations ≡ s.equations → Core B N t s
       → value (run t s.definitions) f ≡ Some z → Result B N t s u v z
   unfolding run value_of or_zero
   new-definition f s u v z i w j n b p d q c h = record {

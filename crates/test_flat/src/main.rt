@@ -11,11 +11,11 @@ use test_report::{
 };
 
 // Room for the record, the store and the output of each case.
-const RECORD: usize = 345000;
+const RECORD: usize = 378000;
 
 const STORE: usize = 1024;
 
-const OUTPUT: usize = 480000;
+const OUTPUT: usize = 540000;
 
 // Bytes are compared by blocks.
 const BLOCK: usize = 4096;

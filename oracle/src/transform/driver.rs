@@ -174,20 +174,41 @@ fn def_id(def: &Definition) -> u32 {
     }
 }
 
-pub fn flat_of_module(m: &Module, prover_defs: &HashSet<VariableId>, next: u32) -> Option<Flat> {
+/* The places of a module's definitions and of its expressions (document 02
+ * (x)). The Rust knows none: they are told by the length of its lists before
+ * and after each of what fills them. */
+#[derive(Clone, Default)]
+pub struct Places {
+    defs: Vec<u32>,
+    exprs: Vec<u32>,
+}
+
+impl Places {
+    fn none(m: &Module) -> Places {
+        Places { defs: vec![0; m.defs.len()], exprs: vec![0; m.exprs.len()] }
+    }
+    /* What the module has more than before has this place. */
+    fn note(&mut self, m: &Module, place: u32) {
+        assert!(self.defs.len() <= m.defs.len() && self.exprs.len() <= m.exprs.len(), "oracle: a list shrank");
+        self.defs.resize(m.defs.len(), place);
+        self.exprs.resize(m.exprs.len(), place);
+    }
+}
+
+pub fn flat_of_module(m: &Module, places: &Places, prover_defs: &HashSet<VariableId>, next: u32) -> Option<Flat> {
     let mut f = Flat { next, ..Flat::default() };
     f.pubs = m.pubs.iter().map(|v| v.id).collect();
     f.provers = sorted(prover_defs);
-    for def in &m.defs {
+    for (def, place) in m.defs.iter().zip(&places.defs) {
         let n = put_expr(&def.0 .1, &mut f.nodes)?;
-        f.defs.push((def_id(def), n));
+        f.defs.push([def_id(def), n, *place]);
     }
-    for e in &m.exprs {
+    for (e, place) in m.exprs.iter().zip(&places.exprs) {
         match &e.v {
             Expr::Infix(InfixOp::Equal, l, r) => {
                 let l = put_expr(l, &mut f.nodes)?;
                 let r = put_expr(r, &mut f.nodes)?;
-                f.eqs.push((l, r));
+                f.eqs.push([l, r, *place]);
             }
             _ => panic!("oracle: a flat expression is no equation: {e}"),
         }
@@ -207,13 +228,13 @@ fn get_expr(f: &Flat, n: u32) -> TExpr {
     TExpr { v, t: None }
 }
 
-pub fn module_of_flat(f: &Flat) -> (Module, HashSet<VariableId>) {
+pub fn module_of_flat(f: &Flat) -> (Module, Places, HashSet<VariableId>) {
     let m = Module {
         pubs: f.pubs.iter().map(|v| Variable::new(*v)).collect(),
         defs: f
             .defs
             .iter()
-            .map(|(v, n)| {
+            .map(|[v, n, _]| {
                 Definition(LetBinding(
                     Pat::Variable(Variable::new(*v)).type_pat(None),
                     Box::new(get_expr(f, *n)),
@@ -223,7 +244,7 @@ pub fn module_of_flat(f: &Flat) -> (Module, HashSet<VariableId>) {
         exprs: f
             .eqs
             .iter()
-            .map(|(l, r)| {
+            .map(|[l, r, _]| {
                 Expr::Infix(
                     InfixOp::Equal,
                     Box::new(get_expr(f, *l)),
@@ -233,7 +254,11 @@ pub fn module_of_flat(f: &Flat) -> (Module, HashSet<VariableId>) {
             })
             .collect(),
     };
-    (m, f.provers.iter().copied().collect())
+    let places = Places {
+        defs: f.defs.iter().map(|e| e[2]).collect(),
+        exprs: f.eqs.iter().map(|e| e[2]).collect(),
+    };
+    (m, places, f.provers.iter().copied().collect())
 }
 
 /* ---- the passes and the constraint record ---- */
@@ -247,19 +272,77 @@ fn term(e: &TExpr) -> [u32; 2] {
 }
 
 /* The four passes in document 01's order. */
-pub fn passes(flat: Module, mut prover_defs: HashSet<VariableId>, gen: &mut VarGen) -> Cons {
+pub fn passes(flat: Module, places: &Places, prover_defs: HashSet<VariableId>, next: u32) -> Cons {
+    let whole = passes_whole(flat.clone(), prover_defs.clone(), next);
+    let by_entry = passes_by_entry(&flat, places, prover_defs, next);
+    assert!(whole == by_entry.without_places(), "{DIFFERS}the passes entry by entry");
+    by_entry
+}
+
+/* What begins the message where the Rust's functions give one answer called
+ * whole, and another one called part by part. */
+pub const DIFFERS: &str = "oracle: another answer by ";
+
+fn passes_whole(flat: Module, mut prover_defs: HashSet<VariableId>, next: u32) -> Cons {
+    let mut gen = VarGen(next);
     let mut omodule = Some(flat);
     classify_defs(&mut omodule, &mut prover_defs);
     let module = omodule.as_mut().unwrap();
     copy_propagate(module, &prover_defs);
     eliminate_dead_equalities(module);
     let mut out = Module::default();
-    flatten_module_to_3ac(&omodule, &prover_defs, &mut out, gen);
+    flatten_module_to_3ac(&omodule, &prover_defs, &mut out, &mut gen);
+    cons_of(&out, &Places::none(&out), &prover_defs, gen.0)
+}
 
-    let mut c = Cons { next: gen.0, ..Cons::default() };
+/* The same with the places of what stays. Copy propagation keeps both lists as
+ * they are; the passes before and behind it get the entries one by one. */
+fn passes_by_entry(flat: &Module, places: &Places, mut prover_defs: HashSet<VariableId>, next: u32) -> Cons {
+    let mut gen = VarGen(next);
+    let left = classified_places(flat, &mut prover_defs);
+    let defs = left.iter().map(|i| flat.defs[*i].clone()).collect();
+    let mut module = Module { pubs: flat.pubs.clone(), defs, exprs: flat.exprs.clone() };
+    copy_propagate(&mut module, &prover_defs);
+    let mut out = Module { pubs: module.pubs, ..Module::default() };
+    let mut cut = Places::default();
+    for (def, i) in module.defs.into_iter().zip(left) {
+        let one = Some(Module { defs: vec![def], ..Module::default() });
+        flatten_module_to_3ac(&one, &prover_defs, &mut out, &mut gen);
+        cut.note(&out, places.defs[i]);
+    }
+    for (expr, place) in module.exprs.into_iter().zip(&places.exprs) {
+        let mut one = Module { exprs: vec![expr], ..Module::default() };
+        eliminate_dead_equalities(&mut one);
+        flatten_module_to_3ac(&Some(one), &prover_defs, &mut out, &mut gen);
+        cut.note(&out, *place);
+    }
+    cons_of(&out, &cut, &prover_defs, gen.0)
+}
+
+/* The Rust's classify_defs alone: which definitions it leaves. Each is marked
+ * with where it stands by a name, which no pass looks at. */
+fn classified_places(flat: &Module, prover_defs: &mut HashSet<VariableId>) -> Vec<usize> {
+    let mut marked = flat.clone();
+    for (i, d) in marked.defs.iter_mut().enumerate() {
+        if let Pat::Variable(v) = &mut d.0 .0.v {
+            v.name = Some(i.to_string());
+        }
+    }
+    let mut marked = Some(marked);
+    classify_defs(&mut marked, prover_defs);
+    let name = |d: &Definition| match &d.0 .0.v {
+        Pat::Variable(v) => v.name.as_ref().unwrap().parse().unwrap(),
+        _ => unreachable!(),
+    };
+    marked.unwrap().defs.iter().map(name).collect()
+}
+
+/* The constraint record of the last pass's lists. */
+fn cons_of(out: &Module, places: &Places, prover_defs: &HashSet<VariableId>, next: u32) -> Cons {
+    let mut c = Cons { next, ..Cons::default() };
     c.pubs = out.pubs.iter().map(|v| v.id).collect();
-    c.provers = sorted(&prover_defs);
-    for e in &out.exprs {
+    c.provers = sorted(prover_defs);
+    for (e, place) in out.exprs.iter().zip(&places.exprs) {
         let (l, r) = match &e.v {
             Expr::Infix(InfixOp::Equal, l, r) => (l, r),
             _ => panic!("oracle: no equality: {e}"),
@@ -268,26 +351,26 @@ pub fn passes(flat: Module, mut prover_defs: HashSet<VariableId>, gen: &mut VarG
         c.eqs.push(match &r.v {
             Expr::Infix(op, a, b) => {
                 let ([a0, a1], [b0, b1]) = (term(a), term(b));
-                [l0, l1, op_number(*op), a0, a1, b0, b1]
+                [l0, l1, op_number(*op), a0, a1, b0, b1, *place]
             }
             Expr::Negate(a) => {
                 let [a0, a1] = term(a);
-                [l0, l1, 9, a0, a1, 0, 0]
+                [l0, l1, 9, a0, a1, 0, 0, *place]
             }
             _ => {
                 let [a0, a1] = term(r);
-                [l0, l1, 10, a0, a1, 0, 0]
+                [l0, l1, 10, a0, a1, 0, 0, *place]
             }
         });
     }
-    for def in &out.defs {
+    for (def, place) in out.defs.iter().zip(&places.defs) {
         // The Rust's list has each equality's definition too (its left side may
         // be a constant pattern only where the last one of an equation was
         // popped, so never here).
         if let Pat::Variable(v) = &def.0 .0.v {
             if prover_defs.contains(&v.id) {
                 let n = put_expr(&def.0 .1, &mut c.nodes).expect("oracle: kept definition not flat");
-                c.kept.push((v.id, n));
+                c.kept.push([v.id, n, *place]);
             }
         } else {
             panic!("oracle: definition of no variable left: {}", def.0 .0);
@@ -300,19 +383,38 @@ pub fn passes(flat: Module, mut prover_defs: HashSet<VariableId>, gen: &mut VarG
 
 pub struct Evaluated {
     pub module: Module,
+    pub places: Places,
     pub prover_defs: HashSet<VariableId>,
     pub gen: VarGen,
 }
 
 impl Evaluated {
     pub fn flat(&self) -> Option<Flat> {
-        flat_of_module(&self.module, &self.prover_defs, self.gen.0)
+        flat_of_module(&self.module, &self.places, &self.prover_defs, self.gen.0)
     }
     pub fn next(&self) -> u32 {
         self.gen.0
     }
-    pub fn passes(mut self) -> Cons {
-        passes(self.module, self.prover_defs, &mut self.gen)
+    pub fn passes(self) -> Cons {
+        passes(self.module, &self.places, self.prover_defs, self.gen.0)
+    }
+    /* The same but for the places; lists that no flat record has by their text. */
+    fn same(&self, other: &Evaluated) -> bool {
+        match (self.flat(), other.flat()) {
+            (Some(a), Some(b)) => a.without_places() == b.without_places(),
+            (None, None) => {
+                self.module.to_string() == other.module.to_string()
+                    && sorted(&self.prover_defs) == sorted(&other.prover_defs)
+                    && self.gen.0 == other.gen.0
+            }
+            _ => false,
+        }
+    }
+    /* The same with places, by a second run. */
+    pub fn placed(&self, s: &Source) -> Evaluated {
+        let placed = evaluate_by_statement(s);
+        assert!(self.same(&placed), "{DIFFERS}evaluation statement by statement");
+        placed
     }
 }
 
@@ -338,8 +440,9 @@ fn numbered(s: &Source) -> Numbered {
 }
 
 /* Numbers the module and evaluates it. Evaluation never reads the flat lists
- * again, so that narrowing them behind it is narrowing what is pushed. */
-pub fn evaluate_source(s: &Source) -> Evaluated {
+ * again, so that narrowing them behind it is narrowing what is pushed. No place
+ * is known here. */
+pub fn evaluate_whole(s: &Source) -> Evaluated {
     let Numbered { module, mut bindings, mut gen } = numbered(s);
     let mut prover_defs = HashSet::new();
     let mut flattened = Some(Module::default());
@@ -355,7 +458,26 @@ pub fn evaluate_source(s: &Source) -> Evaluated {
     );
     let mut module = flattened.unwrap();
     narrow_lists(&mut module);
-    Evaluated { module, prover_defs, gen }
+    Evaluated { places: Places::none(&module), module, prover_defs, gen }
+}
+
+/* The same statement by statement, each as a module of its own that goes on
+ * with what the last one left: an entry's place is that of the statement in
+ * whose evaluation it was pushed. */
+pub fn evaluate_by_statement(s: &Source) -> Evaluated {
+    let Numbered { module, mut bindings, mut gen } = numbered(s);
+    let mut prover_defs = HashSet::new();
+    let mut flattened = Some(Module { pubs: module.pubs, ..Module::default() });
+    let mut places = Places::default();
+    let defs = module.defs.into_iter().map(|d| Module { defs: vec![d], ..Module::default() });
+    let exprs = module.exprs.into_iter().map(|e| Module { exprs: vec![e], ..Module::default() });
+    for (place, one) in defs.chain(exprs).enumerate() {
+        evaluate_module(&one, &mut flattened, &mut bindings, &mut prover_defs, &Field, &mut gen);
+        places.note(flattened.as_ref().unwrap(), place as u32);
+    }
+    let mut module = flattened.unwrap();
+    narrow_lists(&mut module);
+    Evaluated { module, places, prover_defs, gen }
 }
 
 /* The numbered module alone, printed by the Rust's own Display (for looking at
@@ -452,33 +574,17 @@ pub fn numbers_line(s: &Source) -> String {
 }
 
 pub fn run_flat(f: &Flat) -> Cons {
-    let (m, p) = module_of_flat(f);
-    passes(m, p, &mut VarGen(f.next))
+    let (m, places, p) = module_of_flat(f);
+    passes(m, &places, p, f.next)
 }
 
 /* ---- document 01's wording of classify_defs against the Rust ---- */
 
-/* The Rust's classify_defs alone: places of the definitions left, and the
- * prover ids after it. */
+/* The Rust's classify_defs alone: where the definitions stood that are left,
+ * and the prover ids after it. */
 fn classified(f: &Flat) -> (Vec<usize>, Vec<u32>) {
-    let (mut m, mut p) = module_of_flat(f);
-    // Mark each definition with its place by a name.
-    for (i, d) in m.defs.iter_mut().enumerate() {
-        if let Pat::Variable(v) = &mut d.0 .0.v {
-            v.name = Some(i.to_string());
-        }
-    }
-    let mut om = Some(m);
-    classify_defs(&mut om, &mut p);
-    let left = om
-        .unwrap()
-        .defs
-        .iter()
-        .map(|d| match &d.0 .0.v {
-            Pat::Variable(v) => v.name.as_ref().unwrap().parse().unwrap(),
-            _ => unreachable!(),
-        })
-        .collect();
+    let (m, _, mut p) = module_of_flat(f);
+    let left = classified_places(&m, &mut p);
     (left, sorted(&p))
 }
 
@@ -503,7 +609,7 @@ pub fn classify_differs(f: &Flat) -> Option<String> {
     let mut con: HashSet<u32> = HashSet::new();
     let mut any: HashSet<u32> = HashSet::new();
     let mut vs = Vec::new();
-    for (l, r) in &f.eqs {
+    for [l, r, _] in &f.eqs {
         flat_vars(f, *l, &mut vs);
         flat_vars(f, *r, &mut vs);
     }
@@ -511,7 +617,7 @@ pub fn classify_differs(f: &Flat) -> Option<String> {
     any.extend(&vs);
     loop {
         let size = (con.len(), any.len());
-        for (id, n) in &f.defs {
+        for [id, n, _] in &f.defs {
             let mut vs = Vec::new();
             flat_vars(f, *n, &mut vs);
             if con.contains(id) && !given.contains(id) {
@@ -525,7 +631,7 @@ pub fn classify_differs(f: &Flat) -> Option<String> {
             break;
         }
     }
-    let left: Vec<usize> = (0..f.defs.len()).filter(|i| any.contains(&f.defs[*i].0)).collect();
+    let left: Vec<usize> = (0..f.defs.len()).filter(|i| any.contains(&f.defs[*i][0])).collect();
     let mut provers: HashSet<u32> = given.clone();
     provers.extend(any.iter().filter(|v| !con.contains(v)));
     let want = (left, sorted(&provers));
@@ -543,7 +649,7 @@ pub fn order_facts(f: &Flat) -> (bool, bool) {
     let mut defined = HashSet::new();
     let mut used = HashSet::new();
     let (mut twice, mut before) = (false, false);
-    for (id, n) in &f.defs {
+    for [id, n, _] in &f.defs {
         let mut vs = Vec::new();
         flat_vars(f, *n, &mut vs);
         used.extend(vs);
