@@ -1,4 +1,4 @@
-// A plain module as text of rules.
+// A module that a text can have, as text of rules.
 #![tactic(auto)]
 
 pub mod expressions;
