@@ -3,11 +3,11 @@ use mathlib.Core.Path.{◌≡◌, refl, sym, ap, ◌∙◌, subst}
 use mathlib.Core.List.{List, [], ◌∷◌, ◌++◌}
 use mathlib.Core.Bool.{Bool, true, false, not, ◌&&◌, ◌||◌, cond}
 use mathlib.Core.Logic.{◌⊎◌, inl, inr}
-use Prim.Native.Nat.{ℕ, zero, suc, ◌+◌, ◌-◌, ◌*◌, ◌≤◌, ◌<◌}
+use Prim.Native.Nat.{ℕ, suc, ◌+◌, ◌-◌, ◌*◌, ◌≤◌, ◌<◌}
 use Prim.Native.Char.{code}
 use native.Mathlib.Omega.{arith}
 use lib.Dec.{leb, ltb, eqb}
-use lib.ListN.{length, length-append, take, get_or}
+use lib.ListN.{length, length-append, take}
 use borrow.Author.Tests.{leb-true, leb-false, le-leb, lt-leb, lt-ltb, ltb-true, ltb-false, eqb-true, eq-eqb}
 use Rattle.std.specs.Prelude.{Option, Some, None}
 use Rattle.std.specs.Option.{is_some}
@@ -15,14 +15,14 @@ use Rattle.records.specs.SourceRecord.{NAME-BYTES}
 use Rattle.rule_trees.specs.Tokens.{Token, def, name, number, equals, semicolon, opening, closing, caret, factor, term}
 use Rattle.rule_trees.specs.Tokens.{Class, letter, digit, blank, other, symbol, SYMBOLS, class_among, class_of, between}
 use Rattle.rule_trees.specs.Tokens.{is_lower, is_letter, is_digit, is_blank}
-use Rattle.rule_trees.specs.Tokens.{in_word, in_number, LARGEST, onto}
+use Rattle.rule_trees.specs.Tokens.{in_word, in_number, LARGEST, onto, same_text, typed, starts_lower, is_reserved, is_name, word_token, number_token}
 use Rattle.rule_trees.specs.Tokens.{Run, nothing, word, digits, longer}
 use Rattle.rule_trees.specs.declared.Factor.TheVariants.{Star, Slash, Bar, Backslash, Percent}
 use Rattle.rule_trees.specs.declared.Term.TheVariants.{Plus, Minus}
 use Rattle.rule_trees.specs.declared.Place.{Place}
 use Rattle.rule_trees.specs.declared.Place.TheVariants.{Starting, BehindDef, BehindName, WantsOperand, WantsAtom, HasOperand}
 use Rattle.rule_trees.specs.Judge.{operand_judge, behind_judge, start_judge, def_judge, name_judge, judged, may_end, belongs}
-use Rattle.rule_trees.specs.Prefix.{Stage, stage, run_ends, takes_name, takes_number, leads_name, hopeful, unless_hopeless, at_place, begun}
+use Rattle.rule_trees.specs.Prefix.{Stage, stage, behind, run_ends, takes_name, takes_number, leads_name, hopeful, unless_hopeless, at_place, begun}
 use Rattle.rule_trees.specs.Prefix.{byte_step, walk, complete, START, taken}
 use Rattle.rule_trees.proofs.Facts.{none-some, false-true}
 use Rattle.rule_trees.proofs.Spelling.{longer-word, longer-digits}
@@ -37,9 +37,9 @@ use Rattle.rule_scan.proofs.Judging.{by-kind}
 use Rattle.rule_scan.proofs.Classes.{number-class, digit-byte}
 use Rattle.rule_message.specs.declared.expected.Expected.{Expected}
 use Rattle.rule_message.specs.declared.expected.Limit.{Limit}
-use Rattle.rule_message.specs.Expected.{all_expected, TENS, is_word, short_word, small_number, large_number, begins_run, is_number, joins, may_stand, is_expected}
-use Rattle.rule_message.specs.Expected.{Starts, Named, too_long}
-use Rattle.rule_message.specs.Statements.{Exceeds, Stops, WordsName, EndExpected, AllListed, LimitsHold}
+use Rattle.rule_message.specs.Expected.{TENS, is_word, short_word, small_number, large_number, begins_run, is_number, joins, may_stand, is_expected}
+use Rattle.rule_message.specs.Expected.{Starts, Named, too_long, endless}
+use Rattle.rule_message.specs.Statements.{Exceeds, Stops, WordsName, EndExpected, AllListed, LimitsHold, ReservedHolds}
 
 -- ---- where the walk stops
 
@@ -714,8 +714,7 @@ limits-hold b s e c stays r l = go s.run refl l
     long : (w : List ℕ) → s.run ≡ word w → in_word (class_of c) ≡ true → (x : Bool) → ltb (length w) NAME-BYTES ≡ x → Held
     long w q i true y = absurd (no (word-goes s h c w q (ltb-true (length w) NAME-BYTES y) i))
     long w q i false y =
-        let k = leads s h c w q in
-        (
+        let k = leads s h c w q in (
           Limit.Word,
           ap (λ u. too_long u c) q ∙ ap (λ x. cond x (Some Limit.Word) None) i,
           (w, q, omega (arith, ltb-false (length w) NAME-BYTES y, k.1)),
@@ -738,3 +737,99 @@ limits-hold b s e c stays r l = go s.run refl l
         by : (x : Bool) → in_number (class_of c) ≡ x → cond x (Some (digits (onto n c))) None ≡ Some r → Held
         by true i k = large n q i (leb (onto n c) LARGEST) refl
         by false i k = none-some k
+
+-- ---- a run that may not end is a word that is reserved
+
+number-judged : (p : Place) (n : ℕ) → takes_number p ≡ true → (q : Place) × (judged p (number n) ≡ Some q)
+unfolding judged start_judge operand_judge takes_number
+number-judged Starting n e = (HasOperand false 0, refl)
+number-judged BehindDef n e = false-true e
+number-judged BehindName n e = false-true e
+number-judged (WantsOperand seen d) n e = (HasOperand seen d, refl)
+number-judged (WantsAtom seen d) n e = (HasOperand seen d, refl)
+number-judged (HasOperand seen d) n e = false-true e
+
+name-judged : (p : Place) (w : List ℕ) → takes_name p ≡ true → (q : Place) × (judged p (name w) ≡ Some q)
+unfolding judged start_judge def_judge operand_judge takes_name
+name-judged Starting w e = (HasOperand false 0, refl)
+name-judged BehindDef w e = (BehindName, refl)
+name-judged BehindName w e = false-true e
+name-judged (WantsOperand seen d) w e = (HasOperand seen d, refl)
+name-judged (WantsAtom seen d) w e = (HasOperand seen d, refl)
+name-judged (HasOperand seen d) w e = false-true e
+
+starts-leads : (w : List ℕ) → 0 < length w → leads_name w ≡ true → starts_lower w ≡ true
+unfolding leads_name starts_lower
+starts-leads [] l e = absurd (omega arith)
+starts-leads (c ∷ w) l e = e
+
+def-reserved : (w : List ℕ) → same_text w (typed "def") ≡ true → is_reserved w ≡ true
+unfolding is_reserved
+def-reserved w e = ap (λ x. x || same_text w (typed "fresh") || same_text w (typed "iter") || same_text w (typed "fold")) e
+
+no-name : (w : List ℕ) → starts_lower w ≡ true → leb (length w) NAME-BYTES ≡ true → is_name w ≡ false → is_reserved w ≡ true
+unfolding is_name
+no-name w l k e = go (is_reserved w) refl
+  where
+    go : (x : Bool) → is_reserved w ≡ x → is_reserved w ≡ true
+    go true h = h
+    go false h = false-true (sym e ∙ rw (l, k, h) refl)
+
+-- the word's token, where the run may not end
+no-token : (w : List ℕ) (p : Place) → takes_name p ≡ true → behind (word_token w) p ≡ None → (same_text w (typed "def") ≡ true) ⊎ (is_name w ≡ false)
+unfolding word_token behind
+no-token w p t e = go (same_text w (typed "def")) (is_name w) refl refl e
+  where
+    go : (x y : Bool) → same_text w (typed "def") ≡ x → is_name w ≡ y → behind (cond x (Some def) (cond y (Some (name w)) None)) p ≡ None
+        → (same_text w (typed "def") ≡ true) ⊎ (is_name w ≡ false)
+    go true y h k e = inl h
+    go false false h k e = inr k
+    go false true h k e = none-some (sym e ∙ (name-judged p w t).1)
+
+module _ (s : Stage) (h : Reached s) (none : run_ends s ≡ None) where
+  ends-by : (r : Run) → s.run ≡ r → run_ends (stage r s.place) ≡ None
+  ends-by r e = ap (λ u. run_ends (stage u s.place)) (sym e) ∙ none
+
+  number-none : (n : ℕ) → s.run ≡ digits n → behind (number_token n) s.place ≡ None
+  unfolding run_ends
+  number-none n e = ends-by (digits n) e
+
+  word-none : (w : List ℕ) → s.run ≡ word w → behind (word_token w) s.place ≡ None
+  unfolding run_ends
+  word-none w e = ends-by (word w) e
+
+  number-ends : (n : ℕ) → s.run ≡ digits n → (q : Place) × (behind (number_token n) s.place ≡ Some q)
+  unfolding hopeful number_token behind
+  number-ends n e =
+      let k : hopeful (stage (digits n) s.place) ≡ true = ap (λ r. hopeful (stage r s.place)) (sym e) ∙ h.0 in
+      let a = both_true (leb n LARGEST) (takes_number s.place) k in
+      let j = number-judged s.place n a.1 in
+      (j.0, ap (λ x. behind (cond x (Some (number n)) None) s.place) a.0 ∙ j.1)
+
+  word-reserved : (w : List ℕ) → s.run ≡ word w → is_reserved w ≡ true
+  word-reserved w e = go (no-token w s.place k.2 (word-none w e))
+    where
+      k : (leads_name w ≡ true) × (length w ≤ NAME-BYTES) × (takes_name s.place ≡ true)
+      k = leads s h 0 w e
+
+      go : (same_text w (typed "def") ≡ true) ⊎ (is_name w ≡ false) → is_reserved w ≡ true
+      go (inl d) = def-reserved w d
+      go (inr n) = no-name w (starts-leads w (subst Filled e h.1) k.0) (le-leb (length w) NAME-BYTES k.1) n
+
+  reserved-run : (c : ℕ) → Exceeds Limit.Reserved s.run c
+  unfolding run_ends
+  reserved-run c = go s.run refl
+    where
+      go : (r : Run) → s.run ≡ r → Exceeds Limit.Reserved s.run c
+      go nothing e = none-some (sym (ends-by nothing e))
+      go (word w) e = (w, e, word-reserved w e)
+      go (digits n) e = none-some (sym (number-none n e) ∙ (number-ends n e).1)
+
+pub reserved-hold : ReservedHolds
+unfolding endless
+reserved-hold b s e l r c = go (run_ends s) refl r
+  where
+    go : (o : Option Place) → run_ends s ≡ o → (elim o as (λ _. Option Limit) [ None ↦ Some Limit.Reserved | Some p ↦ None ]) ≡ Some l → Exceeds l s.run c
+    go None h k =
+        subst (λ m. Exceeds m s.run c) (let z : Limit.Reserved ≡ l = cc in z) (reserved-run s (walk-reached b START s start-reached e) h c)
+    go (Some p) h k = none-some k

@@ -1,9 +1,9 @@
 -- What the words of a refusal by 40 say of the grammar.
-use Rattle.std.specs.Prelude.{◌≡◌, List, [], ◌∷◌, ◌++◌, ◌↔◌, true, ℕ, ◌<◌, length, get_or, take, Option, None, Some}
+use Rattle.std.specs.Prelude.{◌≡◌, List, [], ◌∷◌, ◌++◌, ◌↔◌, true, ℕ, ◌<◌, length, get_or, take, Some}
 use Rattle.records.specs.SourceRecord.{NAME-BYTES}
 use Rattle.rule_trees.specs.Tokens.{Run, word, digits, longer, is_reserved, LARGEST, onto}
 use Rattle.rule_trees.specs.Grammar.{Statement, Reading}
-use Rattle.rule_trees.specs.Prefix.{Stage, run_ends, walk, START, taken, Begins}
+use Rattle.rule_trees.specs.Prefix.{Stage, walk, START, taken, Begins}
 use Rattle.rule_scan.specs.Scan.{furthest}
 use Rattle.rule_message.specs.declared.expected.Expected.{Expected}
 use Rattle.rule_message.specs.declared.expected.Limit.{Limit}
@@ -36,3 +36,7 @@ Exceeds Limit.Reserved r c = (w : List ℕ) × (r ≡ word w) × (is_reserved w 
 abbrev pub LimitsHold : Type 0
 LimitsHold = (b : List ℕ) (s : Stage) → walk START b ≡ Some s → (c : ℕ) → (Begins (b ++ (c ∷ [])) → ⊥) → (r : Run) → longer s.run c ≡ Some r
     → (l : Limit) × (too_long s.run c ≡ Some l) × Exceeds l s.run c
+
+-- a word is said to be reserved where the text cannot even go on with a blank, and it is
+abbrev pub ReservedHolds : Type 0
+ReservedHolds = (b : List ℕ) (s : Stage) → walk START b ≡ Some s → (l : Limit) → endless s ≡ Some l → (c : ℕ) → Exceeds l s.run c
