@@ -1,7 +1,6 @@
 -- `rule_scan::scan` meets its contract. Assumes nothing.
 use mathlib.Core.Path.{◌≡◌, subst, ◌∙◌}
 use native.Mathlib.Omega.{arith}
-use Prim.Native.Nat.{◌≤◌}
 use lib.ListN.{length}
 use Rattle.rule_scan.specs.Stages.{Standing}
 use Rattle.rule_scan.proofs.Walking.{short-scanned, whole-scanned}
