@@ -4,8 +4,8 @@
     python3 tools/faults.py [FOLDER [PROGRAM..]]
 
 FOLDER has the built programs, target/bin by default, after
-`tools/build.sh cut_all cut_flat equalities expand flatten flatten_equalities join renumber season season_lines small_rules test_eval test_field test_flat test_flatten test_join test_numbering test_renumber
-test_season test_share test_small test_source`; all of these are tried, or those named (`cut_all` needs `cut_flat` too). Every fault has to leave a line on standard error, or end the program by a signal, and to leave on standard output nothing but a front of the
+`tools/build.sh cut_all cut_flat equalities expand flatten flatten_equalities join renumber rules rules_equalities season season_lines small_rules test_eval test_field test_flat test_flatten test_join test_numbering
+test_print test_renumber test_rules test_season test_share test_small test_source`; all of these are tried, or those named (`cut_all` needs `cut_flat` too). Every fault has to leave a line on standard error, or end the program by a signal, and to leave on standard output nothing but a front of the
 right bytes: none is taken for success. A test program is tried on the first cases of its input and on many that differ from what they expect, each of
 which it tells by a line; without a fault on all of its input too. Printed is a line for each fault that was not handled so, then how many were tried
 on each program and the counts; the exit status is 1 if there is one.
@@ -45,6 +45,11 @@ def many_equations(n):
     return words(1, 0, 0, n, len(nodes), 0, 1, *tops, *(w for x in nodes for w in x)) + b"x"
 
 
+def many_lines(n):
+    """The same as a text of rules."""
+    return b"x = x + 1;\n" * n
+
+
 def many_flat(n):
     """The same as a flat record."""
     nodes, sides = [], []
@@ -75,6 +80,8 @@ PARTS = {
     "test_season": (3, lambda length, room, answer: 12 + length + (answer if answer < REFUSED else 0), 2),
     "test_renumber": (6, lambda kind, length, side, room, answer, table: 24 + length + kind * side + table + (answer if answer < REFUSED else 0), 4),
     "test_join": (5, lambda first, second, pairs, room, answer: 20 + first + second + pairs + (answer if answer < REFUSED else 0), 4),
+    "test_rules": (4, lambda length, room, answer, line: 16 + length + line + (answer if answer < REFUSED else 0), 2),
+    "test_print": (3, lambda length, *answers: 12 + length + sum(n for n in answers if n < REFUSED), 1),
     "test_numbering": (4, lambda length, answer, ids, publics: 16 + length + 4 * (ids + publics), 1),
     "test_share": (4, lambda n, total, records, outputs: 116 + records + outputs, 21),
     "test_small": (1, lambda length: 4 + length, 1),
@@ -107,12 +114,14 @@ def many_different(name):
     for part in parts(name):
         if name == "test_source" and word(part, 0) == BASE:
             before = part
-        elif name not in ("test_flat", "test_join", "test_renumber", "test_season") or word(part, k) > REFUSED:
+        elif name not in ("test_flat", "test_join", "test_print", "test_renumber", "test_rules", "test_season") or word(part, k) > REFUSED:
             return before + 400 * (part[:4 * k] + words(word(part, k) + 1) + part[4 * k + 4:])
 
 
 # programs that take no arguments
-NONE = ("season", "season_lines")
+NONE = ("rules", "season", "season_lines")
+# programs that read a text of rules, and the longest that they read
+TEXTS, LONGEST_TEXT = ("rules", "rules_equalities"), 1048575
 # programs that read nothing
 SILENT = ("small_rules", "test_field")
 
@@ -139,6 +148,8 @@ PROGRAMS = {
     "renumber": lambda: (many_terms(4), many_terms(400)),
     "expand": lambda: (many_terms(4), many_terms(400)),
     "join": lambda: (b"", b""),
+    "rules": lambda: (read("crates", "rules", "stdin"), many_lines(400)),
+    "rules_equalities": lambda: (read("crates", "rules_equalities", "stdin"), many_lines(400)),
     **{name: lambda: (b"", b"") for name in SILENT},
     **{name: lambda name=name: (front(name), many_different(name)) for name in PARTS},
 }
@@ -327,6 +338,16 @@ def some_cases(name, small, large):
     expect(name + ", cases that differ", out.count(b"\n") == 401 and out.endswith(b" 400 differ\n"))
 
 
+def texts(name):
+    """A text that is too long, the longest that is read, and one outside the grammar, whose place is told behind the refusal."""
+    status, out, err = run(name, b" " * (LONGEST_TEXT + 1))
+    expect(name + ", a text that is too long", out == b"" and said(err, b"more than 1,048,575 bytes of text"))
+    status, out, err = run(name, b" " * LONGEST_TEXT)
+    expect(name + ", the longest text", out != b"" and err == b"")
+    status, out, err = run(name, b"x = 1;\nx = (2;\n")
+    expect(name + ", a text outside the grammar", b"refused 40\n" in out + err and err.splitlines()[-1].startswith(b"line 2, column 7: expected "))
+
+
 def all_cases(name):
     """All of a test program's input, also by pieces with pauses, and with 1 MB of environment, where the deepest records may end it by a signal."""
     record, whole = read("crates", name, "stdin"), read("crates", name, "stdout")
@@ -353,6 +374,8 @@ def tried(name):
     arguments(name, small, whole)
     if name not in SILENT and name not in FILES:
         reads(name, small, whole)
+    if name in TEXTS:
+        texts(name)
     if name in PARTS:
         some_cases(name, small, large)
         all_cases(name)

@@ -3,4 +3,5 @@ pub mod Texts
 pub mod Forms
 pub mod Sayings
 pub mod Rows
+pub mod Longest
 pub mod Whole

@@ -18,7 +18,7 @@ use Rattle.rule_trees.specs.Prefix.{START, taken}
 use Rattle.rule_trees.specs.Record.{names_in, occurring, without, once, names_of, index_of, expr_of, definitions_of, equation_of, equations_of}
 use Rattle.rule_trees.specs.Record.{nodes_of, node_count}
 use Rattle.rule_trees.specs.Record.{definition_words, equation_words, words_of, record_of, within_limits}
-use Rattle.rule_trees.specs.Rules.{opened, deepest, Answer, unless, written_in, rules_of}
+use Rattle.rule_trees.specs.Rules.{opened, deepest, Answer, unless, written_in, answered, rules_of}
 
 -- ---- where a text stops
 
@@ -126,5 +126,5 @@ unfolding between is_lower is_letter is_digit is_blank class_among class_of same
     in_number prepend ended longer tokens_from tokens_of factor_of term_of strength holds applied reduced operand_step closed equated finished having_step
     start_step def_step name_step step ends before statements_from statements_of reading_of words_of names_of occurring names_in once without index_of expr_of
     definitions_of equation_of equations_of node_count definition_words equation_words nodes_of expr_count expr_nodes pat_nodes root_of pair_words low_word
-    high_word bytes_of joined record_of within_limits opened deepest unless written_in rules_of repeated
+    high_word bytes_of joined record_of within_limits opened deepest unless written_in answered rules_of repeated
 tries-hold = refl
