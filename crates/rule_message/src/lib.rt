@@ -1,8 +1,8 @@
 // Where a text stops to be one of the grammar, for people: line and column, what was expected there, what stands there, and why it stops.
 #![tactic(auto)]
 
-pub mod expected;
-pub mod line;
+mod expected;
+mod line;
 
 ghost use Rattle.std.specs.Prelude.{◌≡◌, IsErr};
 ghost use Rattle.rule_message.specs.Places.{place_of, text_buffer};
@@ -10,7 +10,8 @@ ghost use Rattle.rule_message.specs.Expected.{byte_at};
 ghost use Rattle.rule_message.specs.Message.{message_of};
 
 use expected::limit_of;
-use line::{Line, push_expected, push_found, push_limit, push_place};
+pub use line::{LINE, Line};
+use line::{push_expected, push_found, push_limit, push_place};
 use records::refusals::Refusal;
 use rule_scan::{Walked, walk};
 use streams::Failed;

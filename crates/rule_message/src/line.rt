@@ -13,21 +13,31 @@ use rule_scan::kinds::Kind;
 use rule_scan::stages::Stage;
 use rule_trees::{Factor, Term};
 
-// Room for every line.
+// Room for every line: its parts have at most 1,070 bytes.
 pub const LINE: usize = 1200;
 
 pub type Line = ArrayString<LINE>;
 
-// The longest words of what is expected, with " or " before them.
+// The longest parts: the place, the words of what is expected and what stands between two of them, all of these, what is found, a limit.
+const PLACE: usize = 60;
+
+const WORDS: usize = 42;
+
+const SEPARATOR: usize = 4;
+
 const ITEM: usize = 46;
 
 const ALL_ITEMS: usize = 920;
 
+const FOUND: usize = 24;
+
+const LIMIT: usize = 46;
+
 #[tactic(auto, unfolding(crate::specs::Message::place_text))]
 pub fn push_place(line: &mut Line, place: TextPlace)
-    requires { array_string_len line.old + 60 ≤ LINE }
+    requires { array_string_len line.old + PLACE ≤ LINE }
     ensures value { line.new.bytes ≡ line.old.bytes ++ place_text place }
-    ensures upper_bound { array_string_len line.new ≤ array_string_len line.old + 60 }
+    ensures upper_bound { array_string_len line.new ≤ array_string_len line.old + PLACE }
 {
     let mut digits = Buffer::new();
     line.push_str("line ");
@@ -39,7 +49,7 @@ pub fn push_place(line: &mut Line, place: TextPlace)
 #[tactic(auto, unfolding(crate::specs::Message::kind_words))]
 fn kind_words(kind: Kind) -> &'static str
     ensures value { result.now ≡ kind_words kind }
-    ensures short { length result.now ≤ 8 }
+    ensures short { length result.now ≤ WORDS }
 {
     match kind {
         Kind::Def => "def",
@@ -63,7 +73,7 @@ fn kind_words(kind: Kind) -> &'static str
 #[tactic(auto, unfolding(crate::specs::Message::words))]
 fn words(item: Expected) -> &'static str
     ensures value { result.now ≡ words item }
-    ensures short { length result.now ≤ 42 }
+    ensures short { length result.now ≤ WORDS }
 {
     match item {
         Expected::LongerWord => "the word to go on",
@@ -78,7 +88,7 @@ fn words(item: Expected) -> &'static str
 #[tactic(auto, unfolding(crate::specs::Message::separator))]
 fn separator(is_first: bool) -> &'static str
     ensures value { result.now ≡ separator is_first }
-    ensures short { length result.now ≤ 4 }
+    ensures short { length result.now ≤ SEPARATOR }
 {
     if is_first { "" } else { " or " }
 }
@@ -110,9 +120,9 @@ pub fn push_expected(line: &mut Line, text: &[u8], at: usize, stage: Stage)
 // A character that prints, or a byte's number.
 #[tactic(auto, unfolding(crate::specs::Message::other_text))]
 fn push_other(line: &mut Line, c: u8)
-    requires { array_string_len line.old + 24 ≤ LINE }
+    requires { array_string_len line.old + FOUND ≤ LINE }
     ensures value { line.new.bytes ≡ line.old.bytes ++ other_text c }
-    ensures upper_bound { array_string_len line.new ≤ array_string_len line.old + 24 }
+    ensures upper_bound { array_string_len line.new ≤ array_string_len line.old + FOUND }
 {
     if c.is_ascii_graphic() {
         line.push(char::from(c));
@@ -124,9 +134,9 @@ fn push_other(line: &mut Line, c: u8)
 }
 
 fn push_byte(line: &mut Line, c: u8)
-    requires { array_string_len line.old + 24 ≤ LINE }
+    requires { array_string_len line.old + FOUND ≤ LINE }
     ensures value { line.new.bytes ≡ line.old.bytes ++ byte_text c }
-    ensures upper_bound { array_string_len line.new ≤ array_string_len line.old + 24 }
+    ensures upper_bound { array_string_len line.new ≤ array_string_len line.old + FOUND }
 {
     match c {
         b'\t' => line.push_str("a tab"),
@@ -140,9 +150,9 @@ fn push_byte(line: &mut Line, c: u8)
 // What stands there.
 #[tactic(auto, unfolding(crate::specs::Message::found))]
 pub fn push_found(line: &mut Line, next: Option<u8>)
-    requires { array_string_len line.old + 24 ≤ LINE }
+    requires { array_string_len line.old + FOUND ≤ LINE }
     ensures value { line.new.bytes ≡ line.old.bytes ++ found next }
-    ensures upper_bound { array_string_len line.new ≤ array_string_len line.old + 24 }
+    ensures upper_bound { array_string_len line.new ≤ array_string_len line.old + FOUND }
 {
     match next {
         None => line.push_str("the end of the text"),
@@ -153,7 +163,7 @@ pub fn push_found(line: &mut Line, next: Option<u8>)
 #[tactic(auto, unfolding(crate::specs::Message::limit_words))]
 fn limit_words(limit: Limit) -> &'static str
     ensures value { result.now ≡ limit_words limit }
-    ensures short { length result.now ≤ 46 }
+    ensures short { length result.now ≤ LIMIT }
 {
     match limit {
         Limit::Word => ": a word has at most 64 letters and digits",
@@ -164,9 +174,9 @@ fn limit_words(limit: Limit) -> &'static str
 
 #[tactic(auto, unfolding(crate::specs::Message::limit_text))]
 pub fn push_limit(line: &mut Line, limit: Option<Limit>)
-    requires { array_string_len line.old + 46 ≤ LINE }
+    requires { array_string_len line.old + LIMIT ≤ LINE }
     ensures value { line.new.bytes ≡ line.old.bytes ++ limit_text limit }
-    ensures upper_bound { array_string_len line.new ≤ array_string_len line.old + 46 }
+    ensures upper_bound { array_string_len line.new ≤ array_string_len line.old + LIMIT }
 {
     if let Some(limit) = limit {
         line.push_str(limit_words(limit));

@@ -4,8 +4,7 @@
 #![tactic(auto)]
 
 use rule_entry::rules;
-use rule_message::line::LINE;
-use rule_message::message;
+use rule_message::{LINE, message};
 use std::rt::Env;
 use streams::{Failed, open_standard};
 use test_report::{
