@@ -1,8 +1,8 @@
 -- Each answer just where it is due, and room for every record. Assumes nothing.
-use mathlib.Core.Path.{◌≡◌, refl, sym, ap, ◌∙◌, subst}
-use mathlib.Core.List.{List, [], ◌∷◌, ◌++◌}
+use mathlib.Core.Path.{◌≡◌, refl, sym, ap, ◌∙◌}
+use mathlib.Core.List.{List, [], ◌∷◌}
 use mathlib.Core.Bool.{Bool, true, false, ◌&&◌}
-use Prim.Native.Nat.{ℕ, suc, ◌+◌, ◌*◌, ◌≤◌, ◌<◌}
+use Prim.Native.Nat.{ℕ, suc, ◌+◌, ◌*◌, ◌≤◌}
 use native.Mathlib.Omega.{arith}
 use lib.Dec.{leb}
 use lib.ListN.{length, length-append}
@@ -12,22 +12,22 @@ use Rattle.words.specs.Words.{bytes_of}
 use Rattle.words.proofs.Laws.{length-bytes_of}
 use Rattle.records.specs.SourceRecord.{NAMES, DEFINITIONS, EXPRESSIONS, NODES}
 use Rattle.records.specs.declared.refusals.Refusal.{Refusal}
-use Rattle.records.specs.declared.refusals.Refusal.TheVariants.{Count, Output, OutsideGrammar, Nesting}
+use Rattle.records.specs.declared.refusals.Refusal.TheVariants.{Count, Output, Nesting}
 use Rattle.source.specs.Layout.{BYTES}
 use Rattle.source.specs.Trees.{Text}
-use Rattle.source.specs.Encoding.{All, TextFits, expr_count, pat_nodes, pair_words, joined}
+use Rattle.source.specs.Encoding.{All, TextFits, expr_count, pat_nodes, joined}
 use Rattle.source.proofs.ReadBack.{pairs-length}
-use Rattle.source.proofs.Written.{pat-length, expr-length}
+use Rattle.source.proofs.Written.{expr-length}
 use Rattle.rule_trees.specs.Grammar.{Statement, definition, equation, Reading}
 use Rattle.rule_trees.specs.Reading.{reading_of}
-use Rattle.rule_trees.specs.Record.{index_of, expr_of, names_of, definitions_of, equation_of, equations_of, nodes_of, node_count}
+use Rattle.rule_trees.specs.Record.{expr_of, names_of, definitions_of, equation_of, equations_of, nodes_of, node_count}
 use Rattle.rule_trees.specs.Record.{definition_words, equation_words, words_of, record_of, within_limits, module_of}
 use Rattle.rule_trees.specs.Rules.{Answer, deepest, DEEPEST, unless, written_in, answered, rules_of}
 use Rattle.rule_trees.proofs.Facts.{false-true}
 use Rattle.rule_trees.proofs.Prefixes.{both_true}
 use Rattle.rule_trees.proofs.Theorems.{reading-given, given-reading}
 use Rattle.rule_trees.proofs.Fitting.{reading-fits}
-use Rattle.rule_entry.specs.Statements.{AnswersBy, EachAnswer, RoomEnough}
+use Rattle.rule_entry.specs.Statements.{EachAnswer, RoomEnough}
 use Rattle.rule_entry.proofs.Deciding.{rules-read}
 
 -- ---- a refusal comes where its test fails, any other answer behind it

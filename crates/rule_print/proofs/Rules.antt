@@ -10,7 +10,7 @@ use Rattle.std.specs.Prelude.{Option, Some, None, Ok}
 use Rattle.std.specs.Option.{option_map}
 use Rattle.field.specs.declared.InfixOp.{InfixOp}
 use Rattle.field.specs.declared.InfixOp.TheVariants.{Divide, DivideZ, Multiply, Add, Subtract, Equal, Exponentiate, IntDivide, Modulo}
-use Rattle.source.specs.Trees.{Text, Pat, Expr, Module}
+use Rattle.source.specs.Trees.{Text, Module}
 use Rattle.source.specs.Encoding.{All}
 use Rattle.source.specs.Record.{Read}
 use Rattle.rule_trees.specs.Tokens.{is_name, class_of, in_word, same_text, LARGEST}
