@@ -169,7 +169,7 @@ module _ (b : List ℕ) (room : ℕ) where
       go None true p q r = false-true (sym (q ∙ ap is_some p))
 
   module _ (qs : List Statement) (e : reading_of b ≡ Some qs) where
-    rules-read : rules_of b room ≡ written_in b room qs
+    pub rules-read : rules_of b room ≡ written_in b room qs
     unfolding rules_of answered
     rules-read = ap (answered b room) e
 

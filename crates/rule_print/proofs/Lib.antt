@@ -5,3 +5,4 @@ pub mod Sayings
 pub mod Rows
 pub mod Longest
 pub mod Whole
+pub mod Rules
