@@ -7,7 +7,7 @@ use native.Mathlib.Omega.{arith}
 use lib.ListN.{length, drop, get_elem?}
 use borrow.Author.Tests.{le-leb}
 use Rattle.flat.specs.Record.{pick}
-use Rattle.share_trees.specs.declared.Lengths.{Lengths}
+use Rattle.share_trees.specs.declared.PartLengths.{PartLengths}
 use Rattle.share_trees.specs.Pool.{share}
 use Rattle.share_trees.specs.Sharing.{Lent, Given, alone, need, share_of, shared_out}
 use Rattle.share_trees.specs.Parts.{MOST, parts_of, output_lengths, lents_of, answers_of, givens_of, shared_for, each_of, output_after}
@@ -16,7 +16,7 @@ use Rattle.share_trees.proofs.Sharing.{within-share}
 use Rattle.share_trees.proofs.Parting.{own-outputs}
 
 -- as many records as lengths
-pub lents-long : (records out : List ℕ) (zs : List Lengths) → length (lents_of records out zs) ≡ length zs
+pub lents-long : (records out : List ℕ) (zs : List PartLengths) → length (lents_of records out zs) ≡ length zs
 unfolding lents_of
 lents-long records out [] = refl
 lents-long records out (z ∷ zs) = ap suc (lents-long (drop z.record records) (drop z.output out) zs)
@@ -40,7 +40,7 @@ answer_at (suc m) (f ∷ gs) zero g e h = let q : f ≡ g = cc in ap (λ (x : Gi
 answer_at (suc m) (f ∷ gs) (suc k) g e h = answer_at m gs k g e (omega arith)
 
 -- a call that gives record k what it would get alone
-module _ (T k : ℕ) (records out : List ℕ) (zs : List Lengths) (l : Lent) (within : length zs ≤ MOST)
+module _ (T k : ℕ) (records out : List ℕ) (zs : List PartLengths) (l : Lent) (within : length zs ≤ MOST)
     (found : get_elem? (lents_of records out zs) k ≡ some l) (few : need l ≤ share T (length zs)) where
   abbrev ls : List Lent
   ls = lents_of records out zs

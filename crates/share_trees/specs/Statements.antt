@@ -12,7 +12,7 @@ use Rattle.pass_trees.specs.Passes.{cut, cut_of}
 use Rattle.share_trees.specs.Pool.{excess, fits, left_at}
 use Rattle.share_trees.specs.Sharing.{Lent, Given, alone, need, given, share_of, pool_of, shared_out}
 use Rattle.share_trees.specs.Pool.{share}
-use Rattle.share_trees.specs.declared.Lengths.{Lengths}
+use Rattle.share_trees.specs.declared.PartLengths.{PartLengths}
 use Rattle.share_trees.specs.Parts.{parts_of, record_lengths, output_lengths, lents_of, rejoined, MOST, shared_for, each_of, output_after}
 
 -- what is left of the pool when the turn of record k comes
@@ -100,14 +100,14 @@ PartsAt = (s ns : List ℕ) (k n : ℕ) → get_elem? ns k ≡ some n → get_el
 -- and these are the records and the outputs of a call
 abbrev pub LentParts : Type 0
 LentParts =
-    (records out : List ℕ) (zs : List Lengths) →
+    (records out : List ℕ) (zs : List PartLengths) →
     let ls = lents_of records out zs in
     (map (λ l. l.bytes) ls ≡ parts_of records (record_lengths zs)) × (map (λ l. l.output) ls ≡ parts_of out (output_lengths zs))
 
 -- "Each has its own output": afterwards the parts of the outputs' slice are what the records got, each in its own
 abbrev pub OwnOutputs : Type 0
 OwnOutputs =
-    (T : ℕ) (records out : List ℕ) (zs : List Lengths) →
+    (T : ℕ) (records out : List ℕ) (zs : List PartLengths) →
     let gs = shared_out T (lents_of records out zs) in
     parts_of (rejoined out zs gs) (output_lengths zs) ≡ map (λ g. g.output) gs
 
@@ -115,7 +115,7 @@ OwnOutputs =
 -- than its share
 abbrev pub CallsWithinShare : Type 0
 CallsWithinShare =
-    (T k : ℕ) (records out : List ℕ) (zs : List Lengths) (l : Lent) →
+    (T k : ℕ) (records out : List ℕ) (zs : List PartLengths) (l : Lent) →
     length zs ≤ MOST → get_elem? (lents_of records out zs) k ≡ some l →
     need l ≤ share T (length zs) →
     (get_elem? (each_of (shared_for T records out zs)) k ≡ some (alone l).answer)
@@ -125,7 +125,7 @@ CallsWithinShare =
 -- others are
 abbrev pub CallsIndependent : Type 0
 CallsIndependent =
-    (T k : ℕ) (records out records' out' : List ℕ) (zs zs' : List Lengths) (l : Lent) →
+    (T k : ℕ) (records out records' out' : List ℕ) (zs zs' : List PartLengths) (l : Lent) →
     length zs ≤ MOST → length zs ≡ length zs' →
     get_elem? (lents_of records out zs) k ≡ some l → get_elem? (lents_of records' out' zs') k ≡ some l →
     need l ≤ share T (length zs) →
