@@ -111,8 +111,27 @@ OwnOutputs =
     let gs = shared_out T (lents_of records out zs) in
     parts_of (rejoined out zs gs) (output_lengths zs) ≡ map (λ g. g.output) gs
 
--- and the same of a whole call: its answer for record k, and its part of the outputs' slice, are what the record would get alone where it needs no more
--- than its share
+-- and the same of a whole call, by its answer for record k and its part of the outputs' slice: what is not refused with 48 gets what it would get alone
+abbrev pub CallsTaken : Type 0
+CallsTaken =
+    (T k : ℕ) (records out : List ℕ) (zs : List PartLengths) (l : Lent) →
+    length zs ≤ MOST → get_elem? (lents_of records out zs) k ≡ some l →
+    (get_elem? (each_of (shared_for T records out zs)) k ≡ some (Err 48) → ⊥) →
+    (get_elem? (each_of (shared_for T records out zs)) k ≡ some (alone l).answer)
+    × (get_elem? (parts_of (output_after T records out zs) (output_lengths zs)) k ≡ some (alone l).output)
+
+-- the equalities of all that a call writes never pass T
+unfoldable pub equalities_among : List (Result ℕ ℕ) → List (List ℕ) → ℕ
+equalities_among [] outs = 0
+equalities_among (r ∷ rs) [] = 0
+equalities_among (r ∷ rs) (out ∷ outs) = equalities_in r out + equalities_among rs outs
+
+abbrev pub CallsNeverPast : Type 0
+CallsNeverPast =
+    (T : ℕ) (records out : List ℕ) (zs : List PartLengths) →
+    equalities_among (each_of (shared_for T records out zs)) (parts_of (output_after T records out zs) (output_lengths zs)) ≤ T
+
+-- a record that needs no more than its share gets in it what it would get alone
 abbrev pub CallsWithinShare : Type 0
 CallsWithinShare =
     (T k : ℕ) (records out : List ℕ) (zs : List PartLengths) (l : Lent) →
