@@ -164,7 +164,7 @@ pub fn file_name<'a>(rt: &impl Eprint, argument: &'a [u8], usage: &str) -> Resul
 }
 
 // The file that an argument names.
-pub fn open_named<R: Files + Eprint>(
+fn open_named<R: Files + Eprint>(
     rt: &R,
     argument: &[u8],
     usage: &str,
