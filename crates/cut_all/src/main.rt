@@ -138,7 +138,7 @@ fn give<R: Env + Files + Eprint, W: Write>(
     match answer {
         Err(refusal) => say_answer(rt, to, name, "refused", u64::from(refusal.number())),
         Ok(size) => {
-            let bytes = out.get(..size).ok_or(Failed)?;
+            let bytes = out.get(..size).ok_or_else(|| say_usage(rt, USAGE))?;
             write_result(rt, name, bytes)?;
             say_answer(rt, to, name, "written", size as u64)
         }
