@@ -24,7 +24,7 @@ use Rattle.records.specs.FlatRecord.{HEADER, IDS, LISTED, PUBLICS}
 use Rattle.records.specs.declared.refusals.Refusal.{Refusal}
 use Rattle.join_trees.specs.Pairs.{Pair, PAIR-BYTES, pair_at, pairs_of, whole, fit_after, fit}
 use Rattle.join_trees.specs.Join.{lent_read, lent_of, join_read, join_of}
-use Rattle.join_trees.specs.Statements.{LENT-BYTES, LENT-PAIRS, JoinFront}
+use Rattle.join_trees.specs.Statements.{RECORD-BYTES, PAIRS-BYTES, JoinFront}
 use Rattle.join_trees.proofs.Once.{which}
 use Rattle.join_trees.proofs.Counting.{total-same}
 use Rattle.join_trees.proofs.Renaming.{fits-have}
@@ -58,34 +58,34 @@ unfolding lent_of lent_read flat_of pick
 long-refused b l = let m = too-long b l in rw m
 
 module _ (b : List ℕ) (l : BYTES < length b) where
-  front-refused : lent_of (take LENT-BYTES b) ≡ Read.refused Refusal.FlatLength
-  front-refused = long-refused (take LENT-BYTES b) (omega (arith, length-take-le LENT-BYTES b (omega arith)))
+  front-refused : lent_of (take RECORD-BYTES b) ≡ Read.refused Refusal.FlatLength
+  front-refused = long-refused (take RECORD-BYTES b) (omega (arith, length-take-le RECORD-BYTES b (omega arith)))
 
-  first-long : (c pairs : List ℕ) → join_of (take LENT-BYTES b) c pairs ≡ join_of b c pairs
-  first-long c pairs = first-refused (take LENT-BYTES b) c pairs _ front-refused ∙ sym (first-refused b c pairs _ (long-refused b l))
+  first-long : (c pairs : List ℕ) → join_of (take RECORD-BYTES b) c pairs ≡ join_of b c pairs
+  first-long c pairs = first-refused (take RECORD-BYTES b) c pairs _ front-refused ∙ sym (first-refused b c pairs _ (long-refused b l))
 
-  second-long : (a pairs : List ℕ) → join_of a (take LENT-BYTES b) pairs ≡ join_of a b pairs
+  second-long : (a pairs : List ℕ) → join_of a (take RECORD-BYTES b) pairs ≡ join_of a b pairs
   unfolding join_of join_read
   second-long a pairs = go (lent_of a)
     where
-      go : (p : Read) → join_read p (lent_of (take LENT-BYTES b)) a (take LENT-BYTES b) pairs ≡ join_read p (lent_of b) a b pairs
+      go : (p : Read) → join_read p (lent_of (take RECORD-BYTES b)) a (take RECORD-BYTES b) pairs ≡ join_read p (lent_of b) a b pairs
       go (Read.refused r) = refl
       go (Read.module-of f) =
-          ap (λ (q : Read). join_read (Read.module-of f) q a (take LENT-BYTES b) pairs) front-refused
+          ap (λ (q : Read). join_read (Read.module-of f) q a (take RECORD-BYTES b) pairs) front-refused
           ∙ sym (ap (λ (q : Read). join_read (Read.module-of f) q a b pairs) (long-refused b l))
 
-first-front : (a b pairs : List ℕ) → join_of (take LENT-BYTES a) b pairs ≡ join_of a b pairs
+first-front : (a b pairs : List ℕ) → join_of (take RECORD-BYTES a) b pairs ≡ join_of a b pairs
 first-front a b pairs =
     ⊎_elim
     (λ (l : BYTES < length a). first-long a l b pairs)
-    (λ (s : length a ≤ BYTES). ap (λ (x : List ℕ). join_of x b pairs) (take_all LENT-BYTES a (omega arith)))
+    (λ (s : length a ≤ BYTES). ap (λ (x : List ℕ). join_of x b pairs) (take_all RECORD-BYTES a (omega arith)))
     (cases_lt BYTES (length a))
 
-second-front : (a b pairs : List ℕ) → join_of a (take LENT-BYTES b) pairs ≡ join_of a b pairs
+second-front : (a b pairs : List ℕ) → join_of a (take RECORD-BYTES b) pairs ≡ join_of a b pairs
 second-front a b pairs =
     ⊎_elim
     (λ (l : BYTES < length b). second-long b l a pairs)
-    (λ (s : length b ≤ BYTES). ap (λ (x : List ℕ). join_of a x pairs) (take_all LENT-BYTES b (omega arith)))
+    (λ (s : length b ≤ BYTES). ap (λ (x : List ℕ). join_of a x pairs) (take_all RECORD-BYTES b (omega arith)))
     (cases_lt BYTES (length b))
 
 -- ---- the pairs: each id of the first is used once
@@ -149,14 +149,14 @@ more-fail n m ps l =
     (λ (e : fit n m ps ≡ false). e)
     (which (fit n m ps))
 
-long-fail : (n m : ℕ) (b : List ℕ) → n ≤ IDS → LENT-PAIRS ≤ length b → (whole b && fit n m (pairs_of b)) ≡ false
+long-fail : (n m : ℕ) (b : List ℕ) → n ≤ IDS → PAIRS-BYTES ≤ length b → (whole b && fit n m (pairs_of b)) ≡ false
 unfolding pairs_of
 long-fail n m b l k =
     let many : IDS + 1 ≤ length b / PAIR-BYTES = (le-div_iff_mul-le {k = PAIR-BYTES} (omega arith)).1 (omega arith) in
     let long = length-rows (pair_at b) (length b / PAIR-BYTES) 0 in
     ap (λ (t : Bool). whole b && t) (more-fail n m (pairs_of b) (omega arith)) ∙ and-false (whole b)
 
-next-few : (b : List ℕ) (f : FlatModule) → lent_of b ≡ Read.module-of f → f.next ≤ IDS
+pub next-few : (b : List ℕ) (f : FlatModule) → lent_of b ≡ Read.module-of f → f.next ≤ IDS
 unfolding module_of
 next-few b f e =
     let r = lent-read b f e in
@@ -164,28 +164,28 @@ next-few b f e =
     let q : (module_of b).next ≡ f.next = ap (λ (m : FlatModule). m.next) (accepted-module b f r) in
     omega (arith, s, q)
 
-pairs-long : (a b pairs : List ℕ) → LENT-PAIRS < length pairs → join_of a b (take LENT-PAIRS pairs) ≡ join_of a b pairs
+pairs-long : (a b pairs : List ℕ) → PAIRS-BYTES < length pairs → join_of a b (take PAIRS-BYTES pairs) ≡ join_of a b pairs
 unfolding join_of join_read
 pairs-long a b pairs l = go (lent_of a) refl (lent_of b)
   where
-    go : (p : Read) → lent_of a ≡ p → (q : Read) → join_read p q a b (take LENT-PAIRS pairs) ≡ join_read p q a b pairs
+    go : (p : Read) → lent_of a ≡ p → (q : Read) → join_read p q a b (take PAIRS-BYTES pairs) ≡ join_read p q a b pairs
     go (Read.refused r) e q = refl
     go (Read.module-of f) e (Read.refused r) = refl
     go (Read.module-of f) e (Read.module-of g) =
         let few = next-few a f e in
-        let front = length-take-le LENT-PAIRS pairs (omega arith) in
-        pairs-44 f g a b (take LENT-PAIRS pairs) (long-fail f.next g.next (take LENT-PAIRS pairs) few (omega arith))
+        let front = length-take-le PAIRS-BYTES pairs (omega arith) in
+        pairs-44 f g a b (take PAIRS-BYTES pairs) (long-fail f.next g.next (take PAIRS-BYTES pairs) few (omega arith))
         ∙ sym (pairs-44 f g a b pairs (long-fail f.next g.next pairs few (omega arith)))
 
-pairs-front : (a b pairs : List ℕ) → join_of a b (take LENT-PAIRS pairs) ≡ join_of a b pairs
+pairs-front : (a b pairs : List ℕ) → join_of a b (take PAIRS-BYTES pairs) ≡ join_of a b pairs
 pairs-front a b pairs =
     ⊎_elim
-    (λ (l : LENT-PAIRS < length pairs). pairs-long a b pairs l)
-    (λ (s : length pairs ≤ LENT-PAIRS). ap (join_of a b) (take_all LENT-PAIRS pairs s))
-    (cases_lt LENT-PAIRS (length pairs))
+    (λ (l : PAIRS-BYTES < length pairs). pairs-long a b pairs l)
+    (λ (s : length pairs ≤ PAIRS-BYTES). ap (join_of a b) (take_all PAIRS-BYTES pairs s))
+    (cases_lt PAIRS-BYTES (length pairs))
 
 pub join-front : JoinFront
 join-front a b pairs =
-    first-front a (take LENT-BYTES b) (take LENT-PAIRS pairs)
-    ∙ second-front a b (take LENT-PAIRS pairs)
+    first-front a (take RECORD-BYTES b) (take PAIRS-BYTES pairs)
+    ∙ second-front a b (take PAIRS-BYTES pairs)
     ∙ pairs-front a b pairs

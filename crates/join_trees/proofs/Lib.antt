@@ -15,3 +15,4 @@ pub mod Counting
 pub mod Limits
 pub mod Order
 pub mod Front
+pub mod EmptyRecord

@@ -1,5 +1,5 @@
 -- What is proved of joining, in proofs/: the statements.
-use Rattle.std.specs.Prelude.{ℕ, ◌≡◌, ◌+◌, ◌*◌, List, [], Bool, true, false, not, ◌&&◌, ◌↔◌, leb, length, take}
+use Rattle.std.specs.Prelude.{ℕ, ◌≡◌, ◌+◌, ◌*◌, List, [], Bool, true, false, not, ◌&&◌, ◌↔◌, leb, length, take, replicate, Ok}
 use Rattle.flat.specs.Layout.{BYTES}
 use Rattle.flat.specs.Trees.{Definition, FlatModule, defines, module_nodes}
 use Rattle.flat.specs.Record.{Read, pick, flat_of, module_of}
@@ -11,7 +11,7 @@ use Rattle.pass_trees.specs.Passes.{member, those, counted, Outcome, fitting, pa
 use Rattle.pass_trees.specs.Meaning.{Given}
 use Rattle.records.specs.Refusals.{refusal_number}
 use Rattle.records.specs.declared.refusals.Refusal.{Refusal}
-use Rattle.records.specs.FlatRecord.{IDS, LISTED, NODES, PUBLICS}
+use Rattle.records.specs.FlatRecord.{HEADER, IDS, LISTED, NODES, PUBLICS}
 use Rattle.join_trees.specs.Pairs.{Pair, PAIR-BYTES, fit, none_defined, provers_alike}
 use Rattle.join_trees.specs.Joined.{renamed, once, joined}
 use Rattle.join_trees.specs.Record.{joined_bytes}
@@ -155,12 +155,22 @@ publics_once f = record { next = f.next; publics = once f.publics; provers = f.p
 abbrev pub JoinEmpty : Type 0
 JoinEmpty = (f : FlatModule) → WellFormed f → joined f empty_module [] ≡ publics_once f
 
--- A LONGER FILE ANSWERS AS ITS FRONT: one byte more than the longest record has, and one pair more than there are ids, are enough to read
-abbrev pub LENT-BYTES : ℕ
-LENT-BYTES = BYTES + 1
+-- and of records: a lent record joined with six words 0 is never refused, and the result is a lent record of that module
+abbrev pub empty_record : List ℕ
+empty_record = replicate (4 * HEADER) 0
 
-abbrev pub LENT-PAIRS : ℕ
-LENT-PAIRS = PAIR-BYTES * (IDS + 1)
+abbrev pub JoinEmptyRecord : Type 0
+JoinEmptyRecord =
+    (a : List ℕ) (f : FlatModule) →
+    lent_of a ≡ Read.module-of f →
+    (c : List ℕ) × (join_of a empty_record [] ≡ Ok c) × (lent_of c ≡ Read.module-of (publics_once f))
+
+-- A LONGER FILE ANSWERS AS ITS FRONT: one byte more than the longest record has, and one pair more than there are ids, are enough to read
+abbrev pub RECORD-BYTES : ℕ
+RECORD-BYTES = BYTES + 1
+
+abbrev pub PAIRS-BYTES : ℕ
+PAIRS-BYTES = PAIR-BYTES * (IDS + 1)
 
 abbrev pub JoinFront : Type 0
-JoinFront = (a b pairs : List ℕ) → join_of (take LENT-BYTES a) (take LENT-BYTES b) (take LENT-PAIRS pairs) ≡ join_of a b pairs
+JoinFront = (a b pairs : List ℕ) → join_of (take RECORD-BYTES a) (take RECORD-BYTES b) (take PAIRS-BYTES pairs) ≡ join_of a b pairs
