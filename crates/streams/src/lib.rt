@@ -177,7 +177,7 @@ pub fn open_standard(rt: &(impl Env + Eprint), usage: &str) -> Result<Opened<Inf
     Ok(Opened::Standard)
 }
 
-// Standard input, or the file that the only argument names. Options and further arguments are answered by the line of usage.
+// Standard input, or the file that the only argument names. Options, further arguments and a name over 4,096 bytes are answered by the line of usage.
 pub fn open_input<R: Env + Files + Eprint>(rt: &R, usage: &str) -> Result<Opened<R::File>, Failed> {
     let mut name = [0u8; NAME];
     match rt.arg(1, &mut name) {
@@ -187,7 +187,7 @@ pub fn open_input<R: Env + Files + Eprint>(rt: &R, usage: &str) -> Result<Opened
     }
 }
 
-// The file that argument i names. An option, or no argument, is answered by the line of usage.
+// The file that argument i names. An option, no argument, or a name over 4,096 bytes, is answered by the line of usage.
 pub fn open_argument<R: Env + Files + Eprint>(
     rt: &R,
     i: usize,
