@@ -30,7 +30,7 @@ use Rattle.constraint.specs.Trees.{Side, ConstraintModule}
 use Rattle.constraint.specs.Record.{constraint_bytes}
 use Rattle.constraint.specs.Reading.{term_at, side_for, equality_at, constraint_of, SignedTerm, SignedSide, SignedEquality, Signed}
 use Rattle.constraint.proofs.Lengths.{words, length-bytes}
-use Rattle.constraint_check.specs.Record.{every, legal, same, Read, constraint_read}
+use Rattle.constraint_check.specs.Record.{Bytes, every, legal, same, Read, constraint_read}
 use Rattle.constraint_check.proofs.OneToOne.{accepted-is-legal, legal-is-accepted}
 use Rattle.season_trees.specs.Values.{appears, ids_from}
 use Rattle.renumber_trees.specs.declared.Lengths.{Lengths}
@@ -39,7 +39,7 @@ use Rattle.renumber_trees.specs.Renumber.{relabelled, renumbered, table_of, expa
 use Rattle.renumber_trees.specs.Bytes.{Renumbered, renumbered_for, renumber_of, room_for, lengths, renumber_answer}
 use Rattle.renumber_trees.specs.Bytes.{record_after, table_after, table_ids, table_fits}
 use Rattle.renumber_trees.specs.Bytes.{expanded_for, expand_of, expand_answer, output_after}
-use Rattle.renumber_trees.specs.Statements.{Bytes, ExpandReturns, RenumbersAccepted, TwiceIsOnce, RenumberedIsRead, ExpandedIsRead, bare, OnlyIdsChange}
+use Rattle.renumber_trees.specs.Statements.{ExpandReturns, RenumbersAccepted, TwiceIsOnce, RenumberedIsRead, ExpandedIsRead, bare, OnlyIdsChange}
 use Rattle.renumber_trees.specs.Statements.{LongRefused, LongestBoth, LongTableRefused, LongestExpanded}
 use Rattle.renumber_trees.proofs.Lists.{In, in-at, in_all, all_in, and_both}
 use Rattle.renumber_trees.proofs.Firsts.{place_at}
