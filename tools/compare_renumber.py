@@ -3,9 +3,10 @@
 
     python3 tools/compare_renumber.py FROM TO
 
-after `tools/build.sh renumber expand`. For each seed some random records, some of them with a word changed; with the first seed also the hand-made ones, the longest
-record, records beyond it, and tables that do not fit it. A record that is taken goes through both programs and has to come back; its table is written over a longer file,
-or where there is none, in turn. At a refusal no file is made, and one that was there stays. Printed is a line for each difference, and the counts.
+after `tools/build.sh renumber expand`. For each seed some random records, some of them with a word changed; with the first seed also the hand-made ones,
+the longest record, records beyond it, and tables that do not fit it. A record that is taken goes through both programs and has to come back; its table is
+written over a longer file, or where there is none, in turn. At a refusal no file is made, and one that was there stays. Printed is a line for each
+difference, and the counts.
 """
 import os
 import random
