@@ -1,11 +1,11 @@
-// Files that are named, on the disk where the program runs: each of some lengths is written over the one before and read back. A read or a write that
-// fails is said on standard error.
+// Files that are named, on the disk where the program runs: each of some lengths is written over the one before and read back, and at the end there is
+// none. A read or a write that fails is said on standard error.
 #![tactic(auto)]
 
 use named_files::{read_named, write_named};
-use std::array;
 use std::rt::{Env, Files};
-use streams::{Failed, open_standard};
+use std::{array, fs};
+use streams::{Failed, open_standard, say_failed};
 use test_report::{CASES_TEXT, Counts, KINDS_OF_CASES, Verdict, tell_last};
 
 const FILE: &str = "written";
@@ -48,6 +48,7 @@ fn run<R: Env + Files + Print + Eprint>(rt: &R) -> Result<usize, Failed> {
         let same = come_back(rt, &content[..n], &mut room)?;
         counts.count_case(rt, Verdict::of(same, true) as usize, case as u64)?;
     }
+    fs::remove_file(rt, FILE).map_err(|error| say_failed(rt, FILE, error))?;
     tell_last(rt, CASES_TEXT, &counts.of)
 }
 
