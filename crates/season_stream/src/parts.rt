@@ -1,5 +1,6 @@
 // The parts of a season that stand before its calibrations, and its end.
-ghost use Rattle.season_stream.specs.Stream.{RecordTaken};
+ghost use Rattle.std.specs.Prelude.{◌≡◌};
+ghost use Rattle.season_stream.specs.Stream.{RecordTaken, record_buffer};
 ghost use Rattle.season_stream.specs.Parts.{Filled, CountTaken, Ended};
 
 use super::Stop;
@@ -21,6 +22,15 @@ pub const RECORD_BYTES: usize = WORD_BYTES
         + EQUALITY_WORDS * EQUALITIES
         + KEPT_WORDS * LISTED
         + NODE_WORDS * NODES);
+
+// Zeros to read a record into.
+// Kept as it is: where a literal stands in the body that uses it, its proof computes the array place by place.
+#[tactic(auto, unfolding(crate::specs::Stream::record_buffer))]
+pub fn record_buffer() -> [u8; RECORD_BYTES]
+    ensures { result ≡ record_buffer }
+{
+    [0u8; RECORD_BYTES]
+}
 
 // Fills the buffer, or `missing` where the input ends before.
 pub fn fill<R: Read>(
