@@ -93,7 +93,9 @@ pub data Read : Type 0 where
 
 unfoldable pub constraint_read : List ℕ → Read
 constraint_read b =
-    pick (legal (constraint_of b) && same_bytes b (constraint_bytes (constraint_of b))) (Read.module-of (constraint_of b)) (Read.refused Refusal.ConstraintRecord)
+    pick (legal (constraint_of b) && same_bytes b (constraint_bytes (constraint_of b)))
+    (Read.module-of (constraint_of b))
+    (Read.refused Refusal.ConstraintRecord)
 
 -- the code's answer for it
 unfoldable pub checked : Read → Result (Unit {0}) Refusal
