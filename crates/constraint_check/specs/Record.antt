@@ -1,6 +1,6 @@
 -- What a constraint record is: its module, or 42. `b` is the list of its bytes. A record is accepted where the module that it says is legal and its bytes are
 -- that module's own, so that records and modules are one to one. What is accepted, and that every legal module's record is: Statements.antt.
-use Rattle.std.specs.Prelude.{Bool, true, false, ◌&&◌, List, [], ◌∷◌, ℕ, eqb, leb, ltb, length, Result, Ok, Err}
+use Rattle.std.specs.Prelude.{Bool, true, false, ◌&&◌, List, [], ◌∷◌, ℕ, ◌<◌, eqb, leb, ltb, length, get_or, replicate, Result, Ok, Err}
 use Rattle.field.specs.declared.InfixOp.{InfixOp}
 use Rattle.flat.specs.Trees.{Definition, every_id, definitions_nodes}
 use Rattle.flat.specs.Record.{pick}
@@ -18,6 +18,18 @@ PROVERS = 8192
 
 abbrev pub EQUALITIES : ℕ
 EQUALITIES = 16384
+
+-- the longest record that is accepted: a header, 64 publics, 8,192 prover ids, 16,384 equalities, 4,096 kept definitions, 16,384 nodes
+abbrev pub RECORD-BYTES : ℕ
+RECORD-BYTES = 868632
+
+-- so many zeros
+unfoldable pub record_buffer : List ℕ
+record_buffer = replicate RECORD-BYTES 0
+
+-- the numbers of a list are bytes
+abbrev pub Bytes : List ℕ → Type 0
+Bytes b = (k : ℕ) → get_or b k 0 < 256
 
 unfoldable pub every_of : {A : Type 0} → (A → Bool) → List A → Bool
 every_of p [] = true

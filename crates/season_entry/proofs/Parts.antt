@@ -16,14 +16,13 @@ use Rattle.records.specs.declared.refusals.Refusal.{Refusal}
 use Rattle.constraint.specs.declared.reading.Layout.{Layout}
 use Rattle.constraint.specs.Reading.{size, layout_of, constraint_of}
 use Rattle.constraint.specs.Record.{constraint_bytes}
-use Rattle.constraint_check.specs.Record.{legal, same_bytes, Read, constraint_read, checked}
+use Rattle.constraint_check.specs.Record.{Bytes, legal, same_bytes, Read, constraint_read, checked}
 use Rattle.constraint_check.specs.Tests.{has_few, measured, rules, tests}
 use Rattle.constraint_check.proofs.Decides.{passes, read-by}
 use Rattle.constraint_check.proofs.OneToOne.{same-is}
 use Rattle.season_trees.proofs.Tests.{not-both}
 use Rattle.season_trees.specs.Values.{inputs_of}
 use Rattle.season_trees.specs.Season.{record_part, rest_part, calibrations_of, well_counted, Season, counted, season_of, answer_for, output_for}
-use Rattle.season_values.specs.Record.{Bytes}
 
 -- the layout's size, by the header
 module _ (b : List ℕ) {l : Layout} (e : l ≡ layout_of b) where

@@ -4,8 +4,9 @@
 #![tactic(auto)]
 
 use answer_record::print_refused;
+use constraint_check::record_buffer;
 use season_count::Count;
-use season_stream::{Stop, count_stream, read_record, record_buffer};
+use season_stream::{Stop, count_stream, read_record};
 use season_text::print_report;
 use season_values::record::Record;
 use std::io;

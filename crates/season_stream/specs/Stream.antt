@@ -1,6 +1,6 @@
 -- What the parts of a run over a stream answer. A reader's bytes may be known or not: all is said of some bytes, which are those
 -- that it had left where these are known.
-use Rattle.std.specs.Prelude.{true, false, List, ◌≡◌, ℕ, ◌≤◌, length, replicate, take, Option, Some, None, Result, Ok, Err}
+use Rattle.std.specs.Prelude.{true, false, List, ◌≡◌, ℕ, ◌≤◌, length, take, Option, Some, None, Result, Ok, Err}
 use Rattle.std.specs.Io.KnownBytes.{Consumes, IsAtEnd}
 use Rattle.records.specs.declared.refusals.Refusal.{Refusal}
 use Rattle.constraint_check.specs.Record.{Read, constraint_read}
@@ -15,14 +15,6 @@ use Rattle.season_stream.specs.declared.Stop.{Stop}
 abbrev pub Had : Option (List ℕ) → List ℕ → Type 0
 Had None b = Unit {0}
 Had (Some xs) b = xs ≡ b
-
--- the longest record that is accepted: a header, 64 publics, 8,192 prover ids, 16,384 equalities, 4,096 kept definitions, 16,384 nodes
-abbrev pub RECORD-BYTES : ℕ
-RECORD-BYTES = 868632
-
--- zeros to read it into
-unfoldable pub record_buffer : List ℕ
-record_buffer = replicate RECORD-BYTES 0
 
 -- an accepted record of n bytes was read to the front of the buffer, or what the reader had is refused for its record
 abbrev pub RecordTaken : Result ℕ Stop → Option (List ℕ) → Option (List ℕ) → List ℕ → Type 0

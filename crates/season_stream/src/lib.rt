@@ -8,7 +8,8 @@ ghost use Rattle.std.specs.Prelude.{◌≡◌};
 ghost use Rattle.season_stream.specs.Statement.{StreamReported};
 
 pub use blocks::count_stream;
-pub use parts::{RECORD_BYTES, read_record, record_buffer};
+use constraint_check::record_buffer;
+pub use parts::read_record;
 use records::refusals::Refusal;
 use season_count::Count;
 use season_entry::report::write_report;
