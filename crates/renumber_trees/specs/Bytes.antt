@@ -6,7 +6,7 @@ use Rattle.records.specs.declared.refusals.Refusal.{Refusal}
 use Rattle.records.specs.FlatRecord.{IDS}
 use Rattle.constraint.specs.Trees.{ConstraintModule}
 use Rattle.constraint.specs.Record.{constraint_bytes}
-use Rattle.constraint_check.specs.Record.{every, Read, constraint_read}
+use Rattle.constraint_check.specs.Record.{every_of, Read, constraint_read}
 use Rattle.renumber_trees.specs.declared.Lengths.{Lengths}
 use Rattle.renumber_trees.specs.Renumber.{renumbered, table_of, expanded, distinct}
 
@@ -68,7 +68,7 @@ unfoldable pub table_fits : List ℕ → ℕ → Bool
 table_fits t n =
     eqb (length t) (4 * (n + 1))
     && (leb (word_at t 0) IDS
-    && (every (λ v. ltb v (word_at t 0)) (table_ids t n)
+    && (every_of (λ v. ltb v (word_at t 0)) (table_ids t n)
     && distinct (table_ids t n)))
 
 unfoldable pub expanded_for : List ℕ → Read → Read
