@@ -4,7 +4,8 @@
 // that fails is said on standard error.
 #![tactic(auto)]
 
-use renumber_entry::{RECORD_BYTES, TABLE_BYTES, expand, renumber};
+use constraint_check::RECORD_BYTES;
+use renumber_entry::{TABLE_BYTES, expand, renumber};
 use std::rt::Env;
 use streams::{Failed, open_standard};
 use test_report::{
