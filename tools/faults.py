@@ -260,14 +260,14 @@ def slow_reader(name, record, whole):
 def arguments(name, record, whole):
     usage = b"usage: " + name.encode()
     wrong = [("--help",), ("-x",), ("1", "2", "3", "4"), ("9" * 5000,) if name not in NUMBERS else ("x" * 5000,)]
-    if name.startswith("test_") or name in NONE or name in SILENT:
+    if name.startswith("test_") or name in NONE or name in NO_INPUT:
         wrong += [("1",), ("",)]
     if name in TABLES:
         wrong += [(), ("1", "2")]
     for args in wrong:
         status, out, err = run(name, record, args)
         expect("%s %s" % (name, " ".join(a[:12] for a in args)), out == b"" and said(err, usage))
-    if name.startswith("test_") or name in NONE or name in SILENT:
+    if name.startswith("test_") or name in NONE or name in NO_INPUT:
         return
     if name in TABLES:
         tables(name, record, whole)
