@@ -3,9 +3,10 @@
 
     python3 tools/compare_renumber.py FROM TO
 
-after `tools/build.sh renumber expand`. For each seed some random records, some of them with a word changed; with the first seed also the hand-made ones, the longest
-record, records beyond it, and tables that do not fit it. A record that is taken goes through both programs and has to come back. Printed is a line for
-each difference, and the counts.
+after `tools/build.sh renumber expand`. For each seed some random records, some of them with a word changed; with the first seed also the hand-made ones,
+the longest record, records beyond it, and tables that do not fit it. A record that is taken goes through both programs and has to come back; its table is
+written over a longer file, or where there is none, in turn. At a refusal no file is made, and one that was there stays. Printed is a line for each
+difference, and the counts.
 """
 import os
 import random
@@ -19,7 +20,10 @@ from season_cases import some_record
 
 BIN = os.path.join(os.path.dirname(os.path.abspath(__file__)), "..", "target", "bin")
 TABLE = os.path.join(tempfile.mkdtemp(), "table")
-runs = differ = 0
+
+# longer than any table
+OLD = bytes(300000)
+runs = differ = records = 0
 
 
 def answer(program, data):
@@ -36,16 +40,34 @@ def expect(what, held):
         print("differs:", what)
 
 
-def both(data, what):
-    r = whole(data)
+def put(before):
+    """The file TABLE with these bytes, or none."""
     if os.path.exists(TABLE):
         os.remove(TABLE)
+    if before is not None:
+        with open(TABLE, "wb") as f:
+            f.write(before)
+
+
+def left():
+    if not os.path.exists(TABLE):
+        return None
+    with open(TABLE, "rb") as f:
+        return f.read()
+
+
+def both(data, what):
+    global records
+    r = whole(data)
+    records += 1
+    before = OLD if records // 2 % 2 else None
+    put(before)
     got = answer("renumber", data)
     if r is None:
-        expect(what, got == (b"", b"refused 42\n") and not os.path.exists(TABLE))
+        expect(what, got == (b"", b"refused 42\n") and left() == before)
         return
     out, table = renumbered(r)
-    expect(what, got == (out, b"") and open(TABLE, "rb").read() == table)
+    expect(what, got == (out, b"") and left() == table)
     expect(what + ", expanded", answer("expand", out) == (data, b""))
 
 
@@ -63,8 +85,7 @@ def beyond():
     w = unpack(table)
     bad = [table[:-4], table + bytes(4), table[:-1], table + b"\0", b"", 2 * table, pack([LAST_NEXT + 1] + w[1:]), pack(w[:-1] + w[1:2]), pack(w[:-1] + w[:1])]
     for t in bad:
-        with open(TABLE, "wb") as f:
-            f.write(t)
+        put(t)
         expect("a table of %d bytes" % len(t), answer("expand", out) == (b"", b"refused 47\n"))
 
 

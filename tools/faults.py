@@ -4,11 +4,12 @@
     python3 tools/faults.py [FOLDER [PROGRAM..]]
 
 FOLDER has the built programs, target/bin by default, after
-`tools/build.sh cut_all cut_flat equalities expand flatten flatten_equalities join renumber season season_lines small_rules test_eval test_field test_flat test_flatten test_join test_numbering test_renumber
-test_season test_share test_small test_source`; all of these are tried, or those named (`cut_all` needs `cut_flat` too). Every fault has to leave a line on standard error, or end the program by a signal, and to leave on standard output nothing but a front of the
-right bytes: none is taken for success. A test program is tried on the first cases of its input and on many that differ from what they expect, each of
-which it tells by a line; without a fault on all of its input too. Printed is a line for each fault that was not handled so, then how many were tried
-on each program and the counts; the exit status is 1 if there is one.
+`tools/build.sh cut_all cut_flat equalities expand flatten flatten_equalities join renumber rules rules_equalities season season_lines small_rules test_eval test_field test_flat test_flatten test_join
+test_named_files test_numbering test_print test_renumber test_rules test_season test_share test_small test_source`; all of these are tried, or those named (`cut_all` needs `cut_flat` too). Every fault has to leave a line on
+standard error, or end the program by a signal, and to leave on standard output nothing but a front of the right bytes: none is taken for success. A
+test program is tried on the first cases of its input and on many that differ from what they expect, each of which it tells by a line; without a fault
+on all of its input too. Printed is a line for each fault that was not handled so, then how many were tried on each program and the counts; the exit
+status is 1 if there is one.
 """
 import fcntl
 import itertools
@@ -45,6 +46,11 @@ def many_equations(n):
     return words(1, 0, 0, n, len(nodes), 0, 1, *tops, *(w for x in nodes for w in x)) + b"x"
 
 
+def many_lines(n):
+    """The same as a text of rules."""
+    return b"x = x + 1;\n" * n
+
+
 def many_flat(n):
     """The same as a flat record."""
     nodes, sides = [], []
@@ -75,6 +81,8 @@ PARTS = {
     "test_season": (3, lambda length, room, answer: 12 + length + (answer if answer < REFUSED else 0), 2),
     "test_renumber": (6, lambda kind, length, side, room, answer, table: 24 + length + kind * side + table + (answer if answer < REFUSED else 0), 4),
     "test_join": (5, lambda first, second, pairs, room, answer: 20 + first + second + pairs + (answer if answer < REFUSED else 0), 4),
+    "test_rules": (4, lambda length, room, answer, line: 16 + length + line + (answer if answer < REFUSED else 0), 2),
+    "test_print": (3, lambda length, *answers: 12 + length + sum(n for n in answers if n < REFUSED), 1),
     "test_numbering": (4, lambda length, answer, ids, publics: 16 + length + 4 * (ids + publics), 1),
     "test_share": (4, lambda n, total, records, outputs: 116 + records + outputs, 21),
     "test_small": (1, lambda length: 4 + length, 1),
@@ -107,15 +115,17 @@ def many_different(name):
     for part in parts(name):
         if name == "test_source" and word(part, 0) == BASE:
             before = part
-        elif name not in ("test_flat", "test_join", "test_renumber", "test_season") or word(part, k) > REFUSED:
+        elif name not in ("test_flat", "test_join", "test_print", "test_renumber", "test_rules", "test_season") or word(part, k) > REFUSED:
             return before + 400 * (part[:4 * k] + words(word(part, k) + 1) + part[4 * k + 4:])
 
 
-# programs that take no arguments
-NONE = ("season", "season_lines")
 # programs that read nothing
-SILENT = ("small_rules", "test_field")
+NO_INPUT = ("small_rules", "test_field", "test_named_files")
 
+# programs that take no arguments
+NONE = ("rules", "season", "season_lines")
+# programs that read a text of rules, and the longest that they read
+TEXTS, LONGEST_TEXT = ("rules", "rules_equalities"), 1048575
 # programs that take numbers as arguments: some that change nothing
 NUMBERS = {"flatten": ("0" * 3000 + "1048560", "0" * 4000 + "786712"), "cut_flat": ("0" * 4000 + "786712",)}
 
@@ -139,7 +149,9 @@ PROGRAMS = {
     "renumber": lambda: (many_terms(4), many_terms(400)),
     "expand": lambda: (many_terms(4), many_terms(400)),
     "join": lambda: (b"", b""),
-    **{name: lambda: (b"", b"") for name in SILENT},
+    "rules": lambda: (read("crates", "rules", "stdin"), many_lines(400)),
+    "rules_equalities": lambda: (read("crates", "rules_equalities", "stdin"), many_lines(400)),
+    **{name: lambda: (b"", b"") for name in NO_INPUT},
     **{name: lambda name=name: (front(name), many_different(name)) for name in PARTS},
 }
 
@@ -152,7 +164,7 @@ def called(name, args=None):
 
 def run(name, record=b"", args=None, stdin=None, stdout=subprocess.PIPE, before=None, env=None):
     """(exit status, standard output, standard error) of one run."""
-    p = subprocess.Popen(called(name, args), stdin=subprocess.PIPE if stdin is None else stdin, stdout=stdout,
+    p = subprocess.Popen(called(name, args), cwd=SCRATCH, stdin=subprocess.PIPE if stdin is None else stdin, stdout=stdout,
                          stderr=subprocess.PIPE, preexec_fn=before, env=env, restore_signals=before is None)
     out, err = p.communicate(record if stdin is None else None, timeout=60)
     return p.returncode, out or b"", err
@@ -195,12 +207,14 @@ def writes(name, record, whole):
         status, _, err = run(name, record, stdout=full)
     expect(name + ", full device", said(err, b"standard output: No space left on device"))
     half = len(whole) // 2
+    # what the limit meets first
+    to = b"written" if name == "test_named_files" else b"standard output"
     for ignore in (True, False):
         with tempfile.TemporaryFile() as f:
             status, _, err = run(name, record, stdout=f, before=limited(half, ignore))
             f.seek(0)
             got = f.read()
-        reported = said(err, b"standard output: File too large") or status == -signal.SIGXFSZ
+        reported = said(err, to + b": File too large") or status == -signal.SIGXFSZ
         expect("%s, file-size limit, signal %s" % (name, "ignored" if ignore else "not ignored"), reported and whole.startswith(got) and len(got) <= half)
     for ignore in (True, False):
         r, w = os.pipe()
@@ -214,7 +228,7 @@ def writes(name, record, whole):
 
 def reads(name, record, whole):
     """Single bytes with pauses, slow readers, and reads that fail: nothing is answered then."""
-    p = subprocess.Popen(called(name), stdin=subprocess.PIPE, stdout=subprocess.PIPE, stderr=subprocess.PIPE)
+    p = subprocess.Popen(called(name), cwd=SCRATCH, stdin=subprocess.PIPE, stdout=subprocess.PIPE, stderr=subprocess.PIPE)
     for k in range(len(record)):
         p.stdin.write(record[k:k + 1])
         p.stdin.flush()
@@ -240,7 +254,7 @@ def reads(name, record, whole):
 
 
 def slow_reader(name, record, whole):
-    p = subprocess.Popen(called(name), stdin=subprocess.PIPE, stdout=subprocess.PIPE, stderr=subprocess.PIPE)
+    p = subprocess.Popen(called(name), cwd=SCRATCH, stdin=subprocess.PIPE, stdout=subprocess.PIPE, stderr=subprocess.PIPE)
     if record:
         p.stdin.write(record)
     p.stdin.close()
@@ -257,14 +271,14 @@ def slow_reader(name, record, whole):
 def arguments(name, record, whole):
     usage = b"usage: " + name.encode()
     wrong = [("--help",), ("-x",), ("1", "2", "3", "4"), ("9" * 5000,) if name not in NUMBERS else ("x" * 5000,)]
-    if name.startswith("test_") or name in NONE or name in SILENT:
+    if name.startswith("test_") or name in NONE or name in NO_INPUT:
         wrong += [("1",), ("",)]
     if name in TABLES:
         wrong += [(), ("1", "2")]
     for args in wrong:
         status, out, err = run(name, record, args)
         expect("%s %s" % (name, " ".join(a[:12] for a in args)), out == b"" and said(err, usage))
-    if name.startswith("test_") or name in NONE or name in SILENT:
+    if name.startswith("test_") or name in NONE or name in NO_INPUT:
         return
     if name in TABLES:
         tables(name, record, whole)
@@ -327,12 +341,22 @@ def some_cases(name, small, large):
     expect(name + ", cases that differ", out.count(b"\n") == 401 and out.endswith(b" 400 differ\n"))
 
 
+def texts(name):
+    """A text that is too long, the longest that is read, and one outside the grammar, whose place is told behind the refusal."""
+    status, out, err = run(name, b" " * (LONGEST_TEXT + 1))
+    expect(name + ", a text that is too long", out == b"" and said(err, b"more than 1,048,575 bytes of text"))
+    status, out, err = run(name, b" " * LONGEST_TEXT)
+    expect(name + ", the longest text", out != b"" and err == b"")
+    status, out, err = run(name, b"x = 1;\nx = (2;\n")
+    expect(name + ", a text outside the grammar", b"refused 40\n" in out + err and err.splitlines()[-1].startswith(b"line 2, column 7: expected "))
+
+
 def all_cases(name):
     """All of a test program's input, also by pieces with pauses, and with 1 MB of environment, where the deepest records may end it by a signal."""
     record, whole = read("crates", name, "stdin"), read("crates", name, "stdout")
     expect(name + ", all of its input", run(name, record) == (0, whole, b""))
     expect(name + ", all of its input, 1 MB of environment", crowded(name, record) in ((0, whole, b""), (-signal.SIGSEGV, b"", b"")))
-    p = subprocess.Popen(called(name), stdin=subprocess.PIPE, stdout=subprocess.PIPE, stderr=subprocess.PIPE)
+    p = subprocess.Popen(called(name), cwd=SCRATCH, stdin=subprocess.PIPE, stdout=subprocess.PIPE, stderr=subprocess.PIPE)
     for at in range(0, len(record), 50001):
         p.stdin.write(record[at:at + 50001])
         p.stdin.flush()
@@ -351,8 +375,10 @@ def tried(name):
     slow_reader(name, large, whole)
     status, whole, err = run(name, small)
     arguments(name, small, whole)
-    if name not in SILENT and name not in FILES:
+    if name not in NO_INPUT and name not in FILES:
         reads(name, small, whole)
+    if name in TEXTS:
+        texts(name)
     if name in PARTS:
         some_cases(name, small, large)
         all_cases(name)

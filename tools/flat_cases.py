@@ -14,6 +14,7 @@ from flat_records import (
     ADD, DIVIDE, DIVIDE_Z, EQUAL, INT_DIVIDE, LAST_NEXT, MODULO, MULTIPLY, POWER, SUBTRACT,
     answers, case, flat, generated, generated_modules, hand_made_modules, pack, unpack,
 )
+from season_cases import chained
 
 STORES = (0, 1, 16, 1000)
 NUMBERS = (0, 1, -1, 2, 2147483647, -2147483646, -2147483648, 1073741824)
@@ -181,6 +182,9 @@ def limits():
     # a tree of 16,383 nodes, and one node more than a record may have
     yield flat(5, [], [(v(0), negated(16382, v(1)))])
     yield pack([5, 0, 0, 0, 1, 16385, 0, 1, 0] + [8, 0, 0, 0] * 16385)
+    # the smallest record that gives 8,193 prover ids, more than a reader of constraint records takes; with one definition less it gives 8,192
+    for n in (8192, 8193):
+        yield flat(n, chained(n), [(v(0), c(0))], provers=range(4096))
 
 
 def last_ids():

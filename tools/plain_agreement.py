@@ -3,10 +3,10 @@
 
     python3 tools/plain_agreement.py TWIN PROGRAM SEED N [--ops LIST] [--pairs] [--widen] [--jobs J]
 
-TWIN is built by oracle/build.sh, PROGRAM is test_flatten. Each seed from SEED on gives a plain module (document 01, "Plain modules") and elements for its
+TWIN is built by oracle/build.sh, PROGRAM is test_flatten. Each seed from SEED on gives a plain module (README, "Three readers") and elements for its
 inputs under which no divisor is zero; half of the equations are made to hold. With --pairs it has pairs and lists too: in
 definitions, lets and equations, nested, with names that stand twice in a pattern; one in ten has a last equation that does not fit (16, 18), and has to be
-refused with that number. The module is worked out from the top as document 01 says, by the evaluator below. Its
+refused with that number. The module is worked out from the top, definition by definition, by the evaluator below. Its
 constraint record is the Rust's, and test_flatten shows that the port's is the same, byte by byte; its equalities are solved from the inputs upward. They have
 to determine every variable in them, and to hold exactly when the equations do. Printed are the counts of modules whose equations
 hold, of those whose do not, and of refused ones (an exponent that is no constant); and what fails. The exit status says whether any does. With --ops, as

@@ -8,9 +8,9 @@ A case is, in little-endian words: 0 to renumber or 1 to expand; the record's le
 the bytes of the table that are written. Then come the record's bytes, the table's if it is to be expanded, the output's, and the table's that are
 written. Among the records are random ones, and those that `flatten` writes in the cases of test_flatten.
 
-The answers come from the model below, which is written from docs/RECORDS.md ("Small ids"). It reads the bytes by the reader of season_cases.py and works on words:
-it knows nothing of trees. Everything random has a fixed seed. Standard error says how many cases there are of each sort. Each record that is taken
-is also expanded again, renumbered twice and counted over some calibrations here: the three have to agree.
+The answers come from the model below, which is written from docs/RECORDS.md ("Small ids"). It reads the bytes by the reader of season_cases.py and
+works on words: it knows nothing of trees. Everything random has a fixed seed. Standard error says how many cases there are of each sort. Each record that
+is taken is also expanded again, renumbered twice and counted over some calibrations here: the three have to agree.
 """
 import collections
 import os

@@ -3,18 +3,23 @@
 
     python3 tools/rule_cases.py > crates/test_rules/stdin
 
-Every text of at most four tokens of a small alphabet, texts at and over each limit, random texts and damaged ones from a fixed seed: the same file each time.
+Every text of at most four tokens of a small alphabet and of at most three of all tokens, texts at and over each limit, alone and two at a time, random texts
+and damaged ones from a fixed seed: the same file each time. A case: the words text length, output room, answer (a length, or 4,294,901,760 and the number of a
+refusal) and message length, the text, the line behind a refusal by 40 of a text of at most 20,000 bytes, and the record.
 """
 import itertools
 import random
 import struct
 import sys
 
-from rule_text import answer
+from rule_text import answer, message
 
 ROOM = 76052
 REFUSAL = 4294901760
-ALPHABET = (b"x", b"def", b"=", b";", b"(", b")", b"^", b"-", b"*", b"7")
+OUTSIDE = 40
+SAID_BYTES = 20000
+ALPHABET = (b"x", b"def", b"=", b";", b"(", b")", b"^", b"-", b"*", b"7", b"+")
+ALL_TOKENS = ALPHABET + (b"/", b"|", b"\\", b"%")
 RANDOM_TEXTS = 1500
 DAMAGE = b"()^-=;*x7 \n\t\r\x00\x80\xffA_"
 NAMES = (b"x", b"y", b"teeth", b"a" * 64)
@@ -22,9 +27,10 @@ NUMBERS = (b"0", b"2", b"007", b"9223372036854775807")
 
 
 def short_texts():
-    for n in range(5):
-        for tokens in itertools.product(ALPHABET, repeat=n):
-            yield b" ".join(tokens)
+    for alphabet, most in ((ALPHABET, 4), (ALL_TOKENS, 3)):
+        for n in range(most + 1):
+            for tokens in itertools.product(alphabet, repeat=n):
+                yield b" ".join(tokens)
 
 
 def numbered(n):
@@ -39,6 +45,10 @@ def nested(n, closed=None):
 def limits():
     yield from (b"", b" \n", b"x;", b"x = 1;;", b"2x = 1;", b"x2 = 1;", b"def x = 2; x = 1;", b"x = 1; def x = 2;")
     yield from (b"def def = 1;", b"fresh = 1;", b"fresh1 = 1;", b"iter = 1;", b"fold = 1;")
+    yield from (b"def fold = 1;", b"x = def;", b"x = iter\n;", b"x = fresh")
+    yield from (b"+x = 1;", b"x = +1;", b"x = (+1);", b"x = 1 - +2;", b"x = 1 + -2;", b"- +x = 1;")
+    yield from (b"x = 1;\r\ny = 2;\r\n", b"x\t= 1;", b"x = 1;\n\n  y = ;\nz = 3;", b"def x = 1;\ndef y = 2\ndef z = 3;", b"x = 2 y;\n")
+    yield from (b"x = y_1;", b"speedOut = 2;")
     for n in (1, 63, 64, 65, 66):
         yield b"a" * n + b" = 1;"
     for n in (0, 9223372036854775806, 9223372036854775807, 9223372036854775808, 18446744073709551616, 10**40):
@@ -47,7 +57,7 @@ def limits():
     for n in range(256):
         c = bytes([n])
         yield from (b"x" + c + b"= 1;", c + b"x = 1;", b"x = 1" + c + b";", b"x = 1;" + c)
-    for n in (63, 64, 65, 20000):
+    for n in (63, 64, 65, 500, 100000):
         yield from (nested(n), nested(n, n - 1), nested(n, n + 1))
     for n in (511, 512, 513):
         yield b"".join(b"def n%d = 1;" % i for i in range(n))
@@ -61,9 +71,27 @@ def limits():
     for n in (1021, 1022, 1023):
         yield b"x = 1" + b" + 1" * n + b";"
         yield b"x = 1" + b" ^ 1" * n + b";"
+    yield b"1 = 1;" * 513 + nested(64)
     yield b"x = " + b"-" * 200000 + b"1;"
     yield b"x" * 100000
     yield b" " * 200000 + b"x = 1;"
+
+
+def longest_record(nodes=1):
+    """512 names of 64 bytes, each defined, and as many equations as the nodes allow."""
+    definitions = [b"def %s = 1;" % numbered(i) for i in range(511)] + [b"def %s = %s1;" % (numbered(511), b"-" * nodes)]
+    return b"\n".join(definitions + [b"1 = 1;"] * 341)
+
+
+def orders():
+    """Texts that two refusals fit, and the room: the first refusal is the answer."""
+    many, deep = b"1 = 1;" * 513, nested(65)
+    yield from ((deep + many + b"@", 0), (many + b"@", 0), (deep + b"@", 0), (b"@", 0))
+    yield from ((deep + many, 0), (many + deep, ROOM), (deep, 0))
+    yield from ((many, 0), (nested(64) + many, 0), (b"def x = 1;" * 513, 0), (b"x = " + b"-" * 2046 + b"1;", 0))
+    yield from ((many[6:], 0), (nested(64), 0), (b"", 19), (b"", 20))
+    size = len(answer(longest_record(), ROOM))
+    yield from ((longest_record(), size), (longest_record(), size - 1), (longest_record(2), 0))
 
 
 def expression(depth):
@@ -108,12 +136,15 @@ def random_texts():
 def case(text, room=ROOM):
     got = answer(text, room)
     number, record = (REFUSAL + got, b"") if isinstance(got, int) else (len(got), got)
-    return struct.pack("<3I", len(text), room, number) + text + record
+    line = message(text).encode() if got == OUTSIDE and len(text) <= SAID_BYTES else b""
+    return struct.pack("<4I", len(text), room, number, len(line)) + text + line + record
 
 
 def cases():
     for text in itertools.chain(short_texts(), limits()):
         yield case(text)
+    for text, room in orders():
+        yield case(text, room)
     for text in random_texts():
         yield case(text)
         got = answer(text, ROOM)
@@ -127,4 +158,5 @@ def main():
         sys.stdout.buffer.write(c)
 
 
-main()
+if __name__ == "__main__":
+    main()

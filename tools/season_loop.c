@@ -1,6 +1,7 @@
 /* A plain loop over a season's calibrations, for tools/season_times.py: the time of program season is held against it. It trusts its input: a legal
    constraint record without kept definitions, operations 0 to 4, 7, 8, and as many calibrations as the count says. The field's arithmetic is the
-   port's: residues by %, the centred element, the same inverse; without branches on signs, as the port's are compiled. Writes the report's words. */
+   port's: residues by %, the centred element, the same inverse. Writes the report's words. Its forms, of which the tool takes the fastest: with
+   -DBRANCHES signs are told by branches, else without; -DTABLE=N is how many inverses are looked up, 512 as in the port, 1 for none. */
 #include <stdint.h>
 #include <stdio.h>
 #include <stdlib.h>
@@ -9,16 +10,25 @@
 #define HALF 1073741823
 #define NONE INT64_MIN
 #define BLOCK 262144
+#ifndef TABLE
+#define TABLE 512
+#endif
 
+#ifdef BRANCHES
+static uint64_t residue(int64_t x) { return x < 0 ? P - 1 - (uint64_t)(-(x + 1)) % P : (uint64_t)x % P; }
+static int64_t centred(uint64_t r) { return r <= HALF ? (int64_t)r : -(int64_t)(P - r); }
+#else
 static uint64_t residue(int64_t x) {
     uint64_t sign = (uint64_t)(x >> 63), r = ((uint64_t)x ^ sign) % P;
     return (r ^ sign) + (sign & P);
 }
 static int64_t centred(uint64_t r) { return (int64_t)r - (-(int64_t)(r > HALF) & (int64_t)P); }
-static uint64_t small[513];
-static uint64_t inverse(uint64_t b) {
+#endif
+static uint64_t small[TABLE + 1];
+static uint64_t inverse(uint64_t residue_of_b) {
     uint64_t factor = 1;
-    while (b > 512) { factor = factor * (P - P / b) % P; b = P % b; }
+    uint32_t b = (uint32_t)residue_of_b;
+    while (b > TABLE) { factor = factor * (P - P / b) % P; b = P % b; }
     return factor * small[b] % P;
 }
 static uint64_t absolute(int64_t x) { return x < 0 ? (uint64_t)-x : (uint64_t)x; }
@@ -58,7 +68,7 @@ int main(void) {
         if (!q[k].second[0]) used[q[k].second[1]] = 1;
     }
     for (uint32_t v = 0; v < 65536; v++) if (used[v]) ids[n++] = v;
-    for (uint64_t b = 1; b <= 512; b++) {
+    for (uint64_t b = 1; b <= TABLE; b++) {
         small[b] = 1;
         for (uint64_t e = P - 2, s = b; e; e >>= 1, s = s * s % P) if (e & 1) small[b] = small[b] * s % P;
     }

@@ -1,4 +1,4 @@
--- Demand 3: numbering, evaluation and the passes keep what a plain module says.
+-- Numbering, evaluation and the passes keep what a plain module says.
 use mathlib.Core.Path.{◌≡◌, refl, sym, ap, ◌∙◌}
 use mathlib.Core.Bool.{Bool, true, false}
 use mathlib.Core.List.{List, [], ◌∷◌}

@@ -1,4 +1,4 @@
--- Demand 3: a plain module and its equalities say the same (proofs/Agreement.antt), and there is never a second solution (proofs/Never.antt).
+-- A plain module and its equalities say the same (proofs/Agreement.antt), and there is never a second solution (proofs/Never.antt).
 use Rattle.std.specs.Prelude.{◌≡◌, true, ◌↔◌, ℕ, ℤ}
 use Rattle.field.specs.Prime.{P}
 use Rattle.field.specs.Element.{elem}

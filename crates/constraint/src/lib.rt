@@ -27,6 +27,11 @@ pub const PLACE_WORD: usize = 7;
 
 pub const KEPT_WORDS: usize = DEFINITION_WORDS;
 
+// The operations that are no operators.
+pub const NEGATE: u32 = 9;
+
+pub const COPY: u32 = 10;
+
 // "A term is either a variable or a constant."
 #[derive(Clone, Copy, PartialEq, Eq, Debug)]
 pub enum Term {
@@ -60,8 +65,8 @@ impl From<Operation> for u32 {
     fn from(operation: Operation) -> u32 {
         match operation {
             Operation::Infix(op) => u32::from(op),
-            Operation::Negate => 9,
-            Operation::Copy => 10,
+            Operation::Negate => NEGATE,
+            Operation::Copy => COPY,
         }
     }
 }
@@ -73,15 +78,15 @@ impl From<u32> for Operation {
 
     fn from(number: u32) -> Operation {
         match number {
-            9 => Operation::Negate,
-            10 => Operation::Copy,
+            NEGATE => Operation::Negate,
+            COPY => Operation::Copy,
             _ => Operation::Infix(operator(number)),
         }
     }
 }
 
 // A term: of which sort it is, and its id or number.
-// Kept as it is: 0 and 1 are words of the record, written here and read by `term_at` alone; the enum of the two sorts is `Term`.
+// Kept as it is: 0 and 1 are words of the record, written here, read by `term_at` and tested in `constraint_check` alone; the enum of the two sorts is `Term`.
 #[tactic(auto, unfolding(crate::specs::Record::term_words, crate::specs::Record::number_word))]
 fn put_term(out: &mut [u8], at: usize, term: Term)
     requires { 4 * (at + TERM-WORDS) ≤ length out.old }

@@ -24,7 +24,7 @@ use Rattle.constraint.specs.Reading.{HEADER, next, publics, provers, equalities,
 use Rattle.constraint.specs.Reading.{equalities_offset, kept_offset, nodes_offset, size}
 use Rattle.constraint.specs.Reading.{equality_at, layout_of, constraint_of}
 use Rattle.constraint.proofs.Lengths.{length-equality, length-equalities, length-definitions, length-words}
-use Rattle.constraint_check.specs.Record.{every as every_of, rising as rising_of, equality_fits, kept_fits, within_limits, well_formed, legal}
+use Rattle.constraint_check.specs.Record.{every_of, rising_ids, equality_fits, kept_fits, within_limits, well_formed, legal}
 use Rattle.constraint_check.specs.Tests.{has_few, ids_hold, measured, words_fit, equalities_fit, nodes_follow, end_of}
 use Rattle.constraint_check.specs.Tests.{entry_stands, kept_stands, start, kept_stand}
 use Rattle.constraint_check.specs.Tests.{prover_ids, is_prover, trees_stand, rules, tests}
@@ -190,7 +190,7 @@ module _ (b : List ℕ) (bytes : (k : ℕ) → get_or b k 0 < 256) (t : Tested b
       let ok2 : every_of (λ v. ltb v nx) qs ≡ true =
       every-rows (λ v. ltb v nx) (prover_at b (provers_offset b)) (provers b) 0
       (λ k l m. lt-ltb _ _ (below_at b (provers_offset b) (provers b) nx t.provers-below k (omega arith))) in
-      let ok3 : rising_of qs ≡ true =
+      let ok3 : rising_ids qs ≡ true =
       rising-rows (prover_at b (provers_offset b)) (provers b) 0
       (λ k l m. rise k (rising-at b (provers_offset b) (provers b) t.provers-rise k (omega arith))) in
       let ok4 : every_of (equality_fits nx) es ≡ true =

@@ -15,7 +15,8 @@ use Rattle.flat.specs.Layout.{prover_at}
 use Rattle.flat.specs.Record.{pick, rows, all_below, nodes_fit}
 use Rattle.constraint.specs.declared.reading.Layout.{Layout}
 use Rattle.constraint.specs.Reading.{size, layout_of, constraint_of}
-use Rattle.constraint_check.specs.Record.{among, Read, constraint_read, checked}
+use Rattle.constraint.specs.Numbers.{member}
+use Rattle.constraint_check.specs.Record.{Read, constraint_read, checked}
 use Rattle.constraint_check.specs.Tests.{has_few, ids_hold, measured, equalities_fit, start, nodes_follow, kept_stand, trees_stand, rules, tests}
 use Rattle.constraint_check.specs.Arrays.{Within}
 use Rattle.constraint_check.proofs.Decides.{read-by}
@@ -117,7 +118,7 @@ rules-by b e = rw e
 pub trees-by : (b : List ℕ) {l : Layout} → l ≡ layout_of b →
     (nodes_fit b l.nodes_at l.nodes l.next
     && (nodes_follow b l.nodes_at l.nodes
-    && kept_stand b l.kept_at l.kept l.nodes (start b l.nodes_at l.nodes) (λ v. among v (rows l.provers 0 (prover_at b l.provers_at)))))
+    && kept_stand b l.kept_at l.kept l.nodes (start b l.nodes_at l.nodes) (λ v. member v (rows l.provers 0 (prover_at b l.provers_at)))))
     ≡ trees_stand b
 unfolding trees_stand layout_of
 trees-by b e = rw e

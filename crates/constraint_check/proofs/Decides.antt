@@ -25,8 +25,9 @@ use Rattle.constraint.specs.Reading.{kept_offset, nodes_offset, size, layout_of,
 use Rattle.constraint.proofs.Lengths.{length-equality}
 use Rattle.constraint.proofs.ReadBack.{next-read, publics-count, provers-count, equalities-count, kept-count, nodes-count, length-size}
 use Rattle.constraint.proofs.ReadBack.{publics-placed, provers-placed, equalities-placed, kept-placed, nodes-placed}
-use Rattle.constraint_check.specs.Record.{every as every_of, rising as rising_of, among, equality_fits, kept_fits, within_limits, well_formed, legal}
-use Rattle.constraint_check.specs.Record.{same, Read, constraint_read}
+use Rattle.constraint.specs.Numbers.{member}
+use Rattle.constraint_check.specs.Record.{every_of, rising_ids, equality_fits, kept_fits, within_limits, well_formed, legal}
+use Rattle.constraint_check.specs.Record.{same_bytes, Read, constraint_read}
 use Rattle.constraint_check.specs.Tests.{has_few, ids_hold, measured, words_fit, equalities_fit, nodes_follow, end_of}
 use Rattle.constraint_check.specs.Tests.{entry_stands, kept_stands, start, kept_stand}
 use Rattle.constraint_check.specs.Tests.{prover_ids, is_prover, trees_stand, rules, tests}
@@ -57,22 +58,22 @@ module _ (b : List ℕ) (limit at : ℕ) where
 
 -- its kept definitions, apart
 module _ (limit : ℕ) (ids : List ℕ) (low : every_of (λ v. ltb v limit) ids ≡ true) where
-  kept-ids : (ds : List Definition) → every_of (kept_fits limit ids) ds ≡ true → every_of (λ d. among d.id ids) ds ≡ true
+  kept-ids : (ds : List Definition) → every_of (kept_fits limit ids) ds ≡ true → every_of (λ d. member d.id ids) ds ≡ true
   unfolding every_of kept_fits
   kept-ids [] h = refl
   kept-ids (d ∷ ds) h =
-      let one = among d.id ids && every_id (λ v. ltb v limit) d.right in
-      rw (and_left (among d.id ids) _ (and_left one _ h)) (kept-ids ds (and_right one _ h))
+      let one = member d.id ids && every_id (λ v. ltb v limit) d.right in
+      rw (and_left (member d.id ids) _ (and_left one _ h)) (kept-ids ds (and_right one _ h))
 
   kept-below : (ds : List Definition) → every_of (kept_fits limit ids) ds ≡ true → All (λ d. (d.id < limit) × Every (λ v. v < limit) d.right) ds
   unfolding every_of kept_fits
   kept-below [] h = tt
   kept-below (d ∷ ds) h =
-      let one = among d.id ids && every_id (λ v. ltb v limit) d.right in
+      let one = member d.id ids && every_id (λ v. ltb v limit) d.right in
       let own = and_left one (every_of (kept_fits limit ids) ds) h in (
         (
-          ltb-true _ _ (among-every (λ v. ltb v limit) ids d.id low (and_left (among d.id ids) _ own)),
-          id-every limit d.right (and_right (among d.id ids) _ own),
+          ltb-true _ _ (among-every (λ v. ltb v limit) ids d.id low (and_left (member d.id ids) _ own)),
+          id-every limit d.right (and_right (member d.id ids) _ own),
         ),
         kept-below ds (and_right one _ h),
       )
@@ -91,7 +92,7 @@ module _ (m : ConstraintModule) (ok : legal m ≡ true) where
     nodes-few : leb (definitions_nodes m.kept) 16384 ≡ true
     publics-low : every_of (λ v. ltb v m.next) m.publics ≡ true
     provers-low : every_of (λ v. ltb v m.next) m.provers ≡ true
-    provers-rise : rising_of m.provers ≡ true
+    provers-rise : rising_ids m.provers ≡ true
     equalities-fit : every_of (equality_fits m.next) m.equalities ≡ true
     kept-fits : every_of (kept_fits m.next m.provers) m.kept ≡ true
 
@@ -106,7 +107,7 @@ module _ (m : ConstraintModule) (ok : legal m ≡ true) where
       let r0 = and_right (within_limits m) (well_formed m) ok in
       let r1 = and_right (every_of (λ v. ltb v m.next) m.publics) _ r0 in
       let r2 = and_right (every_of (λ v. ltb v m.next) m.provers) _ r1 in
-      let r3 = and_right (rising_of m.provers) _ r2 in
+      let r3 = and_right (rising_ids m.provers) _ r2 in
       record {
         next-small = and_left (leb m.next 65536) _ l0;
         publics-few = and_left (leb (length m.publics) 64) _ l1;
@@ -116,7 +117,7 @@ module _ (m : ConstraintModule) (ok : legal m ≡ true) where
         nodes-few = and_right (leb (length m.kept) 4096) _ l4;
         publics-low = and_left (every_of (λ v. ltb v m.next) m.publics) _ r0;
         provers-low = and_left (every_of (λ v. ltb v m.next) m.provers) _ r1;
-        provers-rise = and_left (rising_of m.provers) _ r2;
+        provers-rise = and_left (rising_ids m.provers) _ r2;
         equalities-fit = and_left (every_of (equality_fits m.next) m.equalities) _ r3;
         kept-fits = and_right (every_of (equality_fits m.next) m.equalities) _ r3;
       }
@@ -160,7 +161,7 @@ module _ (m : ConstraintModule) (ok : legal m ≡ true) where
   passed-kept =
       let h = moved b (definitions_words 0 m.kept) (kept_offset b) (kept_offset b + 3 * 0) (omega arith) (kept-placed m) in
       let ids = kept-ids m.next m.provers parts.provers-low m.kept parts.kept-fits in
-      let w = kept-pass b (kept_offset b) (nodes_offset b) (nodes b) (λ v. among v m.provers) m.kept 0 0 refl ids h (nodes-placed m)
+      let w = kept-pass b (kept_offset b) (nodes_offset b) (nodes b) (λ v. member v m.provers) m.kept 0 0 refl ids h (nodes-placed m)
       (omega (arith, nodes-count m)) in
       let all = every-from (kept b) (kept_stands b (kept_offset b) (nodes b) (start b (nodes_offset b) (nodes b)) (is_prover b))
       (λ k l. rw ids-are (w.0 k (omega arith) (omega (arith, kept-count m)))) in
@@ -204,14 +205,14 @@ module _ (m : ConstraintModule) (ok : legal m ≡ true) where
 
 -- ---- both ways
 
-pub tests-decide : (b : List ℕ) → ((k : ℕ) → get_or b k 0 < 256) → tests b ≡ (legal (constraint_of b) && same b (constraint_bytes (constraint_of b)))
-tests-decide b bytes = go (tests b) refl (legal (constraint_of b)) refl (same b (constraint_bytes (constraint_of b))) refl
+pub tests-decide : (b : List ℕ) → ((k : ℕ) → get_or b k 0 < 256) → tests b ≡ (legal (constraint_of b) && same_bytes b (constraint_bytes (constraint_of b)))
+tests-decide b bytes = go (tests b) refl (legal (constraint_of b)) refl (same_bytes b (constraint_bytes (constraint_of b))) refl
   where
-    go : (t : Bool) → tests b ≡ t → (l : Bool) → legal (constraint_of b) ≡ l → (s : Bool) → same b (constraint_bytes (constraint_of b)) ≡ s → t ≡ (l && s)
+    go : (t : Bool) → tests b ≡ t → (l : Bool) → legal (constraint_of b) ≡ l → (s : Bool) → same_bytes b (constraint_bytes (constraint_of b)) ≡ s → t ≡ (l && s)
     go true h l e s f =
         let ok = is-legal b bytes (tested b h) in
         let own = own-bytes b bytes (tested b h) in
-        let is : same b (constraint_bytes (constraint_of b)) ≡ true = ap (same b) (sym own) ∙ same-self b in
+        let is : same_bytes b (constraint_bytes (constraint_of b)) ≡ true = ap (same_bytes b) (sym own) ∙ same-self b in
         ap₂ ◌&&◌ (sym ok ∙ e) (sym is ∙ f)
     go false h true e true f =
         let own = same-is b (constraint_bytes (constraint_of b)) f in

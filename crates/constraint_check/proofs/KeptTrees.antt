@@ -21,7 +21,7 @@ use Rattle.flat.proofs.Lengths.{tree-positive, next-is, root_is}
 use Rattle.flat.proofs.Nodes.{settled, tree-below}
 use Rattle.flat.proofs.Standing.{Stands, stands-left, stands-right, stands-join, stands-nothing}
 use Rattle.flat.proofs.WriteBack.{next-words, root_below, next-below}
-use Rattle.constraint_check.specs.Record.{every}
+use Rattle.constraint_check.specs.Record.{every_of}
 use Rattle.constraint_check.specs.Tests.{start, nodes_follow, end_of, entry_stands, kept_stands}
 use Rattle.constraint_check.proofs.Lists.{every-id}
 use Rattle.constraint_check.proofs.Starts.{start-settled}
@@ -150,12 +150,12 @@ module _ (b : List ℕ) (at trees count : ℕ) (known : ℕ → Bool) where
   end-is d j base q = let p = tree-positive d.right in omega (arith, q)
 
   -- n definitions from index j on
-  pub kept-pass : (ds : List Definition) (j base : ℕ) → end_of b at j ≡ base → every (λ d. known d.id) ds ≡ true
+  pub kept-pass : (ds : List Definition) (j base : ℕ) → end_of b at j ≡ base → every_of (λ d. known d.id) ds ≡ true
       → Stands b (at + DEFINITION-WORDS * j) (definitions_words base ds) → Stands b (trees + 4 * base) (definitions_trees base ds)
       → base + definitions_nodes ds ≤ count
       → ((k : ℕ) → j ≤ k → k < j + length ds → kept_stands b at count (start b trees count) known k ≡ true)
       × (end_of b at (j + length ds) ≡ base + definitions_nodes ds)
-  unfolding every definitions_words definitions_trees definitions_nodes
+  unfolding every_of definitions_words definitions_trees definitions_nodes
   kept-pass [] j base e m h g l = (λ k a c. absurd (omega arith), (let f : j + 0 ≡ j = omega arith in rw (f, e) (omega arith)))
   kept-pass (d ∷ ds) j base e m h g l =
       let r = root_from base d.right in

@@ -9,3 +9,4 @@ pub mod Accepted
 pub mod Decides
 pub mod Loops
 pub mod Answers
+pub mod Found

@@ -12,26 +12,27 @@ use Rattle.flat.specs.Rules.{Every}
 use Rattle.flat.specs.Record.{rows}
 use Rattle.std.proofs.lemmas.Bool.{both_ways}
 use Rattle.marks.proofs.Indices.{and_left, and_right}
-use Rattle.constraint_check.specs.Record.{every, among, rising}
+use Rattle.constraint.specs.Numbers.{member}
+use Rattle.constraint_check.specs.Record.{every_of, rising_ids}
 
--- ---- every
+-- ---- every_of
 
-pub every-rows : {A : Type 0} (p : A → Bool) (f : ℕ → A) (n j : ℕ) → ((k : ℕ) → j ≤ k → k < j + n → p (f k) ≡ true) → every p (rows n j f) ≡ true
-unfolding every rows
+pub every-rows : {A : Type 0} (p : A → Bool) (f : ℕ → A) (n j : ℕ) → ((k : ℕ) → j ≤ k → k < j + n → p (f k) ≡ true) → every_of p (rows n j f) ≡ true
+unfolding every_of rows
 every-rows p f zero j h = refl
 every-rows p f (suc n) j h =
     rw (h j (omega arith) (omega arith), every-rows p f n (suc j) (λ k l m. h k (omega arith) (omega arith)))
 
-pub every-get_d : {A : Type 0} (p : A → Bool) (xs : List A) (d : A) → every p xs ≡ true → (k : ℕ) → k < length xs → p (get_or xs k d) ≡ true
-unfolding every
+pub every-get_d : {A : Type 0} (p : A → Bool) (xs : List A) (d : A) → every_of p xs ≡ true → (k : ℕ) → k < length xs → p (get_or xs k d) ≡ true
+unfolding every_of
 every-get_d p [] d h k l = absurd (omega arith)
-every-get_d p (x ∷ xs) d h zero l = and_left (p x) (every p xs) h
-every-get_d p (x ∷ xs) d h (suc k) l = every-get_d p xs d (and_right (p x) (every p xs) h) k (omega arith)
+every-get_d p (x ∷ xs) d h zero l = and_left (p x) (every_of p xs) h
+every-get_d p (x ∷ xs) d h (suc k) l = every-get_d p xs d (and_right (p x) (every_of p xs) h) k (omega arith)
 
--- ---- rising
+-- ---- rising_ids
 
-pub rising-rows : (f : ℕ → ℕ) (n j : ℕ) → ((k : ℕ) → j ≤ k → k + 1 < j + n → f k < f (k + 1)) → rising (rows n j f) ≡ true
-unfolding rising rows
+pub rising-rows : (f : ℕ → ℕ) (n j : ℕ) → ((k : ℕ) → j ≤ k → k + 1 < j + n → f k < f (k + 1)) → rising_ids (rows n j f) ≡ true
+unfolding rising_ids rows
 rising-rows f zero j h = refl
 rising-rows f (suc zero) j h = refl
 rising-rows f (suc (suc n)) j h =
@@ -39,28 +40,28 @@ rising-rows f (suc (suc n)) j h =
     let l : f j < f (suc j) = rw e at (h j (omega arith) (omega arith)) in
     rw (lt-ltb (f j) (f (suc j)) l) (rising-rows f (suc n) (suc j) (λ k a c. h k (omega arith) (omega arith)))
 
-pub rising-get_d : (xs : List ℕ) → rising xs ≡ true → (k : ℕ) → k + 1 < length xs → get_or xs k 0 < get_or xs (k + 1) 0
-unfolding rising
+pub rising-get_d : (xs : List ℕ) → rising_ids xs ≡ true → (k : ℕ) → k + 1 < length xs → get_or xs k 0 < get_or xs (k + 1) 0
+unfolding rising_ids
 rising-get_d [] h k l = absurd (omega arith)
 rising-get_d (x ∷ []) h k l = absurd (omega arith)
-rising-get_d (x ∷ y ∷ xs) h zero l = ltb-true x y (and_left (ltb x y) (rising (y ∷ xs)) h)
+rising-get_d (x ∷ y ∷ xs) h zero l = ltb-true x y (and_left (ltb x y) (rising_ids (y ∷ xs)) h)
 rising-get_d (x ∷ y ∷ xs) h (suc k) l =
     let e : suc k + 1 ≡ suc (k + 1) = omega arith in
-    rw e (rising-get_d (y ∷ xs) (and_right (ltb x y) (rising (y ∷ xs)) h) k (omega arith))
+    rw e (rising-get_d (y ∷ xs) (and_right (ltb x y) (rising_ids (y ∷ xs)) h) k (omega arith))
 
--- ---- among
+-- ---- member
 
 among-by : (p : ℕ → Bool) (x : ℕ) (rest : Bool) (v : ℕ) → p x ≡ true → (t : Bool) → eqb v x ≡ t → (rest ≡ true → p v ≡ true) → (t || rest) ≡ true
     → p v ≡ true
 among-by p x rest v h true e f m = ap p (eqb-true v x e) ∙ h
 among-by p x rest v h false e f m = f m
 
--- what holds of all elements holds of one among them
-pub among-every : (p : ℕ → Bool) (xs : List ℕ) (v : ℕ) → every p xs ≡ true → among v xs ≡ true → p v ≡ true
-unfolding every among
+-- what holds of all elements holds of a member
+pub among-every : (p : ℕ → Bool) (xs : List ℕ) (v : ℕ) → every_of p xs ≡ true → member v xs ≡ true → p v ≡ true
+unfolding every_of member
 among-every p [] v h m = absurd (both_ways _ refl m)
 among-every p (x ∷ xs) v h m =
-    among-by p x (among v xs) v (and_left (p x) (every p xs) h) (eqb v x) refl (λ n. among-every p xs v (and_right (p x) (every p xs) h) n) m
+    among-by p x (member v xs) v (and_left (p x) (every_of p xs) h) (eqb v x) refl (λ n. among-every p xs v (and_right (p x) (every_of p xs) h) n) m
 
 -- ---- variables of a tree
 

@@ -21,7 +21,7 @@ use Rattle.marks.proofs.Indices.{and_left, and_no, and-on, every-fails, every_mo
 use Rattle.flat.proofs.Nodes.{infix-below, negate-below}
 use Rattle.flat.proofs.Rows.{rows_more}
 use Rattle.records.specs.FlatRecord.{IDS, NODES}
-use Rattle.constraint_check.specs.Record.{among}
+use Rattle.constraint.specs.Numbers.{member}
 use Rattle.constraint_check.specs.Tests.{start_for, start, follows, nodes_follow, end_of, entry_stands, kept_stands, kept_stand}
 use Rattle.constraint_check.specs.Arrays.{start_in, marked_in, placed, Before, Starts, Marked}
 use Rattle.constraint_check.proofs.Starts.{start-is, start-settled}
@@ -96,14 +96,14 @@ none-follow a b at l = (refl, record { long = l; starts = λ k m. absurd (omega 
 
 -- ---- marks
 
-among-end : (v w : ℕ) (xs : List ℕ) → among v (xs ++ (w ∷ [])) ≡ (among v xs || eqb v w)
-unfolding among
+among-end : (v w : ℕ) (xs : List ℕ) → member v (xs ++ (w ∷ [])) ≡ (member v xs || eqb v w)
+unfolding member
 among-end v w [] = or-nothing (eqb v w)
   where
     or-nothing : (t : Bool) → (t || false) ≡ t
     or-nothing true = refl
     or-nothing false = refl
-among-end v w (x ∷ xs) = ap (λ (t : Bool). eqb v x || t) (among-end v w xs) ∙ or-assoc (eqb v x) (among v xs) (eqb v w)
+among-end v w (x ∷ xs) = ap (λ (t : Bool). eqb v x || t) (among-end v w xs) ∙ or-assoc (eqb v x) (member v xs) (eqb v w)
   where
     or-assoc : (r s t : Bool) → (r || (s || t)) ≡ ((r || s) || t)
     or-assoc true s t = refl
@@ -123,7 +123,7 @@ cleared (suc n) zero = refl
 cleared (suc n) (suc v) = cleared n v
 
 pub none-marked : (f : ℕ → ℕ) → Marked (replicate IDS false) (rows 0 0 f)
-unfolding among marked_in rows
+unfolding member marked_in rows
 none-marked f = record {
   long = length-replicate IDS false;
   marks = λ v. rw (cleared IDS v) (and-false (ltb v IDS));
@@ -136,8 +136,8 @@ marked-more a xs w m l = record {
   marks = λ v. ⊎_elim
       (λ (d : v ≡ w).
       rw (d, get_or-set_same {A = Bool} a w true false (omega (arith, m.long)), among-end w w xs, eq-eqb w w refl, lt-ltb w IDS l)
-      (sym (or-yes (among w xs))))
-      (λ (d : v ≡ w → ⊥). rw (get_or-set_other {A = Bool} a w v true false d, among-end v w xs, ne_eqb v w d) (m.marks v ∙ sym (or-no (among v xs))))
+      (sym (or-yes (member w xs))))
+      (λ (d : v ≡ w → ⊥). rw (get_or-set_other {A = Bool} a w v true false d, among-end v w xs, ne_eqb v w d) (m.marks v ∙ sym (or-no (member v xs))))
       (cases_eq v w);
 }
 
@@ -184,18 +184,18 @@ kept-none b at count first known = (refl, refl)
 
 -- by the arrays, or by what they say
 pub kept-same : (b : List ℕ) (at n count trees : ℕ) (ids a : List ℕ) (m : List Bool) → Starts a b trees count → Marked m ids
-    → kept_stand b at n count (start_in a) (marked_in m) ≡ kept_stand b at n count (start b trees count) (λ v. among v ids)
+    → kept_stand b at n count (start_in a) (marked_in m) ≡ kept_stand b at n count (start b trees count) (λ v. member v ids)
 unfolding kept_stand kept_stands entry_stands
 kept-same b at n count trees ids a m s w =
     ap (λ (t : Bool). t && eqb (end_of b at n) count)
-    (every-same n (kept_stands b at count (start_in a) (marked_in m)) (kept_stands b at count (start b trees count) (λ v. among v ids))
+    (every-same n (kept_stands b at count (start_in a) (marked_in m)) (kept_stands b at count (start b trees count) (λ v. member v ids))
     (λ k l. one (definition_entry b at k).node (definition_entry b at k).id (end_of b at k)))
   where
     one : (node id end : ℕ)
-        → (ltb node count && (eqb (get_or a node 0) end && marked_in m id)) ≡ (ltb node count && (eqb (start b trees count node) end && among id ids))
+        → (ltb node count && (eqb (get_or a node 0) end && marked_in m id)) ≡ (ltb node count && (eqb (start b trees count node) end && member id ids))
     one node id end = go (ltb node count) refl
       where
         go : (t : Bool) → ltb node count ≡ t
-            → (t && (eqb (get_or a node 0) end && marked_in m id)) ≡ (t && (eqb (start b trees count node) end && among id ids))
+            → (t && (eqb (get_or a node 0) end && marked_in m id)) ≡ (t && (eqb (start b trees count node) end && member id ids))
         go true e = ap₂ (λ (x : ℕ) (y : Bool). eqb x end && y) (s.starts node (ltb-true node count e)) (w.marks id)
         go false e = refl

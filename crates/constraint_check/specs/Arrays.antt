@@ -9,7 +9,7 @@ use Rattle.records.specs.Kinds.{NODE-WORDS}
 use Rattle.constraint.specs.declared.reading.Layout.{Layout}
 use Rattle.constraint.specs.Record.{EQUALITY-WORDS, KEPT-WORDS}
 use Rattle.constraint.specs.Reading.{HEADER}
-use Rattle.constraint_check.specs.Record.{among}
+use Rattle.constraint.specs.Numbers.{member}
 use Rattle.constraint_check.specs.Tests.{start, start_for, follows}
 
 -- each list ends within the bytes, and there are no more nodes than a record may have
@@ -48,4 +48,4 @@ marked_in a v = ltb v IDS && get_or a v false
 -- just the ids of a list are marked
 pub record Marked (a : List Bool) (ids : List ℕ) : Type 0 where
   pub long : length a ≡ IDS
-  pub marks : (v : ℕ) → marked_in a v ≡ among v ids
+  pub marks : (v : ℕ) → marked_in a v ≡ member v ids

@@ -1,6 +1,6 @@
 -- What a constraint record is: its module, or 42. `b` is the list of its bytes. A record is accepted where the module that it says is legal and its bytes are
 -- that module's own, so that records and modules are one to one. What is accepted, and that every legal module's record is: Statements.antt.
-use Rattle.std.specs.Prelude.{Bool, true, false, ◌&&◌, ◌||◌, List, [], ◌∷◌, ℕ, eqb, leb, ltb, length, Result, Ok, Err}
+use Rattle.std.specs.Prelude.{Bool, true, false, ◌&&◌, List, [], ◌∷◌, ℕ, ◌<◌, eqb, leb, ltb, length, get_or, replicate, Result, Ok, Err}
 use Rattle.field.specs.declared.InfixOp.{InfixOp}
 use Rattle.flat.specs.Trees.{Definition, every_id, definitions_nodes}
 use Rattle.flat.specs.Record.{pick}
@@ -8,6 +8,7 @@ use Rattle.records.specs.declared.refusals.Refusal.{Refusal}
 use Rattle.records.specs.FlatRecord.{IDS, LISTED, NODES, PUBLICS}
 use Rattle.constraint.specs.declared.Term.{Term}
 use Rattle.constraint.specs.Trees.{Side, Equality, ConstraintModule}
+use Rattle.constraint.specs.Numbers.{member}
 use Rattle.constraint.specs.Record.{constraint_bytes}
 use Rattle.constraint.specs.Reading.{constraint_of}
 
@@ -18,19 +19,27 @@ PROVERS = 8192
 abbrev pub EQUALITIES : ℕ
 EQUALITIES = 16384
 
-unfoldable pub every : {A : Type 0} → (A → Bool) → List A → Bool
-every p [] = true
-every p (a ∷ rest) = p a && every p rest
+-- the longest record that is accepted: a header, 64 publics, 8,192 prover ids, 16,384 equalities, 4,096 kept definitions, 16,384 nodes
+abbrev pub RECORD-BYTES : ℕ
+RECORD-BYTES = 868632
 
-unfoldable pub among : ℕ → List ℕ → Bool
-among v [] = false
-among v (w ∷ ws) = eqb v w || among v ws
+-- so many zeros
+unfoldable pub record_buffer : List ℕ
+record_buffer = replicate RECORD-BYTES 0
+
+-- the numbers of a list are bytes
+abbrev pub Bytes : List ℕ → Type 0
+Bytes b = (k : ℕ) → get_or b k 0 < 256
+
+unfoldable pub every_of : {A : Type 0} → (A → Bool) → List A → Bool
+every_of p [] = true
+every_of p (a ∷ rest) = p a && every_of p rest
 
 -- each is below the next one
-unfoldable pub rising : List ℕ → Bool
-rising [] = true
-rising (v ∷ []) = true
-rising (v ∷ (w ∷ ws)) = ltb v w && rising (w ∷ ws)
+unfoldable pub rising_ids : List ℕ → Bool
+rising_ids [] = true
+rising_ids (v ∷ []) = true
+rising_ids (v ∷ (w ∷ ws)) = ltb v w && rising_ids (w ∷ ws)
 
 -- the operations of equalities: "operation (5 and 6 too)" is a fault
 unfoldable pub is_operation : InfixOp → Bool
@@ -60,7 +69,7 @@ module _ (next : ℕ) where
 
 -- "a kept id that is no prover id" is a fault
 unfoldable pub kept_fits : ℕ → List ℕ → Definition → Bool
-kept_fits next provers d = among d.id provers && every_id (λ v. ltb v next) d.right
+kept_fits next provers d = member d.id provers && every_id (λ v. ltb v next) d.right
 
 -- "Its limits are a flat record's", but for the two
 unfoldable pub within_limits : ConstraintModule → Bool
@@ -75,20 +84,20 @@ within_limits m =
 -- ids, prover order, operations
 unfoldable pub well_formed : ConstraintModule → Bool
 well_formed m =
-    every (λ v. ltb v m.next) m.publics
-    && (every (λ v. ltb v m.next) m.provers
-    && (rising m.provers
-    && (every (equality_fits m.next) m.equalities
-    && every (kept_fits m.next m.provers) m.kept)))
+    every_of (λ v. ltb v m.next) m.publics
+    && (every_of (λ v. ltb v m.next) m.provers
+    && (rising_ids m.provers
+    && (every_of (equality_fits m.next) m.equalities
+    && every_of (kept_fits m.next m.provers) m.kept)))
 
 unfoldable pub legal : ConstraintModule → Bool
 legal m = within_limits m && well_formed m
 
-unfoldable pub same : List ℕ → List ℕ → Bool
-same [] [] = true
-same [] (y ∷ ys) = false
-same (x ∷ xs) [] = false
-same (x ∷ xs) (y ∷ ys) = eqb x y && same xs ys
+unfoldable pub same_bytes : List ℕ → List ℕ → Bool
+same_bytes [] [] = true
+same_bytes [] (y ∷ ys) = false
+same_bytes (x ∷ xs) [] = false
+same_bytes (x ∷ xs) (y ∷ ys) = eqb x y && same_bytes xs ys
 
 pub data Read : Type 0 where
   module-of : ConstraintModule → Read
@@ -96,7 +105,9 @@ pub data Read : Type 0 where
 
 unfoldable pub constraint_read : List ℕ → Read
 constraint_read b =
-    pick (legal (constraint_of b) && same b (constraint_bytes (constraint_of b))) (Read.module-of (constraint_of b)) (Read.refused Refusal.ConstraintRecord)
+    pick (legal (constraint_of b) && same_bytes b (constraint_bytes (constraint_of b)))
+    (Read.module-of (constraint_of b))
+    (Read.refused Refusal.ConstraintRecord)
 
 -- the code's answer for it
 unfoldable pub checked : Read → Result (Unit {0}) Refusal

@@ -13,7 +13,8 @@ use Rattle.constraint.specs.declared.reading.Layout.{Layout}
 use Rattle.constraint.specs.Record.{COPY, EQUALITY-WORDS, NEGATE}
 use Rattle.constraint.specs.Reading.{HEADER, layout_of, next, provers, equalities, kept, nodes}
 use Rattle.constraint.specs.Reading.{provers_offset, equalities_offset, kept_offset, nodes_offset, size}
-use Rattle.constraint_check.specs.Record.{PROVERS, EQUALITIES, among}
+use Rattle.constraint.specs.Numbers.{member}
+use Rattle.constraint_check.specs.Record.{PROVERS, EQUALITIES}
 
 -- the header's counts are within the limits
 unfoldable pub has_few : Layout → Bool
@@ -94,7 +95,7 @@ abbrev pub prover_ids : List ℕ → List ℕ
 prover_ids b = rows (provers b) 0 (prover_at b (provers_offset b))
 
 abbrev pub is_prover : List ℕ → ℕ → Bool
-is_prover b v = among v (prover_ids b)
+is_prover b v = member v (prover_ids b)
 
 unfoldable pub trees_stand : List ℕ → Bool
 trees_stand b =

@@ -4,18 +4,14 @@ ghost use Rattle.constraint.specs.Record.{EQUALITY-WORDS, TERM-WORDS};
 ghost use Rattle.constraint_check.specs.Tests.{term_fits, operation_fits, second_fits, words_fit, equalities_fit};
 
 use super::measured::Measured;
-use constraint::EQUALITY_WORDS;
+use constraint::{COPY, EQUALITY_WORDS, NEGATE};
 use field::InfixOp;
 use records::operators::EXPONENTIATE;
 use words::{count, word_at};
 
-// The operations that are no operators, and `=`, which with `^` no equality has.
+// With `^` the operation that no equality has.
 // Kept as it is: an operation is tested by its number, as the definition says it, since `Operation::from` reads every number as one.
 const EQUAL: u32 = InfixOp::Equal as u32;
-
-const NEGATE: u32 = 9;
-
-const COPY: u32 = 10;
 
 // Whether the two words at word i are a term: 0 and an id below the limit, or 1 and a number.
 // Kept as it is: by the words, as the definition says it; `Term` is what they say where they fit.
@@ -24,9 +20,11 @@ fn term_fits(s: &[u8], i: usize, limit: usize) -> bool
     requires { 4 * (i + TERM-WORDS) ≤ length s.now }
     ensures { result ≡ term_fits s.now i limit }
 {
-    match word_at(s, i) {
-        0 => count(s, i + 1) < limit,
-        tag => tag == 1,
+    let tag = word_at(s, i);
+    if tag == 0 {
+        count(s, i + 1) < limit
+    } else {
+        tag == 1
     }
 }
 

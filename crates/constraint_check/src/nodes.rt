@@ -18,7 +18,7 @@ fn placed(starts: &[usize; NODES], k: usize, node: Node) -> Option<usize>
     ensures { result ≡ placed (start_in starts.now) k node }
 {
     match node {
-        Node::Infix(_, x, y) if y + 1 == k && x + 1 == starts[y] => Some(starts[x]),
+        Node::Infix(_, x, y) if y + 1 == k && starts[y] == x + 1 => Some(starts[x]),
         Node::Negate(x) if x + 1 == k => Some(starts[x]),
         Node::Constant(_) | Node::Variable(_) => Some(k),
         _ => None,

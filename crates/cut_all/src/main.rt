@@ -7,15 +7,17 @@
 ghost use Rattle.std.specs.Prelude.{◌≡◌, ◌*◌, ◌≤◌, length, IfOk};
 
 use answer_record::lent_bytes;
+use arrayvec::ArrayString;
 use constraint_text::print_refused;
+use named_files::write_named;
 use records::refusals::Refusal;
 use share_entry::cut_all;
-use share_trees::{Lengths, MOST};
+use share_trees::{MOST, PartLengths};
+use std::io;
 use std::io::Write;
 use std::rt::{Env, Files};
-use std::{fs, io, str};
 use streams::{
-    Failed, close_output, file_name, has_argument, open_named, read_opened, say_failed, say_usage,
+    Failed, close_output, file_name, has_argument, open_argument, read_opened, say_usage,
     write_output,
 };
 
@@ -74,8 +76,7 @@ fn read_file<R: Env + Files + Input + Eprint>(
     requires { k ≤ MOST }
     ensures { IfOk result (λ n. n ≤ length buf.old) }
 {
-    let mut room = [0u8; NAME];
-    let opened = open_named(rt, argument(rt, k, &mut room)?, USAGE)?;
+    let opened = open_argument(rt, k + FILES_AT, USAGE)?;
     read_opened(rt, opened, buf)
 }
 
@@ -84,7 +85,7 @@ fn read_files<R: Env + Files + Input + Eprint>(
     rt: &R,
     n: usize,
     records: &mut [u8; RECORDS],
-    lengths: &mut [Lengths; TOO_MANY],
+    lengths: &mut [PartLengths; TOO_MANY],
 ) -> Result<usize, Failed>
     requires { n ≤ MOST }
     ensures { IfOk result (λ at. at ≤ RECORDS) }
@@ -114,13 +115,12 @@ fn say_answer<W: Write>(
 }
 
 // The bytes as the whole of the file of that name with ".cut" behind it.
-fn write_result(rt: &(impl Files + Eprint), name: &str, bytes: &[u8]) -> Result<(), Failed> {
-    let mut room = [0u8; LINE];
-    let mut rest = &mut room[..];
-    let _ = write!(rest, "{name}.cut");
-    let n = LINE.saturating_sub(rest.len());
-    let name = str::from_utf8(&room[..n]).map_err(|_| Failed)?;
-    fs::write(rt, name, bytes).map_err(|error| say_failed(rt, name, error))
+fn write_result(rt: &(impl Files + Eprint), name: &str, bytes: &[u8]) -> Result<usize, Failed> {
+    let mut result = ArrayString::<LINE>::new();
+    if result.try_push_str(name).is_err() || result.try_push_str(".cut").is_err() {
+        return Err(say_usage(rt, USAGE));
+    }
+    write_named(rt, result.as_str(), bytes)
 }
 
 // The answer of file k, whose output this is.
@@ -138,7 +138,7 @@ fn give<R: Env + Files + Eprint, W: Write>(
     match answer {
         Err(refusal) => say_answer(rt, to, name, "refused", u64::from(refusal.number())),
         Ok(size) => {
-            let bytes = out.get(..size).ok_or(Failed)?;
+            let bytes = out.get(..size).ok_or_else(|| say_usage(rt, USAGE))?;
             write_result(rt, name, bytes)?;
             say_answer(rt, to, name, "written", size as u64)
         }
@@ -173,7 +173,7 @@ fn run<R: Env + Files + Input + Print + Eprint>(
     requires { (n ≤ TOO_MANY) × ((room ≤ OUTPUT_BYTES) × (length out.old ≡ MOST * room)) }
 {
     let mut records = records_buffer();
-    let mut lengths = [Lengths {
+    let mut lengths = [PartLengths {
         record: 0,
         output: room,
     }; TOO_MANY];
@@ -204,7 +204,8 @@ fn files(rt: &impl Env) -> usize
     n
 }
 
-// Both numbers of the arguments; none, where one is missing or no number.
+// Both numbers of the arguments; none, where one is missing or no number. A T above MANY counts as that: eight records of 65,536 bytes
+// cannot need so much.
 fn numbers(rt: &impl Env) -> Option<(usize, usize)> {
     if !has_argument(rt, 2) {
         return None;

@@ -3,8 +3,9 @@
 #![tactic(auto)]
 
 use answer_record::print_answer;
+use constraint_check::{RECORD_BYTES, record_buffer};
 use named_files::{only_name, read_named};
-use renumber_entry::{RECORD_BYTES, TABLE_BYTES, expand};
+use renumber_entry::{TABLE_BYTES, expand};
 use std::io;
 use std::rt::{Env, Files};
 use streams::{Failed, read_standard};
@@ -19,16 +20,12 @@ fn input_buffer() -> [u8; INPUT_BYTES] {
     [0u8; INPUT_BYTES]
 }
 
-fn output_buffer() -> [u8; RECORD_BYTES] {
-    [0u8; RECORD_BYTES]
-}
-
 fn table_buffer() -> [u8; TABLE_INPUT] {
     [0u8; TABLE_INPUT]
 }
 
 fn expand_record(rt: &(impl Print + Eprint), record: &[u8], table: &[u8]) -> Result<usize, Failed> {
-    let mut out = output_buffer();
+    let mut out = record_buffer();
     let answer = expand(record, table, &mut out);
     print_answer(rt, &mut io::writer(rt), answer, &out)
 }

@@ -1,4 +1,4 @@
--- Demand 3, about the bytes. Assumes nothing.
+-- The theorem of agreement, about the bytes. Assumes nothing.
 use mathlib.Core.Path.{◌≡◌, refl, sym, ap, subst, ◌∙◌}
 use mathlib.Core.Bool.{Bool, true, false}
 use mathlib.Core.List.{List}

@@ -1,5 +1,5 @@
--- Demand 3, about the bytes: a plain source record and the constraint record that `flatten` writes for it say the same. Then what can be read back of any
--- record, and what the programs rely on. Proved in proofs/ (Agreement, Long, Longest).
+-- The theorem of agreement, about the bytes: a plain source record and the constraint record that `flatten` writes for it say the same. Then what can be
+-- read back of any record, and what the programs rely on. Proved in proofs/ (Agreement, Long, Longest).
 use Rattle.std.specs.Prelude.{◌≡◌, true, List, ℕ, ◌≤◌, ◌<◌, ℤ, length, take, Ok}
 use Rattle.field.specs.Prime.{P}
 use Rattle.field.specs.Element.{elem}

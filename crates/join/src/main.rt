@@ -12,10 +12,10 @@ use std::io;
 use std::rt::{Env, Files};
 use streams::{Failed, has_argument, open_argument, read_opened};
 
-// One byte more than the longest record has: a longer input is refused FlatLength, as its first bytes are.
+// One byte more than the longest record has: a longer input is refused FlatLength, as its first bytes are (`join-front` of crate join_trees).
 const RECORD_BYTES: usize = BYTES + 1;
 
-// One pair more than there are ids: where a pair is left, one is used before or out of range, and what follows changes nothing.
+// One pair more than there are ids: where so many stand, one is used before or out of range, and what follows changes nothing (there too).
 const PAIRS_BYTES: usize = PAIR_BYTES * (ID_COUNT + 1);
 
 // Where the files stand among the arguments, the first of which is the program's own name; and how many these are.

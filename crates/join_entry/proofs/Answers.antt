@@ -18,10 +18,11 @@ use Rattle.flat.proofs.Reading.{checked-accepted, checked_refused}
 use Rattle.pass_classify.proofs.Laid.{next-laid}
 use Rattle.pass_trees.specs.Passes.{counted, cuttable_defs, cuttable_equations}
 use Rattle.records.specs.declared.refusals.Refusal.{Refusal}
-use Rattle.join_trees.specs.Pairs.{pairs_of, whole, fit, none_defined, provers_alike}
+use Rattle.join_trees.specs.Pairs.{pairs_of, whole, fit}
 use Rattle.join_trees.specs.Joined.{renamed}
 use Rattle.join_trees.specs.Record.{joined_words, joined_bytes}
-use Rattle.join_trees.specs.Join.{Joining, unless, lent_read, lent_of, result_of, join_modules, join_read, join_of}
+use Rattle.join_trees.specs.Join.{Joining, lent_read, lent_of, result_of, join_modules, join_of}
+use Rattle.join_trees.proofs.Order.{both-accepted}
 use Rattle.join_trees.proofs.Parts.{header, record-long}
 use Rattle.join_write.specs.Written.{joined_header, fit_of, written_of}
 use Rattle.join_write.proofs.Whole.{words-fit}
@@ -57,26 +58,6 @@ module-next b e = next-laid b e
 pub pairs-test : (f g : FlatModule) (b : List ℕ) {n m : ℕ} → n ≡ f.next → m ≡ g.next → (t : Bool) → (whole b && fit n m (pairs_of b)) ≡ t
     → (whole b && fit f.next g.next (pairs_of b)) ≡ t
 pairs-test f g b e h t k = ap₂ (λ (x y : ℕ). whole b && fit x y (pairs_of b)) (sym e) (sym h) ∙ k
-
-module _ (f g : FlatModule) (a b pairs : List ℕ) where
-  pub pairs-44 : (whole pairs && fit f.next g.next (pairs_of pairs)) ≡ false → join_modules f g a b pairs ≡ Err Refusal.Pair
-  unfolding join_modules unless
-  pairs-44 e = rw e
-
-  module _ (e : (whole pairs && fit f.next g.next (pairs_of pairs)) ≡ true) where
-    pub pairs-45 : none_defined g.definitions (pairs_of pairs) ≡ false → join_modules f g a b pairs ≡ Err Refusal.SharedDefinition
-    unfolding join_modules unless
-    pairs-45 h = rw (e, h)
-
-    pub pairs-46 : none_defined g.definitions (pairs_of pairs) ≡ true → provers_alike f.provers g.provers (pairs_of pairs) ≡ false
-        → join_modules f g a b pairs ≡ Err Refusal.SharedProver
-    unfolding join_modules unless
-    pairs-46 h k = rw (e, h, k)
-
-    pub pairs-pass : none_defined g.definitions (pairs_of pairs) ≡ true → provers_alike f.provers g.provers (pairs_of pairs) ≡ true
-        → join_modules f g a b pairs ≡ finished (joined_bytes a b (pairs_of pairs))
-    unfolding join_modules unless finished
-    pairs-pass h k = rw (e, h, k)
 
 -- ---- the output
 
@@ -188,19 +169,6 @@ unfolding joined_bytes module_of
 joining-is a b pairs r e = ap (λ (s : ℕ → ℕ). finished (bytes_of (joined_words a b s))) e
 
 -- ---- the records
-
-pub first-refused : (a b pairs : List ℕ) (r : Refusal) → lent_of a ≡ Read.refused r → join_of a b pairs ≡ Err r
-unfolding join_of join_read
-first-refused a b pairs r e = ap (λ (q : Read). join_read q (lent_of b) a b pairs) e
-
-pub second-refused : (a b pairs : List ℕ) (f : FlatModule) (r : Refusal) → lent_of a ≡ Read.module-of f → lent_of b ≡ Read.refused r → join_of a b pairs ≡ Err r
-unfolding join_of join_read
-second-refused a b pairs f r e h = ap₂ (λ (p q : Read). join_read p q a b pairs) e h
-
-pub both-accepted : (a b pairs : List ℕ) (f g : FlatModule) → lent_of a ≡ Read.module-of f → lent_of b ≡ Read.module-of g
-    → join_of a b pairs ≡ join_modules f g a b pairs
-unfolding join_of join_read
-both-accepted a b pairs f g e h = ap₂ (λ (p q : Read). join_read p q a b pairs) e h
 
 -- two accepted records, which were read as they are
 pub accepted-as : (a b pairs x y : List ℕ) {q : Joining} → x ≡ a → y ≡ b → lent_of a ≡ Read.module-of (module_of a) → lent_of b ≡ Read.module-of (module_of b)

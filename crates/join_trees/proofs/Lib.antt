@@ -5,6 +5,7 @@ pub mod Wellformed
 pub mod Empty
 pub mod Working
 pub mod Meaning
+pub mod Counted
 pub mod Solutions
 pub mod Lent
 pub mod Entries
@@ -12,3 +13,6 @@ pub mod Parts
 pub mod Bytes
 pub mod Counting
 pub mod Limits
+pub mod Order
+pub mod Front
+pub mod EmptyRecord

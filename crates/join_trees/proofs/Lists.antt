@@ -25,6 +25,13 @@ module _ (r : ℕ → ℕ) where
   every-renamed Q (Flat.constant c) h = tt
   every-renamed Q (Flat.variable v) h = h
 
+  pub renamed-every : (Q : ℕ → Type 0) (e : Flat) → Every Q (renamed_tree r e) → Every (λ v. Q (r v)) e
+  unfolding renamed_tree
+  renamed-every Q (Flat.infixed o a b) h = (renamed-every Q a h.0, renamed-every Q b h.1)
+  renamed-every Q (Flat.negate a) h = renamed-every Q a h
+  renamed-every Q (Flat.constant c) h = tt
+  renamed-every Q (Flat.variable v) h = h
+
   pub all_ids : (Q : ℕ → Type 0) (vs : List ℕ) → All (λ v. Q (r v)) vs → All Q (renamed_ids r vs)
   unfolding renamed_ids
   all_ids Q [] h = tt

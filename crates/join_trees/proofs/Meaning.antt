@@ -23,7 +23,7 @@ use Rattle.join_trees.proofs.Working.{behind, worked-append, turns-append, defin
 
 -- two lists of equations, the second with new ids
 module _ (f g : FlatModule) (ps : List Pair) where
-  equations-split : (Q : Equation → Type 0) → All Q (joined f g ps).equations
+  pub equations-split : (Q : Equation → Type 0) → All Q (joined f g ps).equations
       → All Q f.equations × All Q (renamed_equations (renamed ps f.next) g.equations)
   unfolding joined
   equations-split Q h = all_split Q f.equations (renamed_equations (renamed ps f.next) g.equations) h

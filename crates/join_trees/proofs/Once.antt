@@ -5,6 +5,7 @@ use mathlib.Core.List.{List, [], ◌∷◌, ◌++◌}
 use mathlib.Core.Bool.{Bool, true, false, not, ◌&&◌, ◌||◌}
 use mathlib.Core.Logic.{◌⊎◌, inl, inr, ⊎_elim}
 use native.Mathlib.Omega.{arith}
+use lib.ListN.{length}
 use borrow.Author.Tests.{eq-eqb, ne_eqb}
 use Rattle.flat.specs.Meaning.{update}
 use Rattle.flat.specs.Rules.{All, Rising}
@@ -43,6 +44,15 @@ once-all Q s (v ∷ vs) h =
     ⊎_elim
     (λ (e : s v ≡ true). rw (once-seen s v vs e) (once-all Q s vs h.1))
     (λ (e : s v ≡ false). rw (once-new s v vs e) (h.0, once-all Q (update s v true) vs h.1))
+    (which (s v))
+
+-- no more stay than there are
+pub once-length : (s : ℕ → Bool) (vs : List ℕ) → length (once_after s vs) ≤ length vs
+unfolding once_after
+once-length s [] = omega arith
+once-length s (v ∷ vs) = ⊎_elim
+    (λ (e : s v ≡ true). rw (once-seen s v vs e) (omega (arith, once-length s vs)))
+    (λ (e : s v ≡ false). rw (once-new s v vs e) (omega (arith, once-length (update s v true) vs)))
     (which (s v))
 
 -- the ids that have been seen behind a list

@@ -1,20 +1,16 @@
 -- The constraint records of two records and of the joined one: by the theorem of `cut`. Assumes nothing.
 use Prim.Native.Nat.{ℕ}
-use mathlib.Core.Path.{◌≡◌, refl, sym, ap, ◌∙◌}
-use mathlib.Core.List.{List, [], ◌∷◌}
+use mathlib.Core.Path.{◌≡◌, ap}
 use mathlib.Core.Bool.{Bool, true, false, not}
 use mathlib.Core.Logic.{⊎_elim}
-use lib.Dec.{eqb}
-use borrow.Author.Tests.{ne_eqb}
 use Rattle.flat.specs.Trees.{Definition, FlatModule, defines}
 use Rattle.flat.specs.Rules.{All, WellFormed}
 use Rattle.flat.specs.Meaning.{Assignment, Elements, DefinitionHolds}
-use Rattle.join_trees.proofs.Lists.{not-both}
 use Rattle.constraint.specs.Trees.{ConstraintModule}
-use Rattle.pass_trees.specs.Passes.{member, keep_if, those, classify_defs, counted, Outcome, cut_of}
+use Rattle.pass_trees.specs.Passes.{member, those, classify_defs, counted, Outcome, cut_of}
 use Rattle.pass_trees.specs.Meaning.{Given}
 use Rattle.pass_trees.specs.Statements.{KeepsMeaning, Closed}
-use Rattle.pass_trees.proofs.Lists.{all_map, all-those, every_map, defines-those, or-false}
+use Rattle.pass_trees.proofs.Lists.{all_map, all-those, every_map, defines-those}
 use Rattle.pass_trees.proofs.Classified.{all_both, those-back}
 use Rattle.pass_trees.proofs.Counted.{counted-least}
 use Rattle.pass_trees.proofs.Working.{worked-elements, worked-other}
@@ -23,20 +19,8 @@ use Rattle.join_trees.specs.Joined.{joined}
 use Rattle.join_trees.specs.Statements.{ruled, values, second_inputs, Valued, NoZeroValued, JoinKeepsSolutions}
 use Rattle.join_trees.proofs.Once.{which}
 use Rattle.join_trees.proofs.Wellformed.{joined-well-formed}
+use Rattle.join_trees.proofs.Counted.{failed-none, first-valued, second-valued}
 use Rattle.join_trees.proofs.Meaning.{join-keeps-meaning, worked-holds}
-
--- a test that an id fails leaves no definition of it
-failed-none : (t : ℕ → Bool) (ds : List Definition) (v : ℕ) → t v ≡ false → defines (those t ds) v ≡ false
-unfolding those keep_if defines
-failed-none t [] v e = refl
-failed-none t (d ∷ ds) v e = go (t d.id) refl (failed-none t ds v e)
-  where
-    other : (b : Bool) → t d.id ≡ b → b ≡ true → v ≡ d.id → ⊥
-    other b p q k = not-both (sym (ap t k) ∙ e) (p ∙ q)
-
-    go : (b : Bool) → t d.id ≡ b → defines (those t ds) v ≡ false → defines (keep_if b d (those t ds)) v ≡ false
-    go true p h = or-false (eqb v d.id) (defines (those t ds) v) (ne_eqb v d.id (other true p refl)) h
-    go false p h = h
 
 module _ (f : FlatModule) (w : WellFormed f) where
   -- an input keeps its value
@@ -78,11 +62,11 @@ no-zero-valued f w ρ z = counted-ruled f w (DefinitionHolds (values f ρ)) (wor
 
 pub join-keeps-solutions : JoinKeepsSolutions
 unfolding second_inputs
-join-keeps-solutions f g ps c d e j ec ed ee ρ el h hf hg =
+join-keeps-solutions f g ps c d e j ec ed ee ρ el h =
     let means = join-keeps-meaning f g ps j ρ in
     let both = cut-keeps-values (joined f g ps) (joined-well-formed f g ps j) c ec ρ el h in
-    let one = cut-keeps-values f j.first d ed ρ el hf in
-    let two = cut-keeps-values g j.second e ee (second_inputs f ps ρ) (λ v. worked-elements (ruled f) ρ el _) hg in
+    let one = cut-keeps-values f j.first d ed ρ el (first-valued j ρ h) in
+    let two = cut-keeps-values g j.second e ee (second_inputs f ps ρ) (λ v. worked-elements (ruled f) ρ el _) (second-valued j ρ h) in
     record {
       agrees = (
         (λ s. let k = means.fulfils.0 (both.agrees.1 s) in (one.agrees.0 k.0, two.agrees.0 k.1)),

@@ -1,5 +1,6 @@
 -- What is proved of joining, in proofs/: the statements.
-use Rattle.std.specs.Prelude.{ℕ, ◌≡◌, List, [], Bool, true, false, not, ◌&&◌, ◌↔◌, leb, length}
+use Rattle.std.specs.Prelude.{ℕ, ◌≡◌, ◌+◌, ◌*◌, List, [], Bool, true, false, not, ◌&&◌, ◌↔◌, leb, length, take, replicate, Ok}
+use Rattle.flat.specs.Layout.{BYTES}
 use Rattle.flat.specs.Trees.{Definition, FlatModule, defines, module_nodes}
 use Rattle.flat.specs.Record.{Read, pick, flat_of, module_of}
 use Rattle.flat.specs.Rules.{All, WellFormed}
@@ -10,11 +11,11 @@ use Rattle.pass_trees.specs.Passes.{member, those, counted, Outcome, fitting, pa
 use Rattle.pass_trees.specs.Meaning.{Given}
 use Rattle.records.specs.Refusals.{refusal_number}
 use Rattle.records.specs.declared.refusals.Refusal.{Refusal}
-use Rattle.records.specs.FlatRecord.{IDS, LISTED, NODES, PUBLICS}
-use Rattle.join_trees.specs.Pairs.{Pair, fit, none_defined, provers_alike}
+use Rattle.records.specs.FlatRecord.{HEADER, IDS, LISTED, NODES, PUBLICS}
+use Rattle.join_trees.specs.Pairs.{Pair, PAIR-BYTES, fit, none_defined, provers_alike}
 use Rattle.join_trees.specs.Joined.{renamed, once, joined}
 use Rattle.join_trees.specs.Record.{joined_bytes}
-use Rattle.join_trees.specs.Join.{lent_of}
+use Rattle.join_trees.specs.Join.{lent_of, join_of}
 
 -- A LENT RECORD IS TESTED AS `cut` TESTS IT: 20 and 21 by reading, then 22 before anything is cut; what follows can refuse 32 only
 unfoldable pub cut_lent : Read → Outcome
@@ -116,7 +117,8 @@ WorkedHolds =
     × ((σ : Assignment) → All (DefinitionHolds σ) (ruled f) → ((v : ℕ) → defines (ruled f) v ≡ false → σ v ≡ ρ v) → (v : ℕ) → σ v ≡ values f ρ v)
 
 -- THE CONSTRAINT RECORDS: the joined record's equalities have a solution with these inputs exactly if those of both have, and never a second one. Asked is
--- only that the counted definitions hold with the worked-out values; one that is not counted may have no value. Where no divisor is zero they hold
+-- only that its counted definitions hold with the worked-out values, and then so do those of both; one that is not counted may have no value. Where no
+-- divisor is zero they hold
 abbrev pub Valued : FlatModule → Assignment → Type 0
 Valued f ρ = All (DefinitionHolds (values f ρ)) (counted f)
 
@@ -141,8 +143,6 @@ JoinKeepsSolutions =
     (ρ : Assignment) →
     Elements ρ →
     Valued (joined f g ps) ρ →
-    Valued f ρ →
-    Valued g (second_inputs f ps ρ) →
     JoinSolves f g ps c d e ρ
 
 -- JOINING WITH THE EMPTY RECORD gives the first, its publics without repeats
@@ -154,3 +154,23 @@ publics_once f = record { next = f.next; publics = once f.publics; provers = f.p
 
 abbrev pub JoinEmpty : Type 0
 JoinEmpty = (f : FlatModule) → WellFormed f → joined f empty_module [] ≡ publics_once f
+
+-- and of records: a lent record joined with six words 0 is never refused, and the result is a lent record of that module
+abbrev pub empty_record : List ℕ
+empty_record = replicate (4 * HEADER) 0
+
+abbrev pub JoinEmptyRecord : Type 0
+JoinEmptyRecord =
+    (a : List ℕ) (f : FlatModule) →
+    lent_of a ≡ Read.module-of f →
+    (c : List ℕ) × (join_of a empty_record [] ≡ Ok c) × (lent_of c ≡ Read.module-of (publics_once f))
+
+-- A LONGER FILE ANSWERS AS ITS FRONT: one byte more than the longest record has, and one pair more than there are ids, are enough to read
+abbrev pub RECORD-BYTES : ℕ
+RECORD-BYTES = BYTES + 1
+
+abbrev pub PAIRS-BYTES : ℕ
+PAIRS-BYTES = PAIR-BYTES * (IDS + 1)
+
+abbrev pub JoinFront : Type 0
+JoinFront = (a b pairs : List ℕ) → join_of (take RECORD-BYTES a) (take RECORD-BYTES b) (take PAIRS-BYTES pairs) ≡ join_of a b pairs

@@ -16,7 +16,7 @@ use Rattle.pass_classify.specs.Arrays.{marked}
 use Rattle.pass_classify.proofs.Arrays.{marked-set}
 use Rattle.pass_classify.proofs.Lists.{rows_more, rows_none, rows_whole}
 use Rattle.join_trees.specs.Joined.{once_after, once}
-use Rattle.join_trees.proofs.Once.{which, once-seen, once-new, once-append, seen_after, seen-member}
+use Rattle.join_trees.proofs.Once.{which, once-seen, once-new, once-length, once-append, seen_after, seen-member}
 
 -- one id
 pub known_written : (m : List Bool) (x : ℕ) (out : List ℕ) (to : ℕ) → marked m x ≡ true
@@ -37,15 +37,6 @@ once-short s x = go (s x)
     go : (b : Bool) → length (cond b [] (x ∷ [])) ≤ 1
     go true = omega arith
     go false = omega arith
-
--- no more are written than there are
-pub once-length : (s : ℕ → Bool) (vs : List ℕ) → length (once_after s vs) ≤ length vs
-unfolding once_after
-once-length s [] = omega arith
-once-length s (v ∷ vs) = ⊎_elim
-    (λ (e : s v ≡ true). rw (once-seen s v vs e) (omega (arith, once-length s vs)))
-    (λ (e : s v ≡ false). rw (once-new s v vs e) (omega (arith, once-length (update s v true) vs)))
-    (which (s v))
 
 -- at id k of n, by f: the words of `now` from `end` on are left to write
 pub record Writing (f : ℕ → ℕ) (n k to end : ℕ) (seen₀ seen : List Bool) (before now : List ℕ) : Type 0 where

@@ -24,7 +24,7 @@ use Rattle.join_trees.specs.Joined.{renamed_ids, once}
 use Rattle.join_trees.specs.Record.{definitions_moved, equations_moved, nodes_moved, joined_publics, joined_provers, joined_words}
 use Rattle.join_trees.proofs.Parts.{length-definitions, length-equations, length-nodes}
 use Rattle.join_write.specs.Written.{joined_header, id_words, list_words, fit_of, written_of}
-use Rattle.join_write.proofs.OnceTurns.{once-length}
+use Rattle.join_trees.proofs.Once.{once-length}
 
 -- ---- the lists
 

@@ -2,38 +2,29 @@
 #![tactic(auto)]
 
 ghost use Rattle.std.specs.Prelude.{IfOk, ◌≢◌, get_or, length};
-ghost use Rattle.streams.specs.Streams.{Within, Whole};
+ghost use Rattle.streams.specs.Streams.{Within, Whole, HYPHEN};
 
 use arrayvec::ArrayString;
+use std::fs;
 use std::fs::OpenFile;
 use std::io::{ErrorKind, Write};
 use std::rt::{Env, Files};
-use std::{fs, str};
-use streams::{Failed, has_argument, read_input, say_failed, say_usage};
-
-// The room for a name.
-const NAME: usize = 4096;
+use streams::{Failed, NAME, file_name, has_argument, read_input, say_failed, say_usage};
 
 // The name of a file.
 pub type Name = ArrayString<NAME>;
 
-// A name in UTF-8. An option is answered by the line of usage.
+// An argument that is a name. An option is answered by the line of usage.
 fn name_of(rt: &impl Eprint, argument: &[u8], usage: &str) -> Result<Name, Failed>
-    ensures { IfOk result (λ name. get_or name.bytes 0 0 ≢ 45) }
+    ensures { IfOk result (λ name. get_or name.bytes 0 0 ≢ HYPHEN) }
 {
-    if argument.starts_with(b"-") {
-        return Err(say_usage(rt, usage));
-    }
-    let Ok(name) = str::from_utf8(argument) else {
-        let _ = eprintln!(rt; "the name of the file is not UTF-8");
-        return Err(Failed);
-    };
+    let name = file_name(rt, argument, usage)?;
     ArrayString::from(name).map_err(|_| say_usage(rt, usage))
 }
 
 // The name that the only argument gives. None, an option and further arguments are answered by the line of usage.
 pub fn only_name(rt: &(impl Env + Eprint), usage: &str) -> Result<Name, Failed>
-    ensures { IfOk result (λ name. get_or name.bytes 0 0 ≢ 45) }
+    ensures { IfOk result (λ name. get_or name.bytes 0 0 ≢ HYPHEN) }
 {
     let mut room = [0u8; NAME];
     match rt.arg(1, &mut room) {

@@ -12,7 +12,7 @@ use Rattle.flat.specs.Rules.{All, Every}
 use Rattle.constraint.specs.declared.Term.{Term}
 use Rattle.constraint.specs.Trees.{Side, Equality, at_place}
 use Rattle.constraint.specs.Meaning.{InTerm, InSide, InEquality}
-use Rattle.constraint_check.specs.Record.{every as every_of, is_operation, term_known, side_fits, equality_fits}
+use Rattle.constraint_check.specs.Record.{every_of, is_operation, term_known, side_fits, equality_fits}
 use Rattle.pass_trees.specs.Passes.{when, infix_op, Cut, push_constraint_def, copied}
 use Rattle.pass_trees.specs.Passes.{flatten_expr_to_3ac, Cuts, cuts_of, joined}
 use Rattle.pass_trees.specs.Passes.{all_at, placed}

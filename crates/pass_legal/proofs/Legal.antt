@@ -14,7 +14,7 @@ use Rattle.flat.specs.Rules.{All, Every, Rising, Recordable}
 use Rattle.constraint.specs.declared.Term.{Term}
 use Rattle.constraint.specs.Trees.{ConstraintModule}
 use Rattle.constraint.specs.Meaning.{InTerm}
-use Rattle.constraint_check.specs.Record.{every as every_of, among, rising as rising_of, equality_fits, kept_fits, within_limits, well_formed, legal}
+use Rattle.constraint_check.specs.Record.{every_of, rising_ids, equality_fits, kept_fits, within_limits, well_formed, legal}
 use Rattle.constraint_check.proofs.Lists.{every-id}
 use Rattle.pass_trees.specs.Passes.{keep_if, member, those, ids_from, is_witness, is_never, usage, classify_defs, Substitutions, walk, to_expr, substituting}
 use Rattle.pass_trees.specs.Passes.{copy_propagate_expr, copy_propagate_def, after_def, copy_propagate_defs}
@@ -115,18 +115,13 @@ equations-cuttable n (e ∷ es) h k =
 
 -- ---- lists as tests
 
-member-among : (v : ℕ) (xs : List ℕ) → member v xs ≡ among v xs
-unfolding member among
-member-among v [] = refl
-member-among v (x ∷ xs) = ap (λ (t : Bool). eqb v x || t) (member-among v xs)
-
 all-every : {A : Type 0} (t : A → Bool) (xs : List A) → All (λ a. t a ≡ true) xs → every_of t xs ≡ true
 unfolding every_of
 all-every t [] h = refl
 all-every t (x ∷ xs) h = rw h.0 (all-every t xs h.1)
 
-rising-test : (xs : List ℕ) → Rising xs → rising_of xs ≡ true
-unfolding rising_of
+rising-test : (xs : List ℕ) → Rising xs → rising_ids xs ≡ true
+unfolding rising_ids
 rising-test [] h = refl
 rising-test (x ∷ []) h = refl
 rising-test (x ∷ y ∷ xs) h = rw (lt-ltb x y h.0.0) (rising-test (y ∷ xs) h.1)
@@ -155,8 +150,7 @@ kept-fit n m l ps ds h =
     both-all : (es : List Definition) → All (λ d. member d.id ps ≡ true) es → All (Sound n ps) es → All (λ d. kept_fits m ps d ≡ true) es
     both-all [] p q = tt
     both-all (d ∷ es) p q = (
-      (let known : among d.id ps ≡ true = sym (member-among d.id ps) ∙ p.0 in
-          rw (known, every-id m d.right (every_map (λ v (k : v < n). le_trans k l) d.right q.0.right-low))),
+      rw (p.0, every-id m d.right (every_map (λ v (k : v < n). le_trans k l) d.right q.0.right-low)),
       both-all es p.1 q.1,
     )
 
@@ -260,7 +254,7 @@ module _ (f : FlatModule) (r : Recordable f) (few : length f.publics ≤ 64) (c 
   unfolding passes flatten_module_to_3ac eliminate_dead_equalities copy_propagate classify_defs ps
   provers-low = low
 
-  provers-rise : rising_of (passes f).provers ≡ true
+  provers-rise : rising_ids (passes f).provers ≡ true
   unfolding passes flatten_module_to_3ac eliminate_dead_equalities copy_propagate classify_defs
   provers-rise = rising-test _ (ids-rise _ 0 f.next)
 

@@ -1,24 +1,16 @@
 -- The four passes of transform.rs, in their order there, each a function that computes. One clause for each arm of the Rust's match, in its order.
-use Rattle.std.specs.Prelude.{ℕ, zero, suc, Bool, true, false, cond, not, ◌&&◌, ◌||◌, List, [], ◌∷◌, ◌++◌, length, ℤ, pos, negsuc, ◌==◌, nat_le}
+use Rattle.std.specs.Prelude.{ℕ, zero, suc, Bool, true, false, cond, not, ◌&&◌, ◌||◌, List, [], ◌∷◌, ◌++◌, length, pos, ◌==◌, nat_le}
 use Rattle.std.proofs.Math.Option.{Option, none, some}
 use Rattle.field.specs.declared.InfixOp.{InfixOp}
 use Rattle.flat.specs.Trees.{Flat, Definition, Equation, FlatModule}
 use Rattle.flat.specs.Meaning.{update}
 use Rattle.constraint.specs.declared.Term.{Term}
+-- `member` is `prover_defs.contains`, `keep_if` is `retain`
+unfoldable pub use Rattle.constraint.specs.Numbers.{member, keep_if, ids_from, same_number}
 use Rattle.constraint.specs.Trees.{Side, Equality, ConstraintModule, at_place}
 use Rattle.records.specs.FlatRecord.{IDS}
 use Rattle.pass_trees.specs.declared.Usage.{Usage}
 use Rattle.pass_trees.specs.declared.Usage.TheVariants.{Never, Witness, Constraint}
-
--- `prover_defs.contains`
-unfoldable pub member : ℕ → List ℕ → Bool
-member v [] = false
-member v (w ∷ ws) = v == w || member v ws
-
--- `retain`: an item stays if it passes a test
-unfoldable pub keep_if {ℓ} : {A : Type ℓ} → Bool → A → List A → List A
-keep_if true a rest = a ∷ rest
-keep_if false a rest = rest
 
 -- the definitions whose id passes a test
 unfoldable pub those : (ℕ → Bool) → List Definition → List Definition
@@ -79,11 +71,6 @@ classified ps (d ∷ ds) f = classify_def ps d (classified ps ds f)
 -- the `classifier`
 unfoldable pub usage : FlatModule → ℕ → Usage
 usage f = classified f.provers f.definitions (used_in f.equations (λ _. Never))
-
--- the ids from v on, k of them, that pass a test
-unfoldable pub ids_from : (ℕ → Bool) → ℕ → ℕ → List ℕ
-ids_from t v zero = []
-ids_from t v (suc k) = keep_if (t v) v (ids_from t (suc v) k)
 
 -- "update prover_defs with our classification", prover ids ascending; "now eliminate those definitions that are never used"
 unfoldable pub classify_defs : FlatModule → FlatModule
@@ -167,12 +154,6 @@ copy_propagate f =
     k = length f.definitions
 
 -- eliminate_dead_equalities: "eliminate equalities that are obviously true from the constraint set"
-
-unfoldable pub same_number : ℤ → ℤ → Bool
-same_number (pos m) (pos n) = m == n
-same_number (pos m) (negsuc n) = false
-same_number (negsuc m) (pos n) = false
-same_number (negsuc m) (negsuc n) = m == n
 
 -- two equal constants, as they are written (`c1 == c2`), or one variable twice (`v1.id == v2.id`)
 unfoldable pub dead : Flat → Flat → Bool

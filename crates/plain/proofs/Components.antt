@@ -4,9 +4,10 @@ use mathlib.Core.Bool.{true, cond, ◌&&◌}
 use mathlib.Core.List.{List, [], ◌∷◌, ◌++◌}
 use Rattle.field.specs.Operations.{Answer}
 use Rattle.std.specs.Prelude.{None}
+use Rattle.std.specs.Option.{is_some}
 use Rattle.field.proofs.Answers.{nothing-value}
 use Rattle.flat.specs.Rules.{All}
-use Rattle.plain.specs.Values.{Val, is_answer, is_whole, number_of, halves, ends, is_nil, components}
+use Rattle.plain.specs.Values.{Val, is_whole, number_of, halves, ends, is_nil, components}
 use Rattle.plain.specs.Values
 use Rattle.plain.specs.Meaning.{Equal-sides}
 use Rattle.plain.specs.Statements.{ComponentsAreEquality}
@@ -23,12 +24,12 @@ Same v w = (v ≡ w) × (is_whole v ≡ true)
 
 -- what has its elements is not `none`
 not-none : {C : Type 0} (v : Val) → Same v Values.none → C
-unfolding is_whole is_answer
+unfolding is_whole
 not-none v h = absurd (false-true (sym (ap is_whole h.0) ∙ h.1))
 
 number-same : (a : Answer) (w : Val) → Equal-sides (a, number_of w) → Same (Val.number a) w
-unfolding is_whole is_answer
-number-same a w h = (ap Val.number h.1 ∙ sym (number-back w h.0 h.2), ap is_answer h.1)
+unfolding is_whole
+number-same a w h = (ap Val.number h.1 ∙ sym (number-back w h.0 h.2), ap is_some h.1)
 
 nil-same : (w : Val) → All Equal-sides (cond (is_nil w) [] ((None, None) ∷ [])) → Same Val.nil w
 unfolding is_nil is_whole

@@ -8,7 +8,7 @@ use Rattle.source.specs.Trees.{Expr, nil, product, cons, binary, negate, constan
 use Rattle.eval_trees.specs.Forms.{is_number, kind}
 use Rattle.eval_trees.specs.Simplify.{infix_op}
 use Rattle.eval_trees.proofs.Helpers.{infix-case}
-use Rattle.plain.specs.Values.{Val, is_answer, is_whole}
+use Rattle.plain.specs.Values.{Val, is_whole}
 use Rattle.plain.proofs.Values.{false-true, num}
 use Rattle.plain.proofs.Terms.{Term, of_constant, of_variable, of_negate}
 
@@ -20,7 +20,7 @@ pub data Fits : Val → Expr → Type 0 where
   f_cons : {v w : Val} {a b : Expr} → Fits v a → Fits w b → Fits (Val.cons v w) (cons a b)
 
 pub fits-whole : {v : Val} {e : Expr} → Fits v e → is_whole v ≡ true
-unfolding is_whole is_answer
+unfolding is_whole
 fits-whole (f_number h) = refl
 fits-whole f_nil = refl
 fits-whole (f_pair a b) = ap₂ ◌&&◌ (fits-whole a) (fits-whole b)

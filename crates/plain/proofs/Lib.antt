@@ -20,6 +20,7 @@ pub mod OnInputs
 pub mod Agreement
 pub mod Condition
 pub mod Components
+pub mod Refused
 pub mod PowerCounts
 pub mod WithoutPairs
 pub mod Example

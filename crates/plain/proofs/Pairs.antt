@@ -8,7 +8,7 @@ use lib.IntN.{ℤ, pos}
 use lib.Dec.{eqb}
 use Rattle.std.specs.Prelude.{Some, None}
 use Rattle.field.specs.declared.InfixOp.TheVariants.{Divide, Add, Subtract, Equal}
-use Rattle.source.specs.Trees.{as_p, product_p, cons_p, variable_p, Expr, nil, product, cons, binary, constant, variable, letting, Module}
+use Rattle.source.specs.Trees.{nil_p, as_p, product_p, cons_p, variable_p, Expr, nil, product, cons, binary, constant, variable, letting, Module}
 use Rattle.flat.specs.Trees.{Flat, FlatModule}
 use Rattle.numbering.specs.Numbering.{numbered}
 use Rattle.eval_trees.specs.Evaluation.{flat, refusal, evaluated}
@@ -245,7 +245,24 @@ divisor-counts n =
     let o : ◌≡◌ {A = ℕ} 0 1 = cc in
     omega arith
 
--- ---- what is refused has no meaning to compare; what the definition gives in three cases
+-- and in a list: def u : v = 1 / x : y; v = 3
+abbrev unused-head : Module
+unused-head = record {
+  names = (120 ∷ []) ∷ (121 ∷ []) ∷ (117 ∷ []) ∷ (118 ∷ []) ∷ [];
+  publics = [];
+  definitions = (cons_p (variable_p 2) (variable_p 3), cons (binary Divide (constant (pos 1)) (variable 0)) (variable 1)) ∷ [];
+  expressions = binary Equal (variable 3) (constant (pos 3)) ∷ [];
+}
+
+divisor-in-a-list-counts : NoDivisorZero unused-head (λ n. pos 0) → ⊥
+unfolding answer_of sides_under
+divisor-in-a-list-counts n =
+    let w = n.0.0.0.2 in
+    let none : None ≡ Some w.0 = w.1 in
+    let o : ◌≡◌ {A = ℕ} 0 1 = cc in
+    omega arith
+
+-- ---- what is refused has no meaning to compare; what the definition gives in five cases
 
 -- one rule, of the inputs x (name 0) and y (name 1)
 abbrev ruled : Expr → Expr → Module
@@ -270,6 +287,25 @@ sides-misfit-rules : sides_under (ruled (product (variable 0) nil) (product (var
     ≡ (Some (pos 4), Some (pos 4)) ∷ (None, None) ∷ []
 unfolding answer_of sides_under at
 sides-misfit-rules = refl
+
+-- lists of different ends: x : [] = x : y
+ends-misfit : evaluated 65535 (numbered (ruled (cons (variable 0) nil) (cons (variable 0) (variable 1)))) ≡ refusal 16
+unfolding answer_of
+ends-misfit = refl
+
+ends-misfit-rules : sides_under (ruled (cons (variable 0) nil) (cons (variable 0) (variable 1))) (at (pos 4) (pos 4))
+    ≡ (Some (pos 4), Some (pos 4)) ∷ (None, None) ∷ []
+unfolding answer_of sides_under at
+ends-misfit-rules = refl
+
+-- nil has no name to go without a value, so that this rule holds by the definition: (def [] = x; y) = y
+nil-misfit : evaluated 65535 (numbered (ruled (letting nil_p (variable 0) (variable 1)) (variable 1))) ≡ refusal 16
+unfolding answer_of
+nil-misfit = refl
+
+nil-misfit-rules : sides_under (ruled (letting nil_p (variable 0) (variable 1)) (variable 1)) (at (pos 4) (pos 4)) ≡ (Some (pos 4), Some (pos 4)) ∷ []
+unfolding answer_of sides_under at
+nil-misfit-rules = refl
 
 -- arithmetic on a pair: (x, y) + 1 = x
 on-a-pair : evaluated 65535 (numbered (ruled (binary Add (product (variable 0) (variable 1)) (constant (pos 1))) (variable 0))) ≡ refusal 18

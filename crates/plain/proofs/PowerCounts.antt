@@ -1,6 +1,6 @@
 -- In a plain module the base of a power stands for itself, unless it is a constant: its powers push as many definitions as `power_count` says.
-use mathlib.Core.Path.{◌≡◌, refl, sym}
-use mathlib.Core.Bool.{Bool, true, false, not, ◌&&◌}
+use mathlib.Core.Path.{◌≡◌, refl, sym, ap, ◌∙◌}
+use mathlib.Core.Bool.{Bool, false, ◌&&◌}
 use mathlib.Core.List.{List}
 use mathlib.Core.Logic.{inl}
 use Prim.Native.Nat.{ℕ, ◌≤◌}
@@ -12,13 +12,14 @@ use Rattle.field.specs.Element.{elem}
 use Rattle.field.specs.Counts.{power_count}
 use Rattle.source.specs.Trees.{Expr, constant}
 use Rattle.eval_trees.specs.Forms.{is_number, kind}
-use Rattle.eval_trees.specs.State.{State, gives, refuse_if}
-use Rattle.eval_trees.specs.Evaluation.{evaluate_infix, evaluate, evaluate_power, numbers}
+use Rattle.eval_trees.specs.State.{State, gives}
+use Rattle.eval_trees.specs.Evaluation.{evaluate_infix, evaluate}
 use Rattle.eval_trees.specs.Powers
 use Rattle.eval_trees.specs.Powers.{StandsForItself, NextFree, Pushes}
-use Rattle.eval_trees.proofs.Runs.{then-case, passed}
+use Rattle.eval_trees.proofs.Runs.{refused-gives}
 use Rattle.eval_trees.proofs.Powers.{power-pushes}
-use Rattle.plain.proofs.Values.{false-true}
+use Rattle.plain.specs.Plain.{is_arithmetic, is_equal}
+use Rattle.plain.proofs.Refused.{arithmetic-refused}
 use Rattle.plain.proofs.Terms.{NotConstant, Term, of_constant, of_variable, of_negate, Tree, of_term, of_nil, of_pair, of_cons, Scoped, Spans, spans-le}
 use Rattle.plain.proofs.States.{Open, Tidy, InScope, open-later, scope-later, tree-later}
 use Rattle.plain.proofs.Lets.{key}
@@ -26,16 +27,12 @@ use Rattle.plain.proofs.Lets.{key}
 constant-element : {F : ℕ → Type 0} {z : ℤ} → Tree F (constant z) → elem P z ≡ z
 constant-element (of_term (of_constant c)) = c
 
--- a base that is no number is refused
+-- a base that is no number is refused with 18
 no_number : (l n k : ℕ) (a : Expr) (s : State) → is_number a ≡ false → Pushes k (evaluate_infix (evaluate l) Exponentiate a (constant (pos n))) s
-unfolding evaluate_infix numbers
+unfolding is_arithmetic is_equal
 no_number l n k a s h v u e =
-    absurd (then-case (refuse_if (not (is_number a && is_number (constant (pos n)))) 18) (evaluate_power (evaluate l) a (constant (pos n))) s v u e
-    λ y w first second. refused-test (is_number a) h (passed (not (is_number a && is_number (constant (pos n)))) 18 s y w first).test)
-  where
-    refused-test : (c : Bool) → c ≡ false → not (c && is_number (constant (pos n))) ≡ false → ⊥
-    refused-test true q t = false-true (sym q)
-    refused-test false q t = false-true (sym t)
+    let r = arithmetic-refused (evaluate l) Exponentiate a (constant (pos n)) s refl (ap (λ (c : Bool). c && is_number (constant (pos n))) h) in
+    absurd (refused-gives 18 v u (sym r ∙ e))
 
 module _ (B : ℕ → Bool) (N : ℕ) (beyond : (x : ℕ) → N ≤ x → B x ≡ false) where
   term-stands : (s : State) {a : Expr} → Term (Open B N beyond s) a → NotConstant a → StandsForItself s a

@@ -26,7 +26,7 @@ use Rattle.eval_trees.specs.State.{State}
 use Rattle.eval_trees.specs.Simplify.{infix_op}
 use Rattle.eval_trees.proofs.Helpers.{infix-case}
 use Rattle.plain.specs.Plain.{is_arithmetic}
-use Rattle.plain.specs.Values.{Val, is_answer, is_whole, number_of}
+use Rattle.plain.specs.Values.{Val, is_whole, number_of}
 use Rattle.plain.specs.Meaning.{Table, value_of}
 use Rattle.plain.proofs.Values.{false-true, negated_back, values-back, element-path, num, table, number-of, negated-value}
 use Rattle.plain.proofs.Values.{Elemental, constant-elemental, variable-elemental, negate-elemental}
@@ -211,7 +211,7 @@ module _ {F : ℕ → Type 0} where
 
   -- every element of a tree is there
   pub tree-whole : {e : Expr} (σ : Assignment) → Tree F e → is_whole (value_of (table σ) e) ≡ true
-  unfolding value_of is_whole is_answer
+  unfolding value_of is_whole
   tree-whole σ (of_term a) = ap is_whole (term-number σ a).1
   tree-whole σ of_nil = refl
   tree-whole σ (of_pair a b) = ap₂ ◌&&◌ (tree-whole σ a) (tree-whole σ b)

@@ -25,7 +25,7 @@ use Rattle.flat.specs.Meaning.{update, Assignment, Elements, on_values, negated,
 use Rattle.eval_trees.specs.Forms.{on_constant, flat_of, joined, opposed}
 use Rattle.eval_trees.specs.Simplify.{is_pos, is_constant, infix_op}
 use Rattle.eval_trees.proofs.Helpers.{infix-case}
-use Rattle.plain.specs.Values.{Val, is_answer, is_whole, number_of}
+use Rattle.plain.specs.Values.{Val, is_whole, number_of}
 use Rattle.plain.specs.Values
 use Rattle.plain.specs.Meaning.{Table, through, value_of}
 
@@ -75,7 +75,7 @@ unfolding through
 through-whole v f h = ap (λ (c : Bool). cond c (f v) Values.none) h
 
 pub through-back : (v : Val) (f : Val → Val) → is_whole (through v f) ≡ true → (is_whole v ≡ true) × (is_whole (f v) ≡ true)
-unfolding through is_whole is_answer
+unfolding through is_whole
 through-back v f h = go (is_whole v) refl h
   where
     go : (c : Bool) → is_whole v ≡ c → is_whole (cond c (f v) Values.none) ≡ true → (is_whole v ≡ true) × (is_whole (f v) ≡ true)

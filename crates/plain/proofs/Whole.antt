@@ -4,18 +4,18 @@ use mathlib.Core.Bool.{true}
 use lib.IntN.{ℤ}
 use Rattle.field.specs.Operations.{Answer}
 use Rattle.std.specs.Prelude.{Some, None}
+use Rattle.std.specs.Option.{is_some}
 use Rattle.source.specs.Trees.{Expr, unit, nil, sequence, product, cons, binary, negate, application}
 use Rattle.source.specs.Trees.{constant, variable, function, intrinsic, letting, matching}
-use Rattle.plain.specs.Values.{Val, is_answer, is_whole, number_of}
+use Rattle.plain.specs.Values.{Val, is_whole, number_of}
 use Rattle.plain.specs.Meaning.{Table, write, value_of, NotZeroIn}
 use Rattle.plain.proofs.Values.{false-true, both_true, num, number-back, through-back, negated_back, values-back}
 
 pub number-whole : (v : Val) (z : ℤ) → v ≡ num z → is_whole v ≡ true
-unfolding is_whole is_answer
+unfolding is_whole
 number-whole v z e = ap is_whole e
 
-pub answer-whole : (a : Answer) → is_answer a ≡ true → (z : ℤ) × (a ≡ Some z)
-unfolding is_answer
+pub answer-whole : (a : Answer) → is_some a ≡ true → (z : ℤ) × (a ≡ Some z)
 answer-whole (Some z) h = (z, refl)
 answer-whole None h = absurd (false-true h)
 

@@ -19,7 +19,7 @@ use Rattle.flat.specs.Meaning.{update, on_values, negated}
 use Rattle.numbering.specs.Numbering.{Ids, registered}
 use Rattle.plain.specs.Plain.{is_arithmetic, is_plain_name, is_plain_pattern, is_plain_expr, is_equal, is_plain_equation}
 use Rattle.plain.specs.Plain.{are_plain_definitions, are_plain_equations, is_plain_body}
-use Rattle.plain.specs.Values.{Val, is_answer, is_whole, number_of, components}
+use Rattle.plain.specs.Values.{Val, is_whole, number_of, components}
 use Rattle.plain.specs.Meaning.{Equal-sides}
 use Rattle.plain.specs.Meaning
 use Rattle.plain.specs.WithoutPairs.{is_pattern, is_expr, is_equation, are_definitions, are_equations, is_body, Table, write, through, value_of, sides_of}
@@ -168,7 +168,7 @@ lifts-join T t x a h y = go (eqb y x)
 
 through-same : (a : Answer) (f : ℤ → Answer) (g : Val → Val) → ((z : ℤ) → g (num z) ≡ Val.number (f z))
     → Meaning.through (Val.number a) g ≡ Val.number (through a f)
-unfolding Meaning.through through is_whole is_answer
+unfolding Meaning.through through is_whole
 through-same None f g h = refl
 through-same (Some z) f g h = h z
 

@@ -1,5 +1,6 @@
 -- The values of a plain module: elements, nil, pairs and lists of values.
-use Rattle.std.specs.Prelude.{Bool, true, ◌&&◌, cond, List, [], ◌∷◌, ◌++◌, Some, None}
+use Rattle.std.specs.Prelude.{Bool, true, ◌&&◌, cond, List, [], ◌∷◌, ◌++◌, None}
+use Rattle.std.specs.Option.{is_some}
 use Rattle.std.proofs.Math.Bool.{false}
 use Rattle.field.specs.Operations.{Answer}
 
@@ -14,12 +15,8 @@ abbrev pub none : Val
 none = Val.number None
 
 -- every element in it is there
-unfoldable pub is_answer : Answer → Bool
-is_answer (Some z) = true
-is_answer None = false
-
 unfoldable pub is_whole : Val → Bool
-is_whole (Val.number a) = is_answer a
+is_whole (Val.number a) = is_some a
 is_whole Val.nil = true
 is_whole (Val.pair v w) = is_whole v && is_whole w
 is_whole (Val.cons v w) = is_whole v && is_whole w

@@ -3,8 +3,9 @@
 #![tactic(auto)]
 
 use answer_record::{print_record, print_refused};
+use constraint_check::{RECORD_BYTES, record_buffer};
 use named_files::{only_name, write_named};
-use renumber_entry::{RECORD_BYTES, TABLE_BYTES, renumber};
+use renumber_entry::{renumber, table_buffer};
 use std::io;
 use std::rt::{Env, Files};
 use streams::{Failed, read_standard};
@@ -15,14 +16,6 @@ const INPUT_BYTES: usize = RECORD_BYTES + 1;
 
 fn input_buffer() -> [u8; INPUT_BYTES] {
     [0u8; INPUT_BYTES]
-}
-
-fn output_buffer() -> [u8; RECORD_BYTES] {
-    [0u8; RECORD_BYTES]
-}
-
-fn table_buffer() -> [u8; TABLE_BYTES] {
-    [0u8; TABLE_BYTES]
 }
 
 // The table to its file, then the record to standard output.
@@ -41,7 +34,7 @@ fn renumber_record<R: Files + Print + Eprint>(
     name: &str,
     record: &[u8],
 ) -> Result<usize, Failed> {
-    let mut out = output_buffer();
+    let mut out = record_buffer();
     let mut table = table_buffer();
     match renumber(record, &mut out, &mut table) {
         Ok(lengths) => write_both(

@@ -21,7 +21,8 @@ use Rattle.constraint.specs.Record.{constraint_words, constraint_bytes}
 use Rattle.constraint.specs.Reading.{next, publics, provers, equalities, kept, nodes, size, layout_of, constraint_of}
 use Rattle.constraint.proofs.Lengths.{length-bytes}
 use Rattle.constraint.proofs.Written.{record-written}
-use Rattle.constraint_check.specs.Record.{among, Read, constraint_read, checked}
+use Rattle.constraint.specs.Numbers.{member}
+use Rattle.constraint_check.specs.Record.{Read, constraint_read, checked}
 use Rattle.constraint_check.specs.Tests.{tests}
 use Rattle.constraint_check.proofs.Accepted.{Tested, tested, own-bytes, is-legal}
 use Rattle.constraint_check.proofs.Decides.{read-by}
@@ -140,7 +141,7 @@ module _ (b : List ℕ) (bytes : (k : ℕ) → get_or b k 0 < 256) (ok : tests b
     unfolding pick
     placed v i =
         let low : v < IDS = omega (arith, all_in (λ u. u < m.next) (appearing m) (appearing-low m laws) v i, laws.next_small) in
-        let here : among v ids ≡ true = ap (among v) o ∙ in_order m v i in
+        let here : member v ids ≡ true = ap (member v) o ∙ in_order m v i in
         sym (h.place_of v low ∙ rw (here, o))
 
     agree : All (λ v. place_in (order m) v ≡ lookup places v) (appearing m)

@@ -17,7 +17,8 @@ use Rattle.marks.proofs.Indices.{and_no, and-on}
 use Rattle.season_trees.proofs.Tests.{not-both}
 use Rattle.flat.proofs.Rows.{rows_append, rows_more}
 use Rattle.records.specs.FlatRecord.{IDS}
-use Rattle.constraint_check.specs.Record.{every, among}
+use Rattle.constraint.specs.Numbers.{member}
+use Rattle.constraint_check.specs.Record.{every_of}
 use Rattle.constraint_check.specs.Arrays.{marked_in, Marked}
 use Rattle.constraint_check.proofs.Loops.{none-marked, marked-row}
 use Rattle.renumber_trees.specs.Renumber.{distinct}
@@ -74,18 +75,18 @@ pub table-ids : (t : List ℕ) (n : ℕ) → table_ids t n ≡ rows n 0 (λ j. w
 unfolding table_ids
 table-ids t n = let e : 1 ≡ 1 + 0 = omega arith in ap (λ (j : ℕ). rows n j (word_at t)) e ∙ ids-by-index t n 0
 
-every_append : (p : ℕ → Bool) (xs ys : List ℕ) → every p (xs ++ ys) ≡ (every p xs && every p ys)
-unfolding every
+every_append : (p : ℕ → Bool) (xs ys : List ℕ) → every_of p (xs ++ ys) ≡ (every_of p xs && every_of p ys)
+unfolding every_of
 every_append p [] ys = refl
-every_append p (x ∷ xs) ys = ap (λ (t : Bool). p x && t) (every_append p xs ys) ∙ sym (and_assoc (p x) (every p xs) (every p ys))
+every_append p (x ∷ xs) ys = ap (λ (t : Bool). p x && t) (every_append p xs ys) ∙ sym (and_assoc (p x) (every_of p xs) (every_of p ys))
 
 -- a repeated id
-not-before : (xs ys : List ℕ) (v : ℕ) → distinct (xs ++ (v ∷ ys)) ≡ true → among v xs ≡ false
-unfolding among
+not-before : (xs ys : List ℕ) (v : ℕ) → distinct (xs ++ (v ∷ ys)) ≡ true → member v xs ≡ false
+unfolding member
 not-before [] ys v h = refl
-not-before (x ∷ xs) ys v h = go (among v (x ∷ xs)) refl (not-before xs ys v (distinct_tail x (xs ++ (v ∷ ys)) h))
+not-before (x ∷ xs) ys v h = go (member v (x ∷ xs)) refl (not-before xs ys v (distinct_tail x (xs ++ (v ∷ ys)) h))
   where
-    go : (t : Bool) → among v (x ∷ xs) ≡ t → among v xs ≡ false → among v (x ∷ xs) ≡ false
+    go : (t : Bool) → member v (x ∷ xs) ≡ t → member v xs ≡ false → member v (x ∷ xs) ≡ false
     go false e r = e
     go true e r =
         absurd (in-cases v x xs e
@@ -110,12 +111,12 @@ module _ (g : ℕ → ℕ) (n k : ℕ) (l : k < n) where
       ap (λ (j : ℕ). rows j 0 g) e ∙ rows_append g k (suc (n - (k + 1))) 0 ∙ ap (λ (j : ℕ). rows k 0 g ++ rows (suc (n - (k + 1))) j g) z
       ∙ ap (λ (j : ℕ). rows k 0 g ++ (g k ∷ rows (n - (k + 1)) j g)) s
 
-  one-fails : (p : ℕ → Bool) → p (g k) ≡ false → every p (rows n 0 g) ≡ false
-  unfolding every
+  one-fails : (p : ℕ → Bool) → p (g k) ≡ false → every_of p (rows n 0 g) ≡ false
+  unfolding every_of
   one-fails p h =
-      ap (every p) around ∙ every_append p (rows k 0 g) (g k ∷ rows (n - (k + 1)) (k + 1) g)
-      ∙ ap (λ (t : Bool). every p (rows k 0 g) && (t && every p (rows (n - (k + 1)) (k + 1) g))) h
-      ∙ and-nothing (every p (rows k 0 g)) (every p (rows (n - (k + 1)) (k + 1) g))
+      ap (every_of p) around ∙ every_append p (rows k 0 g) (g k ∷ rows (n - (k + 1)) (k + 1) g)
+      ∙ ap (λ (t : Bool). every_of p (rows k 0 g) && (t && every_of p (rows (n - (k + 1)) (k + 1) g))) h
+      ∙ and-nothing (every_of p (rows k 0 g)) (every_of p (rows (n - (k + 1)) (k + 1) g))
 
   one-repeated : In (g k) (rows k 0 g) → distinct (rows n 0 g) ≡ false
   one-repeated h = ap distinct around ∙ repeated (rows k 0 g) (rows (n - (k + 1)) (k + 1) g) (g k) h
@@ -126,16 +127,16 @@ module _ (g : ℕ → ℕ) (n k : ℕ) (l : k < n) where
 pub record Reading (t : List ℕ) (old k : ℕ) (marks : List Bool) (ids : List ℕ) : Type 0 where
   pub marked : Marked marks (rows k 0 (λ j. word_at t (1 + j)))
   pub no-repeat : distinct (rows k 0 (λ j. word_at t (1 + j))) ≡ true
-  pub below : every (λ v. ltb v old) (rows k 0 (λ j. word_at t (1 + j))) ≡ true
+  pub below : every_of (λ v. ltb v old) (rows k 0 (λ j. word_at t (1 + j))) ≡ true
   pub has : HasIds ids t k
 
 module _ (t : List ℕ) (old n : ℕ) where
   abbrev g : ℕ → ℕ
   g j = word_at t (1 + j)
 
-  as-fit : ids_fit t n old ≡ (every (λ v. ltb v old) (rows n 0 g) && distinct (rows n 0 g))
+  as-fit : ids_fit t n old ≡ (every_of (λ v. ltb v old) (rows n 0 g) && distinct (rows n 0 g))
   unfolding ids_fit
-  as-fit = ap (λ (xs : List ℕ). every (λ v. ltb v old) xs && distinct xs) (table-ids t n)
+  as-fit = ap (λ (xs : List ℕ). every_of (λ v. ltb v old) xs && distinct xs) (table-ids t n)
 
   pub not-below : (k v : ℕ) → k < n → v ≡ g k → old ≤ v → false ≡ ids_fit t n old
   not-below k v l e h =
@@ -143,7 +144,7 @@ module _ (t : List ℕ) (old n : ℕ) where
       sym (as-fit ∙ ap (λ (s : Bool). s && distinct (rows n 0 g)) (one-fails g n k l (λ u. ltb u old) low))
 
   module _ (k v : ℕ) (marks : List Bool) (ids : List ℕ) (h : Reading t old k marks ids) (l : k < n) (e : v ≡ g k) (small : v < IDS) where
-    mark-says : marked_in marks v ≡ among v (rows k 0 g)
+    mark-says : marked_in marks v ≡ member v (rows k 0 g)
     mark-says = h.marked.marks v
 
     marked_by : marked_in marks v ≡ get_or marks v false
@@ -152,25 +153,25 @@ module _ (t : List ℕ) (old n : ℕ) where
 
     pub again : get_or marks v false ≡ true → false ≡ ids_fit t n old
     again d =
-        let yes : among v (rows k 0 g) ≡ true = sym mark-says ∙ marked_by ∙ d in
+        let yes : member v (rows k 0 g) ≡ true = sym mark-says ∙ marked_by ∙ d in
         let two = one-repeated g n k l (subst (λ (u : ℕ). In u (rows k 0 g)) e yes) in
-        sym (as-fit ∙ ap (λ (s : Bool). every (λ u. ltb u old) (rows n 0 g) && s) two ∙ and-false (every (λ u. ltb u old) (rows n 0 g)))
+        sym (as-fit ∙ ap (λ (s : Bool). every_of (λ u. ltb u old) (rows n 0 g) && s) two ∙ and-false (every_of (λ u. ltb u old) (rows n 0 g)))
 
     module _ (d : get_or marks v false ≡ false) (low : v < old) (few : k < IDS) where
-      new : among v (rows k 0 g) ≡ false
+      new : member v (rows k 0 g) ≡ false
       new = sym mark-says ∙ marked_by ∙ d
 
       one_more_lem : rows (k + 1) 0 g ≡ rows k 0 g ++ (v ∷ [])
       one_more_lem = let z : 0 + k ≡ k = omega arith in rows_more g k 0 ∙ ap (λ (u : ℕ). rows k 0 g ++ (u ∷ [])) (ap g z ∙ sym e)
 
       pub read-on : Reading t old (k + 1) (set marks v true) (set ids k v)
-      unfolding every
+      unfolding every_of
       read-on = record {
         marked = marked-row marks g k v e h.marked small;
         no-repeat = ap distinct one_more_lem ∙ distinct-end (rows k 0 g) v h.no-repeat new;
         below =
-            ap (every (λ u. ltb u old)) one_more_lem ∙ every_append (λ u. ltb u old) (rows k 0 g) (v ∷ [])
-            ∙ and_both (every (λ u. ltb u old) (rows k 0 g)) _ h.below (and_both (ltb v old) true (lt-ltb v old low) refl);
+            ap (every_of (λ u. ltb u old)) one_more_lem ∙ every_append (λ u. ltb u old) (rows k 0 g) (v ∷ [])
+            ∙ and_both (every_of (λ u. ltb u old) (rows k 0 g)) _ h.below (and_both (ltb v old) true (lt-ltb v old low) refl);
         has = record {
           long = length-set ids k v ∙ h.has.long;
           has = λ i m. ⊎_elim
@@ -182,12 +183,12 @@ module _ (t : List ℕ) (old n : ℕ) where
 
   pub read_all : (k : ℕ) (marks : List Bool) (ids : List ℕ) → Reading t old k marks ids → k ≡ n → (true ≡ ids_fit t n old) × HasIds ids t n
   read_all k marks ids h e = (
-    sym (as-fit ∙ rw (← e) (and_both (every (λ v. ltb v old) (rows k 0 g)) (distinct (rows k 0 g)) h.below h.no-repeat)),
+    sym (as-fit ∙ rw (← e) (and_both (every_of (λ v. ltb v old) (rows k 0 g)) (distinct (rows k 0 g)) h.below h.no-repeat)),
     rw (← e) h.has,
   )
 
 pub read_none : (t ids : List ℕ) (old : ℕ) → length ids ≡ IDS → Reading t old 0 (replicate IDS false) ids
-unfolding rows distinct every
+unfolding rows distinct every_of
 read_none t ids old l = record {
   marked = none-marked (λ j. word_at t (1 + j));
   no-repeat = refl;
@@ -210,4 +211,4 @@ module _ (t : List ℕ) (n : ℕ) where
   unfolding table_fits ids_fit
   right-ids e old h l =
       and-on _ (eq-eqb (length t) (4 * (n + 1)) e) (and-on _ (le-leb (word_at t 0) 65536 (omega (arith, h, l)))
-      (ap (λ (o : ℕ). every (λ v. ltb v o) (table_ids t n) && distinct (table_ids t n)) h))
+      (ap (λ (o : ℕ). every_of (λ v. ltb v o) (table_ids t n) && distinct (table_ids t n)) h))

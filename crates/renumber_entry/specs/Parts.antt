@@ -2,14 +2,14 @@
 use Rattle.std.specs.Prelude.{Bool, true, ◌&&◌, List, ◌≡◌, ℕ, ◌+◌, ◌<◌, ltb, length, get_or}
 use Rattle.words.specs.Words.{word_at}
 use Rattle.records.specs.FlatRecord.{IDS}
-use Rattle.constraint_check.specs.Record.{every}
+use Rattle.constraint_check.specs.Record.{every_of}
 use Rattle.renumber_trees.specs.Renumber.{distinct}
 use Rattle.renumber_trees.specs.Bytes.{table_ids, table_fits}
 use Rattle.renumber_entry.specs.declared.table.OldIds.{OldIds}
 
 -- the ids of a table for n ids: below the old next id, and none repeated
 unfoldable pub ids_fit : List ℕ → ℕ → ℕ → Bool
-ids_fit t n old = every (λ v. ltb v old) (table_ids t n) && distinct (table_ids t n)
+ids_fit t n old = every_of (λ v. ltb v old) (table_ids t n) && distinct (table_ids t n)
 
 -- an array has the first n ids of a table
 pub record HasIds (a t : List ℕ) (n : ℕ) : Type 0 where

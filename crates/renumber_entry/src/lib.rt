@@ -7,12 +7,10 @@ ghost use Rattle.std.specs.Prelude.{◌≡◌, ◌≤◌, length, IfOk};
 ghost use Rattle.constraint.specs.Reading.{constraint_of};
 ghost use Rattle.constraint_check.specs.Record.{Read};
 ghost use Rattle.renumber_trees.specs.Bytes.{renumbered_for, renumber_of, renumber_answer, record_after, table_after};
-ghost use Rattle.renumber_trees.specs.Bytes.{expanded_for, expand_of, expand_answer, output_after};
+ghost use Rattle.renumber_trees.specs.Bytes.{expanded_for, expand_of, expand_answer, output_after, table_buffer};
 
-use constraint::{EQUALITY_WORDS, HEADER, KEPT_WORDS};
-use constraint_check::{EQUALITIES, PROVERS, check_constraint};
-use records::NODE_WORDS;
-use records::flat_record::{ID_COUNT, LISTED, NODES, PUBLICS};
+use constraint_check::check_constraint;
+use records::flat_record::ID_COUNT;
 use records::refusals::Refusal;
 use renumber_order::Order;
 use renumber_trees::Lengths;
@@ -20,15 +18,16 @@ use renumber_write::relabel;
 use season_values::record::Record;
 use table::{OldIds, put_table};
 
-// The longest record, from the most of each list, and the longest side table.
-const MOST_EQUALITIES: usize = EQUALITY_WORDS * EQUALITIES;
-
-const MOST_KEPT: usize = KEPT_WORDS * LISTED;
-
-pub const RECORD_BYTES: usize = 4
-    * (HEADER + PUBLICS + PROVERS + MOST_EQUALITIES + MOST_KEPT + NODE_WORDS * NODES);
-
+// The longest side table.
 pub const TABLE_BYTES: usize = 4 * (1 + ID_COUNT);
+
+// Zeros to write a table into.
+#[tactic(auto, unfolding(renumber_trees::specs::Bytes::table_buffer))]
+pub fn table_buffer() -> [u8; TABLE_BYTES]
+    ensures { result ≡ table_buffer }
+{
+    [0u8; TABLE_BYTES]
+}
 
 // An accepted record's renumbered record and side table; `Output` where one of them has no room.
 fn renumber_accepted(r: &Record, out: &mut [u8], table: &mut [u8]) -> Result<Lengths, Refusal>

@@ -12,7 +12,7 @@ use borrow.Author.Tests.{eq-eqb, ne_eqb}
 use Rattle.std.proofs.lemmas.Bool.{cases_eq}
 use Rattle.flat.specs.Record.{pick}
 use Rattle.records.specs.FlatRecord.{IDS}
-use Rattle.constraint_check.specs.Record.{among}
+use Rattle.constraint.specs.Numbers.{member}
 use Rattle.season_trees.proofs.Tests.{not-both}
 use Rattle.renumber_trees.specs.Ids.{firsts, place_in}
 use Rattle.renumber_trees.specs.Renumber.{distinct}
@@ -35,7 +35,7 @@ not-later false t h = h
 -- ---- no id was seen
 
 pub numbered-none : (places : List ℕ) → places ≡ replicate IDS UNSEEN → Numbered places []
-unfolding distinct pick among
+unfolding distinct pick member
 numbered-none places e = record {
   long = ap length e ∙ length-replicate {A = ℕ} IDS UNSEEN;
   no-repeat = refl;
@@ -49,16 +49,16 @@ pick_first : (a b : ℕ) → pick true a b ≡ a
 unfolding pick
 pick_first a b = refl
 
-in-last : (xs : List ℕ) (v : ℕ) → among v (xs ++ (v ∷ [])) ≡ true
-unfolding among
+in-last : (xs : List ℕ) (v : ℕ) → member v (xs ++ (v ∷ [])) ≡ true
+unfolding member
 in-last [] v = in_head v []
 in-last (x ∷ xs) v = rw (in-last xs v) (or-true (eqb v x))
 
-last_place : (xs : List ℕ) (v : ℕ) → among v xs ≡ false → place_in (xs ++ (v ∷ [])) v ≡ length xs
-unfolding place_in pick among
+last_place : (xs : List ℕ) (v : ℕ) → member v xs ≡ false → place_in (xs ++ (v ∷ [])) v ≡ length xs
+unfolding place_in pick member
 last_place [] v h = rw (eq-eqb v v refl)
 last_place (x ∷ xs) v h =
-    rw (ne_eqb v x (λ e. not-both h (subst (λ (u : ℕ). In u (x ∷ xs)) (sym e) (in_head x xs)))) (ap suc (last_place xs v (not-later (eqb v x) (among v xs) h)))
+    rw (ne_eqb v x (λ e. not-both h (subst (λ (u : ℕ). In u (x ∷ xs)) (sym e) (in_head x xs)))) (ap suc (last_place xs v (not-later (eqb v x) (member v xs) h)))
 
 earlier-place : (xs : List ℕ) (v u : ℕ) → In u xs → place_in (xs ++ (v ∷ [])) u ≡ place_in xs u
 unfolding place_in pick
@@ -69,9 +69,9 @@ earlier-place (x ∷ xs) v u h =
     (λ (d : u ≡ x → ⊥). rw (ne_eqb u x d) (ap suc (earlier-place xs v u (in-cases u x xs h (λ e. absurd (d e)) (λ m. m)))))
     (cases_eq u x)
 
-other_place : (xs : List ℕ) (v u : ℕ) (t : Bool) → among u xs ≡ t → (u ≡ v → ⊥)
-    → pick (among u xs) (place_in xs u) UNSEEN ≡ pick (among u (xs ++ (v ∷ []))) (place_in (xs ++ (v ∷ [])) u) UNSEEN
-unfolding pick among
+other_place : (xs : List ℕ) (v u : ℕ) (t : Bool) → member u xs ≡ t → (u ≡ v → ⊥)
+    → pick (member u xs) (place_in xs u) UNSEEN ≡ pick (member u (xs ++ (v ∷ []))) (place_in (xs ++ (v ∷ [])) u) UNSEEN
+unfolding pick member
 other_place xs v u true e d = rw (e, in_left u xs (v ∷ []) e) (sym (earlier-place xs v u e))
 other_place xs v u false e d = rw (among-append u xs (v ∷ []), e, ne_eqb u v d)
 
@@ -81,24 +81,24 @@ module _ (places xs : List ℕ) (v : ℕ) (low : v < IDS) (h : Numbered places x
   pub few : length xs ≤ IDS
   few = few-below xs IDS h.no-repeat (in_all Low xs h.low)
 
-  place_is : (t : Bool) → among v xs ≡ t → get_or places v 0 ≡ pick t (place_in xs v) UNSEEN
+  place_is : (t : Bool) → member v xs ≡ t → get_or places v 0 ≡ pick t (place_in xs v) UNSEEN
   place_is t e = h.place_of v low ∙ ap (λ (s : Bool). pick s (place_in xs v) UNSEEN) e
 
   -- an id with a place was seen
-  was-seen : (get_or places v 0 ≡ UNSEEN → ⊥) → among v xs ≡ true
+  was-seen : (get_or places v 0 ≡ UNSEEN → ⊥) → member v xs ≡ true
   unfolding pick
-  was-seen d = go (among v xs) refl
+  was-seen d = go (member v xs) refl
     where
-      go : (t : Bool) → among v xs ≡ t → among v xs ≡ true
+      go : (t : Bool) → member v xs ≡ t → member v xs ≡ true
       go true e = e
       go false e = absurd (d (place_is false e))
 
   -- and one without was not
-  was-not-seen : get_or places v 0 ≡ UNSEEN → among v xs ≡ false
+  was-not-seen : get_or places v 0 ≡ UNSEEN → member v xs ≡ false
   unfolding pick
-  was-not-seen d = go (among v xs) refl
+  was-not-seen d = go (member v xs) refl
     where
-      go : (t : Bool) → among v xs ≡ t → among v xs ≡ false
+      go : (t : Bool) → member v xs ≡ t → member v xs ≡ false
       go false e = e
       go true e = absurd (let l = place-below xs v e in omega (arith, sym (place_is true e) ∙ d, few))
 
@@ -120,7 +120,7 @@ module _ (places xs : List ℕ) (v : ℕ) (low : v < IDS) (h : Numbered places x
     pub room : length xs < IDS
     room = omega (arith, few-below ys IDS new-distinct (in_all Low ys new-low), length-append xs (v ∷ []))
 
-    new-place : (u : ℕ) → u < IDS → get_or (set places v (length xs)) u 0 ≡ pick (among u ys) (place_in ys u) UNSEEN
+    new-place : (u : ℕ) → u < IDS → get_or (set places v (length xs)) u 0 ≡ pick (member u ys) (place_in ys u) UNSEEN
     new-place u l =
         ⊎_elim
         (λ (e : u ≡ v).
@@ -129,7 +129,7 @@ module _ (places xs : List ℕ) (v : ℕ) (low : v < IDS) (h : Numbered places x
         ∙ sym (ap (λ (t : Bool). pick t (place_in ys v) UNSEEN) (in-last xs v) ∙ pick_first (place_in ys v) UNSEEN)))
         (λ (k : u ≡ v → ⊥).
         get_or-set_other {A = ℕ} places v u (length xs) 0 k ∙ h.place_of u l
-        ∙ other_place xs v u (among u xs) refl k)
+        ∙ other_place xs v u (member u xs) refl k)
         (cases_eq u v)
 
     pub numbered_more : Numbered (set places v (length xs)) ys

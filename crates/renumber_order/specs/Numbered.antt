@@ -5,7 +5,7 @@ use Rattle.records.specs.FlatRecord.{IDS}
 use Rattle.constraint.specs.declared.Operation.{Operation}
 use Rattle.constraint.specs.declared.Term.{Term}
 use Rattle.constraint.specs.declared.Equality.{Equality as Written}
-use Rattle.constraint_check.specs.Record.{among}
+use Rattle.constraint.specs.Numbers.{member}
 use Rattle.renumber_trees.specs.Ids.{term_ids, place_in}
 use Rattle.renumber_trees.specs.Renumber.{distinct}
 
@@ -17,8 +17,8 @@ UNSEEN = IDS
 pub record Numbered (places ids : List ℕ) : Type 0 where
   pub long : length places ≡ IDS
   pub no-repeat : distinct ids ≡ true
-  pub low : (v : ℕ) → among v ids ≡ true → v < IDS
-  pub place_of : (v : ℕ) → v < IDS → get_or places v 0 ≡ pick (among v ids) (place_in ids v) UNSEEN
+  pub low : (v : ℕ) → member v ids ≡ true → v < IDS
+  pub place_of : (v : ℕ) → v < IDS → get_or places v 0 ≡ pick (member v ids) (place_in ids v) UNSEEN
 
 -- the variables of an equality: negate and copy have no second term
 unfoldable pub operation_ids : Operation → Term → Term → List ℕ

@@ -14,7 +14,7 @@ use Rattle.flat.specs.Meaning.{update, on_values, negated}
 use Rattle.season_trees.proofs.Tests.{not-both}
 use Rattle.constraint.specs.declared.Term.{Term}
 use Rattle.constraint.specs.Trees.{Side, Equality, ConstraintModule}
-use Rattle.constraint_check.specs.Record.{among}
+use Rattle.constraint.specs.Numbers.{member}
 use Rattle.season_trees.specs.declared.Verdict.{Verdict}
 use Rattle.season_trees.specs.Values.{in_tree, in_term, in_side, in_equalities, in_kept, appears, is_input}
 use Rattle.season_trees.specs.Values.{inputs_of, Environment, given, value_in, worked_out}
@@ -31,27 +31,27 @@ use Rattle.renumber_trees.proofs.Legal.{Lawful, kept-provers, prover-new}
 -- ---- what appears, by the count's own definition
 
 module _ (v : ℕ) where
-  term-among : (t : Term) → in_term v t ≡ among v (term_ids t)
-  unfolding in_term term_ids among
+  term-among : (t : Term) → in_term v t ≡ member v (term_ids t)
+  unfolding in_term term_ids member
   term-among (Term.Variable w) = sym (or_nothing (eqb v w))
   term-among (Term.Constant c) = refl
 
-  side-among : (s : Side) → in_side v s ≡ among v (side_ids s)
+  side-among : (s : Side) → in_side v s ≡ member v (side_ids s)
   unfolding in_side side_ids
   side-among (Side.infixed o x y) = ap₂ ◌||◌ (term-among x) (term-among y) ∙ sym (among-append v (term_ids x) (term_ids y))
   side-among (Side.negate x) = term-among x
   side-among (Side.copy x) = term-among x
 
-  equalities-among : (qs : List Equality) → in_equalities v qs ≡ among v (equalities_ids qs)
-  unfolding in_equalities equalities_ids among
+  equalities-among : (qs : List Equality) → in_equalities v qs ≡ member v (equalities_ids qs)
+  unfolding in_equalities equalities_ids member
   equalities-among [] = refl
   equalities-among (q ∷ qs) =
       or_assoc (in_term v q.left) (in_side v q.right) (in_equalities v qs)
       ∙ ap₂ ◌||◌ (term-among q.left) (ap₂ ◌||◌ (side-among q.right) (equalities-among qs) ∙ sym (among-append v (side_ids q.right) (equalities_ids qs)))
       ∙ sym (among-append v (term_ids q.left) (side_ids q.right ++ equalities_ids qs))
 
-  tree-among : (e : Flat) → in_tree v e ≡ among v (leaves e)
-  unfolding in_tree leaves among
+  tree-among : (e : Flat) → in_tree v e ≡ member v (leaves e)
+  unfolding in_tree leaves member
   tree-among (Flat.infixed o x y) = ap₂ ◌||◌ (tree-among x) (tree-among y) ∙ sym (among-append v (leaves x) (leaves y))
   tree-among (Flat.negate x) = tree-among x
   tree-among (Flat.constant c) = refl
@@ -80,9 +80,9 @@ module _ (m : ConstraintModule) (l : Lawful m) (v : ℕ) where
   appears-in : appears m v ≡ true → In v (appearing m)
   unfolding appears appearing used
   appears-in h =
-      or_cases (among v m.publics) _ h
+      or_cases (member v m.publics) _ h
       (λ g. in_left v (used m) m.provers (in_left v m.publics _ g))
-      (λ g. or_cases (among v m.provers) _ g (in_right v (used m) m.provers)
+      (λ g. or_cases (member v m.provers) _ g (in_right v (used m) m.provers)
       (λ k. or_cases (in_equalities v m.equalities) (in_kept v m.kept) k
       (λ j. in_left v (used m) m.provers (in_right v m.publics _
       (in_left v (equalities_ids m.equalities) (kept_ids m.kept) (sym (equalities-among v m.equalities) ∙ j))))
@@ -92,8 +92,8 @@ module _ (m : ConstraintModule) (l : Lawful m) (v : ℕ) where
   in-appears : In v (appearing m) → appears m v ≡ true
   unfolding appears appearing used
   in-appears h =
-      let a = among v m.publics in
-      let p = among v m.provers in
+      let a = member v m.publics in
+      let p = member v m.provers in
       let q = in_equalities v m.equalities in
       let k = in_kept v m.kept in
       let prover : p ≡ true → (a || (p || (q || k))) ≡ true = λ g. or_right a (p || (q || k)) (or_left p (q || k) g) in
@@ -106,8 +106,8 @@ module _ (m : ConstraintModule) (l : Lawful m) (v : ℕ) where
       prover
 
   -- a kept id is a prover id, so both say the same
-  pub appears-same : appears m v ≡ among v (appearing m)
-  appears-same = either_way (appears m v) (among v (appearing m)) appears-in in-appears
+  pub appears-same : appears m v ≡ member v (appearing m)
+  appears-same = either_way (appears m v) (member v (appearing m)) appears-in in-appears
 
 -- ---- environments that agree on what appears
 

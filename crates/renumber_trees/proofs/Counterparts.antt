@@ -16,7 +16,7 @@ use Rattle.flat.specs.Meaning.{or_zero}
 use Rattle.marks.proofs.Indices.{and_left, and_right}
 use Rattle.season_trees.proofs.Tests.{not-both}
 use Rattle.constraint.specs.Trees.{ConstraintModule}
-use Rattle.constraint_check.specs.Record.{among}
+use Rattle.constraint.specs.Numbers.{member}
 use Rattle.season_trees.specs.Values.{appears, is_input, inputs_of, given}
 use Rattle.season_trees.specs.Count.{Calibration}
 use Rattle.season_trees.specs.Season.{LARGEST, in_range}
@@ -34,14 +34,14 @@ use Rattle.renumber_trees.proofs.Calibrated.{Alike, appears-same, new-appears, i
 
 -- ---- what a calibration gives
 
-given-none : (ws : List ℕ) (es : List ℤ) (v : ℕ) → among v ws ≡ false → given ws es v ≡ None
+given-none : (ws : List ℕ) (es : List ℤ) (v : ℕ) → member v ws ≡ false → given ws es v ≡ None
 unfolding given pick
 given-none [] es v h = refl
 given-none (w ∷ ws) [] v h = refl
 given-none (w ∷ ws) (e ∷ es) v h =
-    rw (ne_eqb v w (λ d. not-both h (subst (λ (u : ℕ). In u (w ∷ ws)) (sym d) (in_head w ws)))) (given-none ws es v (rest (among v ws) refl))
+    rw (ne_eqb v w (λ d. not-both h (subst (λ (u : ℕ). In u (w ∷ ws)) (sym d) (in_head w ws)))) (given-none ws es v (rest (member v ws) refl))
   where
-    rest : (t : Bool) → among v ws ≡ t → among v ws ≡ false
+    rest : (t : Bool) → member v ws ≡ t → member v ws ≡ false
     rest true k = absurd (not-both h (in_tail v w ws k))
     rest false k = k
 
@@ -107,10 +107,10 @@ module _ (m : ConstraintModule) (l : Lawful m) where
   unfolding is_input
   input-appears v h = sym (appears-same m l v) ∙ and_left (appears m v) _ (input-in v h)
 
-  among-inputs : (v : ℕ) → In v (appearing m) → among v (inputs_of m) ≡ is_input m v
+  among-inputs : (v : ℕ) → In v (appearing m) → member v (inputs_of m) ≡ is_input m v
   unfolding inputs_of
   among-inputs v h =
-      either_way (among v (inputs_of m)) (is_input m v) (input-in v)
+      either_way (member v (inputs_of m)) (is_input m v) (input-in v)
       (λ g. in_ids (is_input m) 0 m.next v (omega arith) (omega (arith, all_in (λ u. u < m.next) (appearing m) (appearing-low m l) v h)) g)
 
 module _ (f : ℕ → ℕ) (n : ℕ) (m : ConstraintModule) (c : Carries f n m) (l : Lawful m) (small : Lawful (relabelled f n m)) where
@@ -130,7 +130,7 @@ module _ (f : ℕ → ℕ) (n : ℕ) (m : ConstraintModule) (c : Carries f n m) 
       (r.0, in_right r.0 (used m) m.provers r.1, r.2))
 
   -- an old id is an input just if its new one is
-  inputs-same : (v : ℕ) → In v (appearing m) → among (f v) (inputs_of new) ≡ among v (inputs_of m)
+  inputs-same : (v : ℕ) → In v (appearing m) → member (f v) (inputs_of new) ≡ member v (inputs_of m)
   inputs-same v h = among-inputs new small (f v) (new-appears f n m c l small v h) ∙ input-same f n m c l small v h ∙ sym (among-inputs m l v h)
 
   pub inputs-number : length (inputs_of new) ≡ length (inputs_of m)
@@ -173,9 +173,9 @@ module _ (f : ℕ → ℕ) (n : ℕ) (m : ConstraintModule) (c : Carries f n m) 
 
     pub carried-alike : Alike f n m c d carried
     unfolding carried element
-    carried-alike v h = go (among v (inputs_of m)) refl
+    carried-alike v h = go (member v (inputs_of m)) refl
       where
-        go : (t : Bool) → among v (inputs_of m) ≡ t → given (inputs_of new) carried (f v) ≡ given (inputs_of m) d v
+        go : (t : Bool) → member v (inputs_of m) ≡ t → given (inputs_of new) carried (f v) ≡ given (inputs_of m) d v
         go true k =
             given-map element (inputs_of new) (f v) (inputs-same v h ∙ k)
             ∙ ap (λ (u : ℕ). Some (or_zero (given (inputs_of m) d u))) (all_in (λ u. g (f u) ≡ u) (appearing m) back v h)
@@ -196,9 +196,9 @@ module _ (f : ℕ → ℕ) (n : ℕ) (m : ConstraintModule) (c : Carries f n m) 
 
     pub returned-alike : Alike f n m c returned e
     unfolding returned old_element
-    returned-alike v h = go (among v (inputs_of m)) refl
+    returned-alike v h = go (member v (inputs_of m)) refl
       where
-        go : (t : Bool) → among v (inputs_of m) ≡ t → given (inputs_of new) e (f v) ≡ given (inputs_of m) returned v
+        go : (t : Bool) → member v (inputs_of m) ≡ t → given (inputs_of new) e (f v) ≡ given (inputs_of m) returned v
         go true k =
             given_some (inputs_of new) e (f v) whole (inputs-same v h ∙ k) ∙ sym (given-map old_element (inputs_of m) v k)
         go false k = given-none (inputs_of new) e (f v) (inputs-same v h ∙ k) ∙ sym (given-none (inputs_of m) returned v k)

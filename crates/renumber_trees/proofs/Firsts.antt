@@ -11,7 +11,7 @@ use Rattle.std.proofs.lemmas.Bool.{cases_eq}
 use Rattle.flat.specs.Record.{pick, rows}
 use Rattle.season_trees.proofs.Tests.{not-both}
 use Rattle.flat.proofs.Rows.{length-rows, rows_at, rows_more}
-use Rattle.constraint_check.specs.Record.{among}
+use Rattle.constraint.specs.Numbers.{member}
 use Rattle.renumber_trees.specs.Ids.{seen, firsts, place_in}
 use Rattle.renumber_trees.specs.Renumber.{distinct}
 use Rattle.renumber_trees.proofs.Lists.{In, in_head, in_tail, in-cases, in-none, in_left, in_right, in-append}
@@ -20,33 +20,33 @@ use Rattle.renumber_trees.proofs.Lists.{distinct_head, distinct_tail, distinct-e
 
 -- ---- one id more
 
-pub seen-old : (xs : List ℕ) (v : ℕ) → among v xs ≡ true → seen xs v ≡ xs
+pub seen-old : (xs : List ℕ) (v : ℕ) → member v xs ≡ true → seen xs v ≡ xs
 unfolding seen pick
 seen-old xs v e = rw e
 
-pub seen-new : (xs : List ℕ) (v : ℕ) → among v xs ≡ false → seen xs v ≡ xs ++ (v ∷ [])
+pub seen-new : (xs : List ℕ) (v : ℕ) → member v xs ≡ false → seen xs v ≡ xs ++ (v ∷ [])
 unfolding seen pick
 seen-new xs v e = rw e
 
 pub seen-distinct : (xs : List ℕ) (v : ℕ) → distinct xs ≡ true → distinct (seen xs v) ≡ true
-seen-distinct xs v d = go (among v xs) refl
+seen-distinct xs v d = go (member v xs) refl
   where
-    go : (t : Bool) → among v xs ≡ t → distinct (seen xs v) ≡ true
+    go : (t : Bool) → member v xs ≡ t → distinct (seen xs v) ≡ true
     go true e = rw (seen-old xs v e) d
     go false e = rw (seen-new xs v e) (distinct-end xs v d e)
 
 -- those that were seen stand first
 pub seen_more : (xs : List ℕ) (v : ℕ) → (ys : List ℕ) × (seen xs v ≡ xs ++ ys) × ((u : ℕ) → In u ys → u ≡ v)
-seen_more xs v = go (among v xs) refl
+seen_more xs v = go (member v xs) refl
   where
-    go : (t : Bool) → among v xs ≡ t → (ys : List ℕ) × (seen xs v ≡ xs ++ ys) × ((u : ℕ) → In u ys → u ≡ v)
+    go : (t : Bool) → member v xs ≡ t → (ys : List ℕ) × (seen xs v ≡ xs ++ ys) × ((u : ℕ) → In u ys → u ≡ v)
     go true e = ([], seen-old xs v e ∙ sym (append-nil xs), λ u m. in-none u m)
     go false e = (v ∷ [], seen-new xs v e, λ u m. in-cases u v [] m (λ d. d) (in-none u))
 
 seen-in : (xs : List ℕ) (v : ℕ) → In v (seen xs v)
-seen-in xs v = go (among v xs) refl
+seen-in xs v = go (member v xs) refl
   where
-    go : (t : Bool) → among v xs ≡ t → In v (seen xs v)
+    go : (t : Bool) → member v xs ≡ t → In v (seen xs v)
     go true e = rw (seen-old xs v e) e
     go false e = rw (seen-new xs v e) (in_right v xs (v ∷ []) (in_head v []))
 
@@ -95,9 +95,9 @@ map-append f [] ys = refl
 map-append f (x ∷ xs) ys = ap (◌∷◌ (f x)) (map-append f xs ys)
 
 seen-map : (f : ℕ → ℕ) (zs xs : List ℕ) (v : ℕ) → Injective f zs → ((u : ℕ) → In u xs → In u zs) → In v zs → seen (map f xs) (f v) ≡ map f (seen xs v)
-seen-map f zs xs v inj sub h = go (among v xs) refl
+seen-map f zs xs v inj sub h = go (member v xs) refl
   where
-    go : (t : Bool) → among v xs ≡ t → seen (map f xs) (f v) ≡ map f (seen xs v)
+    go : (t : Bool) → member v xs ≡ t → seen (map f xs) (f v) ≡ map f (seen xs v)
     go true e = seen-old (map f xs) (f v) (among-map f zs xs v inj sub h ∙ e) ∙ sym (ap (map f) (seen-old xs v e))
     go false e =
         seen-new (map f xs) (f v) (among-map f zs xs v inj sub h ∙ e) ∙ sym (ap (map f) (seen-new xs v e) ∙ map-append f xs (v ∷ []))

@@ -13,9 +13,9 @@ use Rattle.marks.proofs.Indices.{and_left, and_right}
 use Rattle.records.specs.FlatRecord.{IDS}
 use Rattle.constraint.specs.declared.Term.{Term}
 use Rattle.constraint.specs.Trees.{Side, Equality, ConstraintModule}
-use Rattle.constraint_check.specs.Record.{every, among, rising, is_operation, term_known, side_fits, equality_fits, kept_fits}
+use Rattle.constraint_check.specs.Record.{every_of, rising_ids, is_operation, term_known, side_fits, equality_fits, kept_fits}
 use Rattle.constraint_check.specs.Record.{within_limits, well_formed, legal}
-use Rattle.season_trees.specs.Values.{ids_from}
+use Rattle.constraint.specs.Numbers.{member, ids_from}
 use Rattle.renumber_trees.specs.Ids.{term_ids, side_ids, equalities_ids, leaves, kept_ids, used, appearing}
 use Rattle.renumber_trees.specs.Renumber.{relabel_term, relabel_side, relabel_equality, relabel_tree, relabel_definition, relabelled, Carries}
 use Rattle.renumber_trees.proofs.Lists.{In, in_right, in_map, map-in, all_in, in_all, all_left, all_right, either_way, and_both}
@@ -33,11 +33,11 @@ pub record Lawful (m : ConstraintModule) : Type 0 where
   pub equalities-few : length m.equalities ≤ 16384
   pub kept-few : length m.kept ≤ 4096
   pub nodes-few : definitions_nodes m.kept ≤ 16384
-  pub publics-below : every (λ v. ltb v m.next) m.publics ≡ true
-  pub provers-below : every (λ v. ltb v m.next) m.provers ≡ true
-  pub provers-rise : rising m.provers ≡ true
-  pub equalities-fit : every (equality_fits m.next) m.equalities ≡ true
-  pub kept-fit : every (kept_fits m.next m.provers) m.kept ≡ true
+  pub publics-below : every_of (λ v. ltb v m.next) m.publics ≡ true
+  pub provers-below : every_of (λ v. ltb v m.next) m.provers ≡ true
+  pub provers-rise : rising_ids m.provers ≡ true
+  pub equalities-fit : every_of (equality_fits m.next) m.equalities ≡ true
+  pub kept-fit : every_of (kept_fits m.next m.provers) m.kept ≡ true
 
 pub lawful : (m : ConstraintModule) → legal m ≡ true → Lawful m
 unfolding legal within_limits well_formed
@@ -48,9 +48,9 @@ lawful m h =
     let w2 = and_right (leb (length m.publics) 64) _ w1 in
     let w3 = and_right (leb (length m.provers) 8192) _ w2 in
     let w4 = and_right (leb (length m.equalities) 16384) _ w3 in
-    let f1 = and_right (every (λ v. ltb v m.next) m.publics) _ f0 in
-    let f2 = and_right (every (λ v. ltb v m.next) m.provers) _ f1 in
-    let f3 = and_right (rising m.provers) _ f2 in
+    let f1 = and_right (every_of (λ v. ltb v m.next) m.publics) _ f0 in
+    let f2 = and_right (every_of (λ v. ltb v m.next) m.provers) _ f1 in
+    let f3 = and_right (rising_ids m.provers) _ f2 in
     record {
       next_small = leb-true _ _ (and_left (leb m.next 65536) _ w0);
       publics-few = leb-true _ _ (and_left (leb (length m.publics) 64) _ w1);
@@ -58,11 +58,11 @@ lawful m h =
       equalities-few = leb-true _ _ (and_left (leb (length m.equalities) 16384) _ w3);
       kept-few = leb-true _ _ (and_left (leb (length m.kept) 4096) _ w4);
       nodes-few = leb-true _ _ (and_right (leb (length m.kept) 4096) _ w4);
-      publics-below = and_left (every (λ v. ltb v m.next) m.publics) _ f0;
-      provers-below = and_left (every (λ v. ltb v m.next) m.provers) _ f1;
-      provers-rise = and_left (rising m.provers) _ f2;
-      equalities-fit = and_left (every (equality_fits m.next) m.equalities) _ f3;
-      kept-fit = and_right (every (equality_fits m.next) m.equalities) _ f3;
+      publics-below = and_left (every_of (λ v. ltb v m.next) m.publics) _ f0;
+      provers-below = and_left (every_of (λ v. ltb v m.next) m.provers) _ f1;
+      provers-rise = and_left (rising_ids m.provers) _ f2;
+      equalities-fit = and_left (every_of (equality_fits m.next) m.equalities) _ f3;
+      kept-fit = and_right (every_of (equality_fits m.next) m.equalities) _ f3;
     }
 
 pub lawful-legal : (m : ConstraintModule) → Lawful m → legal m ≡ true
@@ -76,16 +76,16 @@ lawful-legal m l =
 
 -- ---- every id lies below the next id
 
-pub every-all : (n : ℕ) (xs : List ℕ) → every (λ v. ltb v n) xs ≡ true → All (λ v. v < n) xs
-unfolding every
+pub every-all : (n : ℕ) (xs : List ℕ) → every_of (λ v. ltb v n) xs ≡ true → All (λ v. v < n) xs
+unfolding every_of
 every-all n [] h = tt
 every-all n (x ∷ xs) h =
-    (ltb-true x n (and_left (ltb x n) (every (λ v. ltb v n) xs) h), every-all n xs (and_right (ltb x n) (every (λ v. ltb v n) xs) h))
+    (ltb-true x n (and_left (ltb x n) (every_of (λ v. ltb v n) xs) h), every-all n xs (and_right (ltb x n) (every_of (λ v. ltb v n) xs) h))
 
-pub all-every : (n : ℕ) (xs : List ℕ) → All (λ v. v < n) xs → every (λ v. ltb v n) xs ≡ true
-unfolding every
+pub all-every : (n : ℕ) (xs : List ℕ) → All (λ v. v < n) xs → every_of (λ v. ltb v n) xs ≡ true
+unfolding every_of
 all-every n [] h = refl
-all-every n (x ∷ xs) h = and_both (ltb x n) (every (λ v. ltb v n) xs) (lt-ltb x n h.0) (all-every n xs h.1)
+all-every n (x ∷ xs) h = and_both (ltb x n) (every_of (λ v. ltb v n) xs) (lt-ltb x n h.0) (all-every n xs h.1)
 
 pub all-lower : (n k : ℕ) (xs : List ℕ) → n ≤ k → All (λ v. v < n) xs → All (λ v. v < k) xs
 all-lower n k [] l h = tt
@@ -119,15 +119,15 @@ module _ (n : ℕ) where
       all_append Low (term_ids q.left) (side_ids q.right) (term-low q.left (and_left (term_known n q.left) (side_fits n q.right) h))
       (side-low q.right (and_right (term_known n q.left) (side_fits n q.right) h))
 
-  equalities-low : (qs : List Equality) → every (equality_fits n) qs ≡ true → All Low (equalities_ids qs)
-  unfolding every equality_fits equalities_ids
+  equalities-low : (qs : List Equality) → every_of (equality_fits n) qs ≡ true → All Low (equalities_ids qs)
+  unfolding every_of equality_fits equalities_ids
   equalities-low [] h = tt
   equalities-low (q ∷ qs) h =
-      let g = and_left (equality_fits n q) (every (equality_fits n) qs) h in
+      let g = and_left (equality_fits n q) (every_of (equality_fits n) qs) h in
       all_append Low (term_ids q.left) (side_ids q.right ++ equalities_ids qs)
       (term-low q.left (and_left (term_known n q.left) (side_fits n q.right) g))
       (all_append Low (side_ids q.right) (equalities_ids qs) (side-low q.right (and_right (term_known n q.left) (side_fits n q.right) g))
-      (equalities-low qs (and_right (equality_fits n q) (every (equality_fits n) qs) h)))
+      (equalities-low qs (and_right (equality_fits n q) (every_of (equality_fits n) qs) h)))
 
   tree-low : (e : Flat) → every_id (λ v. ltb v n) e ≡ true → All Low (leaves e)
   unfolding every_id leaves
@@ -139,15 +139,15 @@ module _ (n : ℕ) where
   tree-low (Flat.constant c) h = tt
   tree-low (Flat.variable v) h = (ltb-true v n h, tt)
 
-  kept_low : (ps : List ℕ) → All Low ps → (ds : List Definition) → every (kept_fits n ps) ds ≡ true → All Low (kept_ids ds)
-  unfolding every kept_fits kept_ids
+  kept_low : (ps : List ℕ) → All Low ps → (ds : List Definition) → every_of (kept_fits n ps) ds ≡ true → All Low (kept_ids ds)
+  unfolding every_of kept_fits kept_ids
   kept_low ps l [] h = tt
   kept_low ps l (d ∷ ds) h =
-      let g = and_left (kept_fits n ps d) (every (kept_fits n ps) ds) h in
+      let g = and_left (kept_fits n ps d) (every_of (kept_fits n ps) ds) h in
       let t = every_id (λ v. ltb v n) d.right in (
-        all_in Low ps l d.id (and_left (among d.id ps) t g),
-        all_append Low (leaves d.right) (kept_ids ds) (tree-low d.right (and_right (among d.id ps) t g))
-            (kept_low ps l ds (and_right (kept_fits n ps d) (every (kept_fits n ps) ds) h)),
+        all_in Low ps l d.id (and_left (member d.id ps) t g),
+        all_append Low (leaves d.right) (kept_ids ds) (tree-low d.right (and_right (member d.id ps) t g))
+            (kept_low ps l ds (and_right (kept_fits n ps d) (every_of (kept_fits n ps) ds) h)),
       )
 
 -- ALL THAT APPEARS in a legal module lies below its next id
@@ -161,12 +161,12 @@ appearing-low m l =
     (kept_low m.next m.provers p m.kept l.kept-fit))) p
 
 -- kept ids are prover ids
-pub kept-provers : (n : ℕ) (ps : List ℕ) (ds : List Definition) → every (kept_fits n ps) ds ≡ true → All (λ d. In d.id ps) ds
-unfolding every kept_fits
+pub kept-provers : (n : ℕ) (ps : List ℕ) (ds : List Definition) → every_of (kept_fits n ps) ds ≡ true → All (λ d. In d.id ps) ds
+unfolding every_of kept_fits
 kept-provers n ps [] h = tt
 kept-provers n ps (d ∷ ds) h = (
-  and_left (among d.id ps) (every_id (λ v. ltb v n) d.right) (and_left (kept_fits n ps d) (every (kept_fits n ps) ds) h),
-  kept-provers n ps ds (and_right (kept_fits n ps d) (every (kept_fits n ps) ds) h),
+  and_left (member d.id ps) (every_id (λ v. ltb v n) d.right) (and_left (kept_fits n ps d) (every_of (kept_fits n ps) ds) h),
+  kept-provers n ps ds (and_right (kept_fits n ps d) (every_of (kept_fits n ps) ds) h),
 )
 
 -- ---- with other ids
@@ -175,8 +175,8 @@ module _ (f : ℕ → ℕ) (n : ℕ) where
   abbrev Goes : ℕ → Type 0
   Goes v = f v < n
 
-  goes-ids : (xs : List ℕ) → All Goes xs → every (λ v. ltb v n) (map f xs) ≡ true
-  unfolding every
+  goes-ids : (xs : List ℕ) → All Goes xs → every_of (λ v. ltb v n) (map f xs) ≡ true
+  unfolding every_of
   goes-ids [] h = refl
   goes-ids (x ∷ xs) h = and_both (ltb (f x) n) _ (lt-ltb (f x) n h.0) (goes-ids xs h.1)
 
@@ -193,17 +193,17 @@ module _ (f : ℕ → ℕ) (n : ℕ) where
   goes-side k (Side.negate x) h g = goes-term x g
   goes-side k (Side.copy x) h g = goes-term x g
 
-  goes-equalities : (k : ℕ) (qs : List Equality) → every (equality_fits k) qs ≡ true → All Goes (equalities_ids qs)
-      → every (equality_fits n) (map (relabel_equality f) qs) ≡ true
-  unfolding every equality_fits equalities_ids relabel_equality
+  goes-equalities : (k : ℕ) (qs : List Equality) → every_of (equality_fits k) qs ≡ true → All Goes (equalities_ids qs)
+      → every_of (equality_fits n) (map (relabel_equality f) qs) ≡ true
+  unfolding every_of equality_fits equalities_ids relabel_equality
   goes-equalities k [] h g = refl
   goes-equalities k (q ∷ qs) h g =
-      let own = and_left (equality_fits k q) (every (equality_fits k) qs) h in
+      let own = and_left (equality_fits k q) (every_of (equality_fits k) qs) h in
       let r = all_right Goes (term_ids q.left) (side_ids q.right ++ equalities_ids qs) g in
       and_both _ _
       (and_both _ _ (goes-term q.left (all_left Goes (term_ids q.left) (side_ids q.right ++ equalities_ids qs) g))
       (goes-side k q.right (and_right (term_known k q.left) (side_fits k q.right) own) (all_left Goes (side_ids q.right) (equalities_ids qs) r)))
-      (goes-equalities k qs (and_right (equality_fits k q) (every (equality_fits k) qs) h) (all_right Goes (side_ids q.right) (equalities_ids qs) r))
+      (goes-equalities k qs (and_right (equality_fits k q) (every_of (equality_fits k) qs) h) (all_right Goes (side_ids q.right) (equalities_ids qs) r))
 
   goes-tree : (e : Flat) → All Goes (leaves e) → every_id (λ v. ltb v n) (relabel_tree f e) ≡ true
   unfolding leaves relabel_tree every_id
@@ -214,8 +214,8 @@ module _ (f : ℕ → ℕ) (n : ℕ) where
   goes-tree (Flat.variable v) h = lt-ltb (f v) n h.0
 
   goes_kept : (ps : List ℕ) (ds : List Definition) → All (λ d. In (f d.id) ps) ds → All Goes (kept_ids ds)
-      → every (kept_fits n ps) (map (relabel_definition f) ds) ≡ true
-  unfolding every kept_fits kept_ids relabel_definition
+      → every_of (kept_fits n ps) (map (relabel_definition f) ds) ≡ true
+  unfolding every_of kept_fits kept_ids relabel_definition
   goes_kept ps [] h g = refl
   goes_kept ps (d ∷ ds) h g =
       and_both _ _ (and_both _ _ h.0 (goes-tree d.right (all_left Goes (leaves d.right) (kept_ids ds) g.1)))
@@ -228,7 +228,7 @@ all-provers f ps qs (d ∷ ds) h g = (h d.id g.0, all-provers f ps qs ds h g.1)
 
 module _ (f : ℕ → ℕ) (n : ℕ) (m : ConstraintModule) (l : Lawful m) (c : Carries f n m) where
   abbrev new : List ℕ
-  new = ids_from (λ v. among v (map f m.provers)) 0 n
+  new = ids_from (λ v. member v (map f m.provers)) 0 n
 
   prover-appears : (v : ℕ) → In v m.provers → In v (appearing m)
   unfolding appearing
@@ -238,15 +238,15 @@ module _ (f : ℕ → ℕ) (n : ℕ) (m : ConstraintModule) (l : Lawful m) (c : 
   pub prover-new : (v : ℕ) → In v m.provers → In (f v) new
   prover-new v h =
       let k = all_in (λ u. f u < n) (appearing m) c.below v (prover-appears v h) in
-      in_ids (λ u. among u (map f m.provers)) 0 n (f v) (omega arith) (omega arith) (in_map f v m.provers h)
+      in_ids (λ u. member u (map f m.provers)) 0 n (f v) (omega arith) (omega arith) (in_map f v m.provers h)
 
   pub new-prover : (w : ℕ) → In w new → (v : ℕ) × In v m.provers × (w ≡ f v)
-  new-prover w h = map-in f w m.provers (ids-in (λ u. among u (map f m.provers)) 0 n w h).1
+  new-prover w h = map-in f w m.provers (ids-in (λ u. member u (map f m.provers)) 0 n w h).1
 
   -- there are as many
   pub provers-number : length new ≡ length m.provers
   provers-number =
-      let a = no_longer new (map f m.provers) (rises-distinct 0 new (ids-rise _ 0 n)) (λ w h. (ids-in (λ u. among u (map f m.provers)) 0 n w h).1) in
+      let a = no_longer new (map f m.provers) (rises-distinct 0 new (ids-rise _ 0 n)) (λ w h. (ids-in (λ u. member u (map f m.provers)) 0 n w h).1) in
       let d = distinct-map f (appearing m) m.provers c.injective prover-appears
       (rises-distinct 0 m.provers (rising-rises m.provers l.provers-rise)) in
       let b = no_longer (map f m.provers) new d
@@ -273,7 +273,7 @@ module _ (f : ℕ → ℕ) (n : ℕ) (m : ConstraintModule) (l : Lawful m) (c : 
     kept-few = omega (arith, length-map m.kept (relabel_definition f), l.kept-few);
     nodes-few = omega (arith, kept-nodes f m.kept, l.nodes-few);
     publics-below = goes-ids f n m.publics (all_left (Goes f n) m.publics (equalities_ids m.equalities ++ kept_ids m.kept) in-used);
-    provers-below = all-every n new (in_all (λ v. v < n) new (λ v h. omega (arith, (ids-in (λ u. among u (map f m.provers)) 0 n v h).0)));
+    provers-below = all-every n new (in_all (λ v. v < n) new (λ v h. omega (arith, (ids-in (λ u. member u (map f m.provers)) 0 n v h).0)));
     provers-rise = rises-rising 0 new (ids-rise _ 0 n);
     equalities-fit =
         goes-equalities f n m.next m.equalities l.equalities-fit (all_left (Goes f n) (equalities_ids m.equalities) (kept_ids m.kept) in_rest);
@@ -285,9 +285,9 @@ module _ (f : ℕ → ℕ) (n : ℕ) (m : ConstraintModule) (l : Lawful m) (c : 
   -- ---- and back
 
   module _ (g : ℕ → ℕ) (back : All (λ v. g (f v) ≡ v) (appearing m)) where
-    back_in : (v : ℕ) → among v (map g new) ≡ among v m.provers
+    back_in : (v : ℕ) → member v (map g new) ≡ member v m.provers
     back_in v =
-        either_way (among v (map g new)) (among v m.provers)
+        either_way (member v (map g new)) (member v m.provers)
         (λ h.
         let r = map-in g v new h in
         let s = new-prover r.0 r.1 in
@@ -297,9 +297,9 @@ module _ (f : ℕ → ℕ) (n : ℕ) (m : ConstraintModule) (l : Lawful m) (c : 
         subst (λ (u : ℕ). In u (map g new)) (all_in (λ u. g (f u) ≡ u) (appearing m) back v (prover-appears v h))
         (in_map g (f v) new (prover-new v h)))
 
-    back-provers : ids_from (λ v. among v (map g new)) 0 m.next ≡ m.provers
+    back-provers : ids_from (λ v. member v (map g new)) 0 m.next ≡ m.provers
     back-provers =
-        ids-same (λ v. among v (map g new)) (λ v. among v m.provers) 0 m.next (λ v _ _. back_in v)
+        ids-same (λ v. member v (map g new)) (λ v. member v m.provers) 0 m.next (λ v _ _. back_in v)
         ∙ ids-of-rising m.provers 0 m.next (rising-rises m.provers l.provers-rise)
         (λ v h. omega (arith, all_in (λ u. u < m.next) m.provers (every-all m.next m.provers l.provers-below) v h))
 
@@ -324,8 +324,8 @@ relabelled-fixed f m l h =
     let q = same-all-equalities f own m h ∙ own-equalities m.equalities in
     let k = same-all-kept f own m h ∙ own-kept m.kept in
     let e : map f m.provers ≡ m.provers = same-provers f own m h ∙ own-ids m.provers in
-    let r : ids_from (λ v. among v (map f m.provers)) 0 m.next ≡ m.provers =
-    ap (λ (ps : List ℕ). ids_from (λ v. among v ps) 0 m.next) e
+    let r : ids_from (λ v. member v (map f m.provers)) 0 m.next ≡ m.provers =
+    ap (λ (ps : List ℕ). ids_from (λ v. member v ps) 0 m.next) e
     ∙ ids-of-rising m.provers 0 m.next (rising-rises m.provers l.provers-rise)
     (λ v g. omega (arith, all_in (λ u. u < m.next) m.provers (every-all m.next m.provers l.provers-below) v g)) in
     λ i. record { next = m.next; publics = p i; provers = r i; equalities = q i; kept = k i }

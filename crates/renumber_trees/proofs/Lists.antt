@@ -11,7 +11,7 @@ use Rattle.flat.specs.Record.{pick}
 use Rattle.flat.specs.Rules.{All}
 use Rattle.marks.proofs.Indices.{and_left, and_right}
 use Rattle.season_trees.proofs.Tests.{not-both}
-use Rattle.constraint_check.specs.Record.{among}
+use Rattle.constraint.specs.Numbers.{member}
 use Rattle.renumber_trees.specs.Renumber.{distinct}
 
 -- ---- tests
@@ -56,37 +56,37 @@ is-not false h = refl
 -- ---- membership
 
 abbrev pub In : ℕ → List ℕ → Type 0
-In v xs = among v xs ≡ true
+In v xs = member v xs ≡ true
 
 pub in_head : (v : ℕ) (xs : List ℕ) → In v (v ∷ xs)
-unfolding among
-in_head v xs = or_left (eqb v v) (among v xs) (eq-eqb v v refl)
+unfolding member
+in_head v xs = or_left (eqb v v) (member v xs) (eq-eqb v v refl)
 
 pub in_tail : (v x : ℕ) (xs : List ℕ) → In v xs → In v (x ∷ xs)
-unfolding among
-in_tail v x xs h = or_right (eqb v x) (among v xs) h
+unfolding member
+in_tail v x xs h = or_right (eqb v x) (member v xs) h
 
 pub in-cases : {A : Type 0} (v x : ℕ) (xs : List ℕ) → In v (x ∷ xs) → (v ≡ x → A) → (In v xs → A) → A
-unfolding among
-in-cases v x xs h f g = or_cases (eqb v x) (among v xs) h (λ e. f (eqb-true v x e)) g
+unfolding member
+in-cases v x xs h f g = or_cases (eqb v x) (member v xs) h (λ e. f (eqb-true v x e)) g
 
 pub in-none : {A : Type 0} (v : ℕ) → In v [] → A
-unfolding among
+unfolding member
 in-none v h = absurd (not-both refl h)
 
-pub among-append : (v : ℕ) (xs ys : List ℕ) → among v (xs ++ ys) ≡ (among v xs || among v ys)
-unfolding among
+pub among-append : (v : ℕ) (xs ys : List ℕ) → member v (xs ++ ys) ≡ (member v xs || member v ys)
+unfolding member
 among-append v [] ys = refl
-among-append v (x ∷ xs) ys = ap (λ (t : Bool). eqb v x || t) (among-append v xs ys) ∙ sym (or_assoc (eqb v x) (among v xs) (among v ys))
+among-append v (x ∷ xs) ys = ap (λ (t : Bool). eqb v x || t) (among-append v xs ys) ∙ sym (or_assoc (eqb v x) (member v xs) (member v ys))
 
 pub in_left : (v : ℕ) (xs ys : List ℕ) → In v xs → In v (xs ++ ys)
-in_left v xs ys h = among-append v xs ys ∙ or_left (among v xs) (among v ys) h
+in_left v xs ys h = among-append v xs ys ∙ or_left (member v xs) (member v ys) h
 
 pub in_right : (v : ℕ) (xs ys : List ℕ) → In v ys → In v (xs ++ ys)
-in_right v xs ys h = among-append v xs ys ∙ or_right (among v xs) (among v ys) h
+in_right v xs ys h = among-append v xs ys ∙ or_right (member v xs) (member v ys) h
 
 pub in-append : {A : Type 0} (v : ℕ) (xs ys : List ℕ) → In v (xs ++ ys) → (In v xs → A) → (In v ys → A) → A
-in-append v xs ys h f g = or_cases (among v xs) (among v ys) (sym (among-append v xs ys) ∙ h) f g
+in-append v xs ys h f g = or_cases (member v xs) (member v ys) (sym (among-append v xs ys) ∙ h) f g
 
 pub in_map : (f : ℕ → ℕ) (v : ℕ) (xs : List ℕ) → In v xs → In (f v) (map f xs)
 in_map f v [] h = in-none v h
@@ -124,30 +124,30 @@ all_right Q (x ∷ xs) ys h = all_right Q xs ys h.1
 
 -- ---- distinct lists
 
-pub distinct_head : (x : ℕ) (xs : List ℕ) → distinct (x ∷ xs) ≡ true → among x xs ≡ false
+pub distinct_head : (x : ℕ) (xs : List ℕ) → distinct (x ∷ xs) ≡ true → member x xs ≡ false
 unfolding distinct
-distinct_head x xs h = was-not (among x xs) (and_left (not (among x xs)) (distinct xs) h)
+distinct_head x xs h = was-not (member x xs) (and_left (not (member x xs)) (distinct xs) h)
 
 pub distinct_tail : (x : ℕ) (xs : List ℕ) → distinct (x ∷ xs) ≡ true → distinct xs ≡ true
 unfolding distinct
-distinct_tail x xs h = and_right (not (among x xs)) (distinct xs) h
+distinct_tail x xs h = and_right (not (member x xs)) (distinct xs) h
 
-pub distinct_cons : (x : ℕ) (xs : List ℕ) → among x xs ≡ false → distinct xs ≡ true → distinct (x ∷ xs) ≡ true
+pub distinct_cons : (x : ℕ) (xs : List ℕ) → member x xs ≡ false → distinct xs ≡ true → distinct (x ∷ xs) ≡ true
 unfolding distinct
-distinct_cons x xs h g = and_both (not (among x xs)) (distinct xs) (is-not (among x xs) h) g
+distinct_cons x xs h g = and_both (not (member x xs)) (distinct xs) (is-not (member x xs) h) g
 
 -- one more at the end
-pub distinct-end : (xs : List ℕ) (v : ℕ) → distinct xs ≡ true → among v xs ≡ false → distinct (xs ++ (v ∷ [])) ≡ true
-unfolding distinct among
+pub distinct-end : (xs : List ℕ) (v : ℕ) → distinct xs ≡ true → member v xs ≡ false → distinct (xs ++ (v ∷ [])) ≡ true
+unfolding distinct member
 distinct-end [] v h n = refl
 distinct-end (x ∷ xs) v h n =
-    distinct_cons x (xs ++ (v ∷ [])) (none (among x (xs ++ (v ∷ []))) refl) (distinct-end xs v (distinct_tail x xs h) (rest (among v xs) refl))
+    distinct_cons x (xs ++ (v ∷ [])) (none (member x (xs ++ (v ∷ []))) refl) (distinct-end xs v (distinct_tail x xs h) (rest (member v xs) refl))
   where
-    rest : (t : Bool) → among v xs ≡ t → among v xs ≡ false
+    rest : (t : Bool) → member v xs ≡ t → member v xs ≡ false
     rest true e = absurd (not-both n (in_tail v x xs e))
     rest false e = e
 
-    none : (t : Bool) → among x (xs ++ (v ∷ [])) ≡ t → among x (xs ++ (v ∷ [])) ≡ false
+    none : (t : Bool) → member x (xs ++ (v ∷ [])) ≡ t → member x (xs ++ (v ∷ [])) ≡ false
     none false e = e
     none true e =
         absurd (in-append x xs (v ∷ []) e (λ m. not-both (distinct_head x xs h) m)
@@ -157,9 +157,9 @@ distinct-end (x ∷ xs) v h n =
 abbrev pub Injective : (ℕ → ℕ) → List ℕ → Type 0
 Injective f zs = (v w : ℕ) → In v zs → In w zs → f v ≡ f w → v ≡ w
 
-pub among-map : (f : ℕ → ℕ) (zs xs : List ℕ) (v : ℕ) → Injective f zs → ((u : ℕ) → In u xs → In u zs) → In v zs → among (f v) (map f xs) ≡ among v xs
+pub among-map : (f : ℕ → ℕ) (zs xs : List ℕ) (v : ℕ) → Injective f zs → ((u : ℕ) → In u xs → In u zs) → In v zs → member (f v) (map f xs) ≡ member v xs
 among-map f zs xs v inj sub h =
-    either_way (among (f v) (map f xs)) (among v xs)
+    either_way (member (f v) (map f xs)) (member v xs)
     (λ m. let r = map-in f (f v) xs m in subst (λ (u : ℕ). In u xs) (sym (inj v r.0 h (sub r.0 r.1) r.2)) r.1)
     (in_map f v xs)
 

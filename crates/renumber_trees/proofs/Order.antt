@@ -6,12 +6,11 @@ use Prim.Native.Nat.{ℕ, zero, suc, ◌+◌, ◌-◌, ◌≤◌, ◌<◌}
 use native.Mathlib.Omega.{arith}
 use lib.ListN.{length, get_or, length-append, length-map, get_or-append}
 use lib.Seq.{ext_get_or, get_or-append-add}
-use Rattle.flat.specs.Record.{pick, rows}
+use Rattle.flat.specs.Record.{rows}
 use Rattle.flat.specs.Rules.{All}
 use Rattle.records.specs.FlatRecord.{IDS}
 use Rattle.constraint.specs.Trees.{ConstraintModule}
-use Rattle.constraint_check.specs.Record.{among}
-use Rattle.season_trees.specs.Values.{ids_from}
+use Rattle.constraint.specs.Numbers.{member, keep_if, ids_from}
 use Rattle.renumber_trees.specs.Ids.{used, appearing, seen, firsts, order, place_in}
 use Rattle.renumber_trees.specs.Renumber.{relabelled, renumbered, table_of, expanded, distinct, Carries}
 use Rattle.renumber_trees.proofs.Lists.{In, in_left, in_map, in-at, in-none, all_in, in_all, no_longer}
@@ -59,10 +58,10 @@ unfolding firsts
 firsts-old xs [] h = refl
 firsts-old xs (v ∷ vs) h = ap (λ (l : List ℕ). firsts l vs) (seen-old xs v h.0) ∙ firsts-old xs vs h.1
 
-pick-append : (b : Bool) (v : ℕ) (xs ys : List ℕ) → pick b (v ∷ (xs ++ ys)) (xs ++ ys) ≡ pick b (v ∷ xs) xs ++ ys
-unfolding pick
-pick-append true v xs ys = refl
-pick-append false v xs ys = refl
+kept-append : (b : Bool) (v : ℕ) (xs ys : List ℕ) → keep_if b v (xs ++ ys) ≡ keep_if b v xs ++ ys
+unfolding keep_if
+kept-append true v xs ys = refl
+kept-append false v xs ys = refl
 
 ids-append : (t : ℕ → Bool) (a j k : ℕ) → ids_from t a (j + k) ≡ ids_from t a j ++ ids_from t (a + j) k
 unfolding ids_from
@@ -74,19 +73,19 @@ ids-append t a (suc j) k =
     let e : suc j + k ≡ suc (j + k) = omega arith in
     let f : suc a + j ≡ a + suc j = omega arith in
     ap (ids_from t a) e
-    ∙ ap (λ (l : List ℕ). pick (t a) (a ∷ l) l) (ids-append t (suc a) j k ∙ ap (λ (c : ℕ). ids_from t (suc a) j ++ ids_from t c k) f)
-    ∙ pick-append (t a) a (ids_from t (suc a) j) (ids_from t (a + suc j) k)
+    ∙ ap (keep_if (t a) a) (ids-append t (suc a) j k ∙ ap (λ (c : ℕ). ids_from t (suc a) j ++ ids_from t c k) f)
+    ∙ kept-append (t a) a (ids_from t (suc a) j) (ids_from t (a + suc j) k)
 
-not-in-upto : (n : ℕ) → among n (upto n) ≡ false
-not-in-upto n = go (among n (upto n)) refl
+not-in-upto : (n : ℕ) → member n (upto n) ≡ false
+not-in-upto n = go (member n (upto n)) refl
   where
-    go : (t : Bool) → among n (upto n) ≡ t → among n (upto n) ≡ false
+    go : (t : Bool) → member n (upto n) ≡ t → member n (upto n) ≡ false
     go false e = e
     go true e = absurd (let l = upto-below n n e in omega arith)
 
 -- ids that are all new
 firsts-new : (t : ℕ → Bool) (k r : ℕ) → ((v : ℕ) → k ≤ v → v < k + r → t v ≡ true) → firsts (upto k) (ids_from t k r) ≡ upto (k + r)
-unfolding firsts ids_from pick
+unfolding firsts ids_from keep_if
 firsts-new t k zero h = let e : k ≡ k + 0 = omega arith in ap upto e
 firsts-new t k (suc r) h =
     let e : k + 1 ≡ suc k = omega arith in
@@ -194,7 +193,7 @@ module _ (m : ConstraintModule) (l : Lawful m) where
       ∙ places-front front b.0 (ap distinct (sym b.1) ∙ order-distinct m)
 
   abbrev became : ℕ → Bool
-  became v = among v (map (place_in (order m)) m.provers)
+  became v = member v (map (place_in (order m)) m.provers)
 
   -- what appears first as a prover id
   late : (v : ℕ) → length front ≤ v → v < length (order m) → became v ≡ true

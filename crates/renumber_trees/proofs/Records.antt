@@ -30,16 +30,17 @@ use Rattle.constraint.specs.Trees.{Side, ConstraintModule}
 use Rattle.constraint.specs.Record.{constraint_bytes}
 use Rattle.constraint.specs.Reading.{term_at, side_for, equality_at, constraint_of, SignedTerm, SignedSide, SignedEquality, Signed}
 use Rattle.constraint.proofs.Lengths.{words, length-bytes}
-use Rattle.constraint_check.specs.Record.{every, legal, same, Read, constraint_read}
+use Rattle.constraint.specs.Numbers.{ids_from}
+use Rattle.constraint_check.specs.Record.{Bytes, every_of, legal, same_bytes, Read, constraint_read}
 use Rattle.constraint_check.proofs.OneToOne.{accepted-is-legal, legal-is-accepted}
-use Rattle.season_trees.specs.Values.{appears, ids_from}
+use Rattle.season_trees.specs.Values.{appears}
 use Rattle.renumber_trees.specs.declared.Lengths.{Lengths}
 use Rattle.renumber_trees.specs.Ids.{order, place_in, appearing}
 use Rattle.renumber_trees.specs.Renumber.{relabelled, renumbered, table_of, expanded, distinct, relabel_equality, relabel_definition, Carries}
 use Rattle.renumber_trees.specs.Bytes.{Renumbered, renumbered_for, renumber_of, room_for, lengths, renumber_answer}
 use Rattle.renumber_trees.specs.Bytes.{record_after, table_after, table_ids, table_fits}
 use Rattle.renumber_trees.specs.Bytes.{expanded_for, expand_of, expand_answer, output_after}
-use Rattle.renumber_trees.specs.Statements.{Bytes, ExpandReturns, RenumbersAccepted, TwiceIsOnce, RenumberedIsRead, ExpandedIsRead, bare, OnlyIdsChange}
+use Rattle.renumber_trees.specs.Statements.{ExpandReturns, RenumbersAccepted, TwiceIsOnce, RenumberedIsRead, ExpandedIsRead, bare, OnlyIdsChange}
 use Rattle.renumber_trees.specs.Statements.{LongRefused, LongestBoth, LongTableRefused, LongestExpanded}
 use Rattle.renumber_trees.proofs.Lists.{In, in-at, in_all, all_in, and_both}
 use Rattle.renumber_trees.proofs.Firsts.{place_at}
@@ -198,7 +199,7 @@ table-fits m l =
     let ids = table-read m.next (order m) in
     and_both _ _ (eq-eqb (length t) (4 * (length (order m) + 1)) (omega (arith, length-bytes_of (m.next ∷ order m))))
     (and_both _ _ (le-leb (word_at t 0) 65536 (omega (arith, l.next_small)))
-    (and_both (every (λ v. ltb v (word_at t 0)) (table_ids t (length (order m)))) (distinct (table_ids t (length (order m))))
+    (and_both (every_of (λ v. ltb v (word_at t 0)) (table_ids t (length (order m)))) (distinct (table_ids t (length (order m))))
     (rw (ids, e) (all-every m.next (order m) (order_below m l))) (rw ids (order-distinct m))))
 
 next_of : (m : ConstraintModule) → (renumbered m).next ≡ length (order m)
@@ -280,10 +281,10 @@ module _ (b out table room : List ℕ) (l : Lengths) (bytes : Bytes b) (enough :
       let m = w.original in
       let t = taken b bytes m w.is-original in
       let r = roomy c ws (length out) (length table) l h in
-      let same : expand_of (constraint_bytes c) (bytes_of ws) ≡ Read.module-of m =
+      let same_bytes : expand_of (constraint_bytes c) (bytes_of ws) ≡ Read.module-of m =
       ap₂ (λ (d : ConstraintModule) (xs : List ℕ). expand_of (constraint_bytes d) (bytes_of xs)) (sym w.record_is) (sym w.table_is)
       ∙ expand-back b bytes m t in
-      rw (record-front c ws out (length table) l r, table-front c ws table (length out) l r, same)
+      rw (record-front c ws out (length table) l r, table-front c ws table (length out) l r, same_bytes)
       (expanded-written m room b t.bytes-are enough)
 
   of-any : (r : Renumbered) → renumber_of b ≡ r → renumber_answer (length out) (length table) r ≡ Ok l → Returns r
@@ -311,8 +312,8 @@ module _ (t : List ℕ) (n : ℕ) (h : table_fits t n ≡ true) where
       record {
         long = eqb-true _ _ (and_left (eqb (length t) (4 * (n + 1))) _ h);
         next_small = leb-true _ _ (and_left (leb (word_at t 0) 65536) _ h1);
-        below = every-all (word_at t 0) (table_ids t n) (and_left (every (λ v. ltb v (word_at t 0)) (table_ids t n)) _ h2);
-        no-repeat = and_right (every (λ v. ltb v (word_at t 0)) (table_ids t n)) _ h2;
+        below = every-all (word_at t 0) (table_ids t n) (and_left (every_of (λ v. ltb v (word_at t 0)) (table_ids t n)) _ h2);
+        no-repeat = and_right (every_of (λ v. ltb v (word_at t 0)) (table_ids t n)) _ h2;
       }
 
 -- the entries of a table that fits carry a module's ids
@@ -402,9 +403,9 @@ read-long b m e = omega (arith, lawful-long m (read-lawful b m e), ap length (ac
 
 pub long-refused : LongRefused
 unfolding constraint_read pick
-long-refused b long = go (legal (constraint_of b) && same b (constraint_bytes (constraint_of b))) refl
+long-refused b long = go (legal (constraint_of b) && same_bytes b (constraint_bytes (constraint_of b))) refl
   where
-    go : (t : Bool) → (legal (constraint_of b) && same b (constraint_bytes (constraint_of b))) ≡ t → constraint_read b ≡ Read.refused Refusal.ConstraintRecord
+    go : (t : Bool) → (legal (constraint_of b) && same_bytes b (constraint_bytes (constraint_of b))) ≡ t → constraint_read b ≡ Read.refused Refusal.ConstraintRecord
     go false h = rw h
     go true h = absurd (let z = read-long b (constraint_of b) (rw h) in omega arith)
 

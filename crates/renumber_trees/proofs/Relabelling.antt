@@ -8,8 +8,7 @@ use Rattle.flat.specs.Writer.{SignedTree}
 use Rattle.constraint.specs.declared.Term.{Term}
 use Rattle.constraint.specs.Trees.{Side, Equality, ConstraintModule}
 use Rattle.constraint.specs.Reading.{SignedTerm, SignedSide, SignedEquality, Signed}
-use Rattle.constraint_check.specs.Record.{among}
-use Rattle.season_trees.specs.Values.{ids_from}
+use Rattle.constraint.specs.Numbers.{member, ids_from}
 use Rattle.renumber_trees.specs.Ids.{term_ids, side_ids, equalities_ids, leaves, kept_ids, used, appearing}
 use Rattle.renumber_trees.specs.Renumber.{relabel_term, relabel_side, relabel_equality, relabel_tree, relabel_definition, relabelled}
 use Rattle.renumber_trees.proofs.Lists.{all_left, all_right}
@@ -91,7 +90,7 @@ module _ (f g : ℕ → ℕ) where
     relabelled-same n = λ i. record {
       next = n;
       publics = same-publics i;
-      provers = ids_from (λ v. among v (same-provers i)) 0 n;
+      provers = ids_from (λ v. member v (same-provers i)) 0 n;
       equalities = same-all-equalities i;
       kept = same-all-kept i;
     }

@@ -1,16 +1,24 @@
 -- The answers on bytes: 42, then 47, then 33. `b` is the list of a record's bytes, `t` that of a table's.
-use Rattle.std.specs.Prelude.{Bool, ◌&&◌, List, ◌++◌, ℕ, ◌+◌, ◌*◌, eqb, leb, ltb, length, drop, Result, Ok, Err}
+use Rattle.std.specs.Prelude.{Bool, ◌&&◌, List, ◌++◌, ℕ, ◌+◌, ◌*◌, eqb, leb, ltb, length, drop, replicate, Result, Ok, Err}
 use Rattle.words.specs.Words.{word_at, bytes_of}
 use Rattle.flat.specs.Record.{pick, rows}
 use Rattle.records.specs.declared.refusals.Refusal.{Refusal}
 use Rattle.records.specs.FlatRecord.{IDS}
 use Rattle.constraint.specs.Trees.{ConstraintModule}
 use Rattle.constraint.specs.Record.{constraint_bytes}
-use Rattle.constraint_check.specs.Record.{every, Read, constraint_read}
+use Rattle.constraint_check.specs.Record.{every_of, Read, constraint_read}
 use Rattle.renumber_trees.specs.declared.Lengths.{Lengths}
 use Rattle.renumber_trees.specs.Renumber.{renumbered, table_of, expanded, distinct}
 
 -- ---- renumber
+
+-- the longest side table: the old next id and 65,536 ids
+abbrev pub TABLE-BYTES : ℕ
+TABLE-BYTES = 262148
+
+-- so many zeros
+unfoldable pub table_buffer : List ℕ
+table_buffer = replicate TABLE-BYTES 0
 
 -- the record and the words of its side table
 pub data Renumbered : Type 0 where
@@ -40,7 +48,7 @@ unfoldable pub renumber_answer : ℕ → ℕ → Renumbered → Result Lengths R
 renumber_answer room table_room (Renumbered.made m ws) = pick (room_for m ws room table_room) (Ok (lengths m ws)) (Err Refusal.Output)
 renumber_answer room table_room (Renumbered.refused r) = Err r
 
--- "neither touched" where one of them is too short
+-- both stay as they were where one of them is too short
 unfoldable pub record_after : List ℕ → ℕ → Renumbered → List ℕ
 record_after out table_room (Renumbered.made m ws) = pick (room_for m ws (length out) table_room) (front (constraint_bytes m) out) out
 record_after out table_room (Renumbered.refused r) = out
@@ -60,7 +68,7 @@ unfoldable pub table_fits : List ℕ → ℕ → Bool
 table_fits t n =
     eqb (length t) (4 * (n + 1))
     && (leb (word_at t 0) IDS
-    && (every (λ v. ltb v (word_at t 0)) (table_ids t n)
+    && (every_of (λ v. ltb v (word_at t 0)) (table_ids t n)
     && distinct (table_ids t n)))
 
 unfoldable pub expanded_for : List ℕ → Read → Read

@@ -5,7 +5,7 @@ use Rattle.flat.specs.Trees.{Flat, Definition}
 use Rattle.flat.specs.Record.{pick}
 use Rattle.constraint.specs.declared.Term.{Term}
 use Rattle.constraint.specs.Trees.{Side, Equality, ConstraintModule}
-use Rattle.constraint_check.specs.Record.{among}
+use Rattle.constraint.specs.Numbers.{member}
 
 -- ---- every appearance
 
@@ -46,7 +46,7 @@ appearing m = used m ++ m.provers
 
 -- an id behind those that were seen, if it is new
 unfoldable pub seen : List ℕ → ℕ → List ℕ
-seen xs v = pick (among v xs) xs (xs ++ (v ∷ []))
+seen xs v = pick (member v xs) xs (xs ++ (v ∷ []))
 
 unfoldable pub firsts : List ℕ → List ℕ → List ℕ
 firsts xs [] = xs

@@ -4,8 +4,7 @@ use Rattle.flat.specs.Trees.{Flat, Definition}
 use Rattle.flat.specs.Rules.{All}
 use Rattle.constraint.specs.declared.Term.{Term}
 use Rattle.constraint.specs.Trees.{Side, Equality, ConstraintModule}
-use Rattle.constraint_check.specs.Record.{among}
-use Rattle.season_trees.specs.Values.{ids_from}
+use Rattle.constraint.specs.Numbers.{member, ids_from}
 use Rattle.renumber_trees.specs.Ids.{appearing, order, place_in}
 
 -- ---- each id v becomes f v; place words, constants and the order of the lists stay
@@ -37,7 +36,7 @@ unfoldable pub relabelled : (ℕ → ℕ) → ℕ → ConstraintModule → Const
 relabelled f next m = record {
   next = next;
   publics = map f m.publics;
-  provers = ids_from (λ v. among v (map f m.provers)) 0 next;
+  provers = ids_from (λ v. member v (map f m.provers)) 0 next;
   equalities = map (relabel_equality f) m.equalities;
   kept = map (relabel_definition f) m.kept;
 }
@@ -59,9 +58,9 @@ expanded next ids m = relabelled (λ i. get_or ids i 0) next m
 -- no id is repeated
 unfoldable pub distinct : List ℕ → Bool
 distinct [] = true
-distinct (x ∷ xs) = not (among x xs) && distinct xs
+distinct (x ∷ xs) = not (member x xs) && distinct xs
 
 -- what appears goes below n, and different ids stay different
 pub record Carries (f : ℕ → ℕ) (n : ℕ) (m : ConstraintModule) : Type 0 where
   pub below : All (λ v. f v < n) (appearing m)
-  pub injective : (v w : ℕ) → among v (appearing m) ≡ true → among w (appearing m) ≡ true → f v ≡ f w → v ≡ w
+  pub injective : (v w : ℕ) → member v (appearing m) ≡ true → member w (appearing m) ≡ true → f v ≡ f w → v ≡ w

@@ -5,17 +5,14 @@ use Rattle.flat.specs.Record.{rows}
 use Rattle.records.specs.declared.refusals.Refusal.{Refusal}
 use Rattle.constraint.specs.Trees.{ConstraintModule}
 use Rattle.constraint.specs.Record.{constraint_bytes}
-use Rattle.constraint_check.specs.Record.{legal, Read, constraint_read}
+use Rattle.constraint_check.specs.Record.{RECORD-BYTES, Bytes, legal, Read, constraint_read}
 use Rattle.season_trees.specs.Values.{appears, inputs_of, given}
 use Rattle.season_trees.specs.Count.{Calibration, fulfils, report}
 use Rattle.season_trees.specs.Season.{in_range}
 use Rattle.renumber_trees.specs.declared.Lengths.{Lengths}
 use Rattle.renumber_trees.specs.Ids.{order}
 use Rattle.renumber_trees.specs.Renumber.{relabelled, renumbered}
-use Rattle.renumber_trees.specs.Bytes.{Renumbered, renumber_of, renumber_answer, record_after, table_after, expand_of, expand_answer, output_after}
-
-abbrev pub Bytes : List ℕ → Type 0
-Bytes b = (k : ℕ) → get_or b k 0 < 256
+use Rattle.renumber_trees.specs.Bytes.{TABLE-BYTES, Renumbered, renumber_of, renumber_answer, record_after, table_after, expand_of, expand_answer, output_after}
 
 -- "EXPANDING RECORD AND TABLE RETURNS THE ORIGINAL BYTES": what `renumber` wrote, given to `expand` with room for the record
 abbrev pub ExpandReturns : Type 0
@@ -58,16 +55,10 @@ ExpandedIsRead =
     (b t : List ℕ) (m : ConstraintModule) → Bytes b → expand_of b t ≡ Read.module-of m → constraint_read (constraint_bytes m) ≡ Read.module-of m
 
 -- NO RECORD IS LONGER than 868,632 bytes: more bytes are refused, as the first 868,633 of them are
-abbrev pub RECORD-BYTES : ℕ
-RECORD-BYTES = 868632
-
 abbrev pub LongRefused : Type 0
 LongRefused = (b : List ℕ) → RECORD-BYTES < length b → constraint_read b ≡ Read.refused Refusal.ConstraintRecord
 
 -- nor is a renumbered one, and its table no longer than 262,148
-abbrev pub TABLE-BYTES : ℕ
-TABLE-BYTES = 262148
-
 abbrev pub LongestBoth : Type 0
 LongestBoth =
     (b ws : List ℕ) (m : ConstraintModule) →

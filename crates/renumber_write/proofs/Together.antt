@@ -25,9 +25,9 @@ use Rattle.constraint.specs.Reading.{publics, provers, equalities, kept, nodes, 
 use Rattle.constraint.specs.Reading.{size, equality_at, constraint_of}
 use Rattle.constraint.proofs.Lengths.{length-equalities}
 use Rattle.constraint.proofs.ReadBack.{kept-count, nodes-count, kept-placed, nodes-placed}
+use Rattle.constraint_check.specs.Record.{Bytes}
 use Rattle.constraint_check.specs.Tests.{tests}
 use Rattle.constraint_check.proofs.Accepted.{tested, own-bytes, is-legal}
-use Rattle.season_values.specs.Record.{Bytes}
 use Rattle.season_values.proofs.Entries.{node-below}
 use Rattle.renumber_trees.specs.Ids.{used, appearing}
 use Rattle.renumber_trees.specs.Renumber.{relabel_definition, relabel_equality, relabelled, Carries}

@@ -8,16 +8,15 @@ use lib.ListN.{length, get_or, length-append}
 use borrow.Author.Tests.{lt-ltb}
 use Rattle.words.specs.Words.{set_word, set_words}
 use Rattle.words.proofs.Laws.{length-set_words, set_words-append}
-use Rattle.flat.specs.Record.{pick, rows}
+use Rattle.flat.specs.Record.{rows}
 use Rattle.flat.proofs.Rows.{rows-first}
 use Rattle.records.specs.FlatRecord.{IDS}
 use Rattle.constraint.specs.declared.Equality.{Equality as Written}
 use Rattle.constraint.specs.Trees.{Side, operation, first, second, written_of}
 use Rattle.constraint.specs.Record.{written_words, equality_words, equalities_words}
 use Rattle.constraint.specs.Reading.{equality_at, written_at, place_at}
-use Rattle.constraint_check.specs.Record.{among}
+use Rattle.constraint.specs.Numbers.{member, keep_if, ids_from}
 use Rattle.constraint_check.specs.Arrays.{marked_in, Marked}
-use Rattle.season_trees.specs.Values.{ids_from}
 use Rattle.renumber_trees.specs.Renumber.{relabel_term, relabel_side, relabel_equality}
 use Rattle.renumber_trees.proofs.RisingIds.{ids-same}
 use Rattle.renumber_order.proofs.Walking.{Walk}
@@ -118,36 +117,36 @@ module _ (a : List Bool) (next : ℕ) where
   marks-end v l i = write-ends (left v) i (no-left v l)
 
   module _ (small : next ≤ IDS) where
-    next-left : (v : ℕ) → v < next → left v ≡ pick (get_or a v false) (v ∷ left (v + 1)) (left (v + 1))
+    next-left : (v : ℕ) → v < next → left v ≡ keep_if (get_or a v false) v (left (v + 1))
     unfolding left ids_from marked_in
     next-left v l =
         let e : next - v ≡ suc (next - (v + 1)) = omega arith in
         let f : suc v ≡ v + 1 = omega arith in
         let t : marked_in a v ≡ get_or a v false = ap (λ (s : Bool). s && get_or a v false) (lt-ltb v IDS (omega arith)) in
         ap (ids_from (marked_in a) v) e
-        ∙ ap (λ (j : ℕ). pick (marked_in a v) (v ∷ ids_from (marked_in a) j (next - (v + 1))) (ids_from (marked_in a) j (next - (v + 1)))) f
-        ∙ ap (λ (s : Bool). pick s (v ∷ ids_from (marked_in a) (v + 1) (next - (v + 1))) (ids_from (marked_in a) (v + 1) (next - (v + 1)))) t
+        ∙ ap (λ (j : ℕ). keep_if (marked_in a v) v (ids_from (marked_in a) j (next - (v + 1)))) f
+        ∙ ap (λ (s : Bool). keep_if s v (ids_from (marked_in a) (v + 1) (next - (v + 1)))) t
 
     module _ {out₀ out : List ℕ} {at₀ at : ℕ} (v : ℕ) (l : v < next) (i : MarkedTo out₀ at₀ out at v) where
       -- there is room for a marked id
       pub mark-room : get_or a v false ≡ true → at + 1 ≤ at₀ + length (ids_from (marked_in a) 0 next)
-      unfolding pick
-      mark-room e = omega (arith, i.ends, ap length (next-left v l ∙ ap (λ (s : Bool). pick s (v ∷ left (v + 1)) (left (v + 1))) e))
+      unfolding keep_if
+      mark-room e = omega (arith, i.ends, ap length (next-left v l ∙ ap (λ (s : Bool). keep_if s v (left (v + 1))) e))
 
       pub mark-on : {out' : List ℕ} {at' : ℕ} → get_or a v false ≡ true → out' ≡ set_word out at v → at' ≡ at + 1 → MarkedTo out₀ at₀ out' at' (v + 1)
-      unfolding pick
+      unfolding keep_if
       mark-on e h p =
-          write-on (left v) (v ∷ []) (left (v + 1)) i (next-left v l ∙ ap (λ (s : Bool). pick s (v ∷ left (v + 1)) (left (v + 1))) e)
+          write-on (left v) (v ∷ []) (left (v + 1)) i (next-left v l ∙ ap (λ (s : Bool). keep_if s v (left (v + 1))) e)
           (one_word out at v h) (omega (arith, p))
 
       pub mark-none : {out' : List ℕ} {at' : ℕ} → get_or a v false ≡ false → out' ≡ out → at' ≡ at → MarkedTo out₀ at₀ out' at' (v + 1)
-      unfolding pick set_words
+      unfolding keep_if set_words
       mark-none e h p =
-          write-on (left v) [] (left (v + 1)) i (next-left v l ∙ ap (λ (s : Bool). pick s (v ∷ left (v + 1)) (left (v + 1))) e) h (omega (arith, p))
+          write-on (left v) [] (left (v + 1)) i (next-left v l ∙ ap (λ (s : Bool). keep_if s v (left (v + 1))) e) h (omega (arith, p))
 
 -- marks that say what is in a list
-pub marked-is : (a : List Bool) (ids : List ℕ) (next : ℕ) → Marked a ids → ids_from (marked_in a) 0 next ≡ ids_from (λ v. among v ids) 0 next
-marked-is a ids next h = ids-same (marked_in a) (λ v. among v ids) 0 next (λ v _ _. h.marks v)
+pub marked-is : (a : List Bool) (ids : List ℕ) (next : ℕ) → Marked a ids → ids_from (marked_in a) 0 next ≡ ids_from (λ v. member v ids) 0 next
+marked-is a ids next h = ids-same (marked_in a) (λ v. member v ids) 0 next (λ v _ _. h.marks v)
 
 -- ---- equalities
 

@@ -3,9 +3,8 @@ ghost use Rattle.std.specs.Prelude.{map, true, ◌≡◌, ◌+◌, ◌*◌, ◌�
 ghost use Rattle.words.specs.Words.{set_words};
 ghost use Rattle.records.specs.FlatRecord.{HEADER, IDS};
 ghost use Rattle.constraint.specs.Reading.{size, provers_offset, constraint_of};
-ghost use Rattle.constraint_check.specs.Record.{among};
+ghost use Rattle.constraint.specs.Numbers.{member, ids_from};
 ghost use Rattle.constraint_check.specs.Arrays.{marked_in, Marked};
-ghost use Rattle.season_trees.specs.Values.{ids_from};
 ghost use Rattle.renumber_trees.specs.Renumber.{relabelled, Carries};
 ghost use Rattle.renumber_write.specs.Written.{lookup};
 

@@ -1,9 +1,8 @@
 -- The module of a reading is plain: no name is fresh, iter or fold, and `=` stands at the top only. Assumes nothing.
-use mathlib.Core.Path.{◌≡◌, refl, sym, ap, ap₂, ◌∙◌}
+use mathlib.Core.Path.{◌≡◌, refl, sym, ap₂, ◌∙◌}
 use mathlib.Core.List.{List, [], ◌∷◌, ◌++◌}
-use mathlib.Core.Bool.{Bool, true, false, not, ◌&&◌, ◌||◌, cond}
+use mathlib.Core.Bool.{Bool, true, false, not, ◌&&◌, ◌||◌}
 use Prim.Native.Nat.{ℕ, suc}
-use native.Mathlib.Omega.{arith}
 use lib.Dec.{leb, eqb}
 use lib.ListN.{length}
 use borrow.Author.Tests.{eq-eqb, ne_eqb, eqb-true, eqb-false}
@@ -20,9 +19,9 @@ use Rattle.plain.specs.Plain.{is_equal, is_arithmetic, is_free, is_plain_name, i
 use Rattle.plain.specs.Plain.{are_plain_definitions, are_plain_equations, is_plain_body, is_plain}
 use Rattle.rule_trees.specs.Tokens.{same_text, typed, starts_lower, is_reserved, is_name}
 use Rattle.rule_trees.specs.Grammar.{Tree, variable, constant, negate, binary, Statement, definition, equation}
-use Rattle.rule_trees.specs.Record.{names_in, occurring, names_of, index_of, expr_of, definitions_of, equation_of, equations_of, module_of}
+use Rattle.rule_trees.specs.Record.{names_in, occurring, names_of, expr_of, definitions_of, equation_of, equations_of, module_of}
 use Rattle.rule_trees.specs.Print.{PrintableName, PrintableTree, Printable}
-use Rattle.rule_trees.proofs.Facts.{false-true, not-true-is}
+use Rattle.rule_trees.proofs.Facts.{false-true}
 use Rattle.rule_trees.proofs.Prefixes.{both_true}
 use Rattle.rule_trees.proofs.Names.{all_once}
 use Rattle.rule_trees.proofs.Fitting.{read-printable, append-all}

@@ -1,4 +1,4 @@
--- Demand 3, from the text on: a text of rules and the equalities of its module say the same. For a reader with document 02, request (ii), beside it.
+-- From the text on: a text of rules and the equalities of its module say the same. For a reader with docs/RECORDS.md, "Rules as text", beside it.
 use Rattle.std.specs.Prelude.{◌≡◌, true, List, ℕ, ℤ, Ok}
 use Rattle.field.specs.Prime.{P}
 use Rattle.field.specs.Element.{elem}

@@ -9,13 +9,13 @@ use Rattle.field.specs.Operators.{operator_number}
 use Rattle.records.specs.Kinds.{INFIX, NEGATE, VARIABLE}
 use Rattle.field.specs.declared.InfixOp.{InfixOp}
 use Rattle.rule_build.specs.declared.pieces.Piece.{Piece}
-use Rattle.records.specs.SourceRecord.{DEFINITIONS, EXPRESSIONS}
 use Rattle.rule_build.specs.declared.pieces.Position.{Position}
 use Rattle.rule_build.specs.declared.pieces.Waiting.{Waiting}
 use Rattle.rule_build.specs.declared.desk.Frame.{Frame}
 use Rattle.rule_build.specs.declared.desk.Desk.{Desk}
 use Rattle.rule_build.specs.Pieces.{place_behind, level_of}
-use Rattle.rule_build.specs.Steps.{ROOM, Roomy, entry, last_node, with_node, with_frame, operated, named, equalled, signed, stepped_at, stepped, with_frames, applied, reduced_by, reduced, closed_by, finished, ended_by}
+use Rattle.rule_build.specs.Steps.{ROOM, Roomy, entry, last_node, with_node, with_frame, operated, named, equalled}
+use Rattle.rule_build.specs.Steps.{signed, stepped_at, stepped, with_frames, applied, reduced_by, reduced, closed_by, finished, ended_by}
 
 pub newest : {A : Type 0} (xs : List A) (x : A) → reverse (xs ++ (x ∷ [])) ≡ x ∷ reverse xs
 newest xs x = reverse-append xs (x ∷ [])
@@ -203,6 +203,7 @@ signed-sign Position.BehindDef d h = refl
 signed-sign Position.BehindName d h = refl
 signed-sign Position.HasOperand d h = absurd (h refl)
 
-pub step-is : (d r : Desk) (p : Position) (t u : Piece) → p ≡ place_behind d.place t → t ≡ u → r ≡ stepped_at d.place u (record d { place = p }) → r ≡ stepped t d
+pub step-is : (d r : Desk) (p : Position) (t u : Piece) → p ≡ place_behind d.place t → t ≡ u → r ≡ stepped_at d.place u (record d { place = p })
+    → r ≡ stepped t d
 unfolding stepped
 step-is d r p t u b e h = h ∙ ap₂ (λ (x : Piece) (q : Position). stepped_at d.place x (record d { place = q })) (sym e) b

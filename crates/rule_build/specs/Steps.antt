@@ -9,7 +9,6 @@ use Rattle.rule_build.specs.declared.pieces.Piece.{Piece}
 use Rattle.rule_build.specs.declared.pieces.Position.{Position}
 use Rattle.rule_build.specs.declared.pieces.Waiting.{Waiting}
 use Rattle.rule_build.specs.declared.desk.Frame.{Frame}
-use Rattle.rule_build.specs.declared.desk.Roots.{Roots}
 use Rattle.rule_build.specs.declared.desk.Desk.{Desk}
 use Rattle.rule_build.specs.Pieces.{place_behind, level_of, limit_of}
 

@@ -1,6 +1,7 @@
 // The nodes so far, the stack of frames, the roots of the statements that are done, and what one token does to them.
 ghost use Rattle.std.specs.Prelude.{◌≡◌, ◌+◌, ◌≤◌, ◌<◌, length};
-ghost use Rattle.rule_build.specs.Steps.{ROOM, Roomy, empty_desk, last_node, with_node, with_frame, applied, reduced, operated, closed, finished, ended, named, equalled, signed, stepped};
+ghost use Rattle.rule_build.specs.Steps.{ROOM, Roomy, empty_desk, last_node, with_node, with_frame, applied, reduced};
+ghost use Rattle.rule_build.specs.Steps.{operated, closed, finished, ended, named, equalled, signed, stepped};
 
 use super::pieces::{Piece, Position, Waiting, limit_of};
 use arrayvec::ArrayVec;

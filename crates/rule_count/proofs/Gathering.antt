@@ -118,7 +118,8 @@ module _ (b : List ℕ) (at : ℕ) (ss : List Span) (g : Reading b at ss) where
     reading-other m =
         let (t, vs, q, f) = more-left b at g.us l h in
         let e : token_names (g.done ++ (t ∷ [])) ≡ token_names g.done =
-        names-append g.done (t ∷ []) ∙ ap (λ (l : List Text). token_names g.done ++ l) (no-names t (λ x. m (f.kind-is ∙ x))) ∙ append-nil (token_names g.done) in
+        names-append g.done (t ∷ []) ∙ ap (λ (l : List Text). token_names g.done ++ l) (no-names t (λ x. m (f.kind-is ∙ x)))
+        ∙ append-nil (token_names g.done) in
         step t vs ss q f (g.gathered.table ∙ ap once (sym e)) g.gathered.within
 
     module _ (e : l.kind ≡ Kind.Name) where

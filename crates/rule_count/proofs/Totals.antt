@@ -101,7 +101,12 @@ module _ (b : List ℕ) (at : ℕ) (c : Counts) (us ts : List Token) (g : Counte
       let n = none-left b at us h in
       let v : ts ≡ vs = (let w : Some ts ≡ Some vs = sym g.all ∙ e in cc) in
       let x : c.nodes ≡ total_of token_nodes vs = omega (arith, g.nodes, ap (total_of token_nodes) n, ap (total_of token_nodes) v) in
-      let y : c.definitions ≡ total_of token_definitions vs = omega (arith, g.definitions, ap (total_of token_definitions) n, ap (total_of token_definitions) v) in
+      let y : c.definitions ≡ total_of token_definitions vs = omega (
+        arith,
+        g.definitions,
+        ap (total_of token_definitions) n,
+        ap (total_of token_definitions) v,
+      ) in
       let z : c.statements ≡ total_of token_statements vs = omega (arith, g.statements, ap (total_of token_statements) n, ap (total_of token_statements) v) in
       let p : counts c.nodes c.definitions c.statements ≡ counts (total_of token_nodes vs) (total_of token_definitions vs)
       (total_of token_statements vs) = cc in

@@ -17,7 +17,7 @@ use Rattle.rule_trees.specs.Grammar.{Statement, Lists}
 use Rattle.rule_trees.specs.Reading.{reading_of}
 use Rattle.rule_trees.specs.Judge.{belongs}
 use Rattle.rule_trees.specs.Record.{once, names_of, definitions_of, equations_of, node_count, record_of, within_limits}
-use Rattle.rule_trees.specs.Rules.{Answer, deepest, DEEPEST, unless, written_in, rules_of, token_names}
+use Rattle.rule_trees.specs.Rules.{deepest, DEEPEST, unless, written_in, answered, rules_of, token_names}
 use Rattle.rule_trees.specs.Prefix.{START, taken}
 use Rattle.rule_trees.proofs.Facts.{false-true}
 use Rattle.rule_trees.proofs.Sound.{statements-read}
@@ -147,13 +147,13 @@ record-long r room h = rw (lt-leb (length r) room h)
 module _ (b : List ℕ) (room : ℕ) where
   -- the scan knows whether there is a reading
   pub outside-refused : (k : Outside) → scan_of b ≡ Err k → rules_of b room ≡ Err OutsideGrammar
-  unfolding scan_of rules_of is_some
+  unfolding scan_of rules_of answered is_some
   outside-refused k e = go (reading_of b) (belongs b) refl (belongs-read b) e
     where
       go : (o : Option (List Statement)) (x : Bool) → reading_of b ≡ o → x ≡ is_some (reading_of b)
           → ◌≡◌ {A = Result ℕ Outside} (cond x (Ok (deepest 0 b)) (Err (outside (taken START b)))) (Err k)
           → rules_of b room ≡ Err OutsideGrammar
-      go None x p q r = ap (λ (o : Option (List Statement)). elim o as (λ _. Answer) [ None ↦ Err OutsideGrammar | Some ps ↦ written_in b room ps ]) p
+      go None x p q r = ap (answered b room) p
       go (Some qs) true p q r = ok-err r
       go (Some qs) false p q r = false-true (q ∙ ap is_some p)
 
@@ -169,9 +169,9 @@ module _ (b : List ℕ) (room : ℕ) where
       go None true p q r = false-true (sym (q ∙ ap is_some p))
 
   module _ (qs : List Statement) (e : reading_of b ≡ Some qs) where
-    rules-read : rules_of b room ≡ written_in b room qs
-    unfolding rules_of
-    rules-read = ap (λ (o : Option (List Statement)). elim o as (λ _. Answer) [ None ↦ Err OutsideGrammar | Some ps ↦ written_in b room ps ]) e
+    pub rules-read : rules_of b room ≡ written_in b room qs
+    unfolding rules_of answered
+    rules-read = ap (answered b room) e
 
     too-deep : DEEPEST < deepest 0 b → written_in b room qs ≡ Err Nesting
     unfolding written_in unless

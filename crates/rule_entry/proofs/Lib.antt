@@ -3,3 +3,4 @@ pub mod Recording
 pub mod Starting
 pub mod Deciding
 pub mod Room
+pub mod Answered

@@ -1,6 +1,8 @@
 -- The parts of a record as they are put, from where the names stand in the text.
 use Rattle.std.specs.Prelude.{List, [], ◌∷◌, ℕ, ◌+◌, ◌*◌, ◌-◌, ◌≤◌, length}
-use Rattle.records.specs.SourceRecord.{NAMES, DEFINITIONS, EXPRESSIONS, NODES, NAME-BYTES}
+use Rattle.records.specs.Kinds.{NODE-WORDS}
+use Rattle.records.specs.SourceRecord.{HEADER, NAMES, DEFINITIONS, EXPRESSIONS, NODES, NAME-BYTES}
+use Rattle.source.specs.Layout.{NAME-WORDS, DEFINITION-WORDS}
 use Rattle.source.specs.Encoding.{All}
 use Rattle.rule_lex.specs.declared.Span.{Span}
 use Rattle.rule_build.specs.declared.desk.Desk.{Desk}
@@ -27,7 +29,8 @@ Short names = All ShortSpan names
 
 -- the words of a record: header, names, roots, nodes
 unfoldable pub word_count : List Span → Desk → ℕ
-word_count names d = 5 + 2 * length names + 2 * length d.definitions.items + length d.equations.items + 4 * length d.nodes.items
+word_count names d =
+    HEADER + NAME-WORDS * length names + DEFINITION-WORDS * length d.definitions.items + length d.equations.items + NODE-WORDS * length d.nodes.items
 
 -- lists that keep the limits of a record
 pub record Few (names : List Span) (d : Desk) : Type 0 where

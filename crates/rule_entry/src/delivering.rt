@@ -15,10 +15,8 @@ use records::refusals::Refusal;
 use records::source_record::HEADER;
 use rule_build::desk::Desk;
 use rule_lex::Span;
+use source::lists::{DEFINITION_WORDS, NAME_WORDS};
 use words::put_words;
-
-// Offset and length of a name; the two roots of a definition.
-const PAIR_WORDS: usize = 2;
 
 const WORD_BYTES: usize = 4;
 
@@ -28,8 +26,8 @@ fn word_count(names: &[Span], desk: &Desk) -> usize
     ensures { result ≡ word_count names.now desk.now }
 {
     HEADER
-        + PAIR_WORDS * names.len()
-        + PAIR_WORDS * desk.definitions.len()
+        + NAME_WORDS * names.len()
+        + DEFINITION_WORDS * desk.definitions.len()
         + desk.equations.len()
         + NODE_WORDS * desk.nodes.len()
 }
@@ -43,8 +41,8 @@ fn put_record(out: &mut [u8], text: &[u8], names: &[Span], desk: &Desk)
 {
     let definitions = desk.definitions.len();
     let equations = desk.equations.len();
-    let definitions_at = HEADER + PAIR_WORDS * names.len();
-    let equations_at = definitions_at + PAIR_WORDS * definitions;
+    let definitions_at = HEADER + NAME_WORDS * names.len();
+    let equations_at = definitions_at + DEFINITION_WORDS * definitions;
     let nodes_at = equations_at + equations;
     let header = [
         names.len() as u32,

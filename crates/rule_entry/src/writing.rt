@@ -2,7 +2,9 @@
 ghost use Rattle.std.specs.Prelude.{◌≡◌, ◌+◌, ◌*◌, ◌≤◌, length};
 ghost use Rattle.std.proofs.lemmas.List.Edits.{sets};
 ghost use Rattle.words.specs.Words.{set_words};
-ghost use Rattle.records.specs.SourceRecord.{NAMES};
+ghost use Rattle.records.specs.Kinds.{NODE-WORDS};
+ghost use Rattle.records.specs.SourceRecord.{HEADER, NAMES};
+ghost use Rattle.source.specs.Layout.{NAME-WORDS, DEFINITION-WORDS};
 ghost use Rattle.source.specs.Encoding.{joined};
 ghost use Rattle.rule_count.specs.Table.{table_of, Within};
 ghost use Rattle.rule_holding.specs.Holding.{entries, pairs};
@@ -13,6 +15,7 @@ use records::nodes::NodeEntry;
 use records::source_record::HEADER;
 use rule_build::desk::Roots;
 use rule_lex::Span;
+use source::lists::{DEFINITION_WORDS, NAME_WORDS};
 use words::{put_word, put_words};
 
 // The bytes of the names.
@@ -29,25 +32,25 @@ pub fn text_size(names: &[Span]) -> usize
 
 // Offset and length of each name.
 pub fn put_pairs(out: &mut [u8], names: &[Span])
-    requires { (length names.now ≤ NAMES) × Short names.now × (4 * (5 + 2 * length names.now) ≤ length out.old) }
-    ensures { out.new ≡ set_words out.old 5 (span_pairs 0 names.now) }
+    requires { (length names.now ≤ NAMES) × Short names.now × (4 * (HEADER + NAME-WORDS * length names.now) ≤ length out.old) }
+    ensures { out.new ≡ set_words out.old HEADER (span_pairs 0 names.now) }
 {
     let mut offset = 0;
     for k in 0..names.len() {
         let length = names[k].to - names[k].from;
-        put_words(out, HEADER + 2 * k, [offset as u32, length as u32]);
+        put_words(out, HEADER + NAME_WORDS * k, [offset as u32, length as u32]);
         offset += length;
     }
 }
 
 // The roots of the definitions, from word `at` of the output on.
 pub fn put_roots(out: &mut [u8], at: usize, roots: &[Roots])
-    requires { 4 * (at + 2 * length roots.now) ≤ length out.old }
+    requires { 4 * (at + DEFINITION-WORDS * length roots.now) ≤ length out.old }
     ensures { out.new ≡ set_words out.old at (pairs roots.now) }
 {
     for k in 0..roots.len() {
         let root = roots[k];
-        put_words(out, at + 2 * k, [root.pattern, root.value]);
+        put_words(out, at + DEFINITION_WORDS * k, [root.pattern, root.value]);
     }
 }
 
@@ -62,7 +65,7 @@ pub fn put_equations(out: &mut [u8], at: usize, equations: &[u32])
 }
 
 pub fn put_nodes(out: &mut [u8], at: usize, nodes: &[NodeEntry])
-    requires { 4 * (at + 4 * length nodes.now) ≤ length out.old }
+    requires { 4 * (at + NODE-WORDS * length nodes.now) ≤ length out.old }
     ensures { out.new ≡ set_words out.old at (entries nodes.now) }
 {
     for k in 0..nodes.len() {

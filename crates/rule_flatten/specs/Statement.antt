@@ -1,4 +1,4 @@
--- Demand 3, from the text to the bytes that `flatten` writes for its record. For a reader with document 02, request (ii), beside it.
+-- The agreement from the text to the bytes that `flatten` writes of its record. For a reader with docs/RECORDS.md, "Rules as text", beside it.
 use Rattle.std.specs.Prelude.{◌≡◌, List, ℕ, ℤ, length, take, Ok}
 use Rattle.field.specs.Prime.{P}
 use Rattle.field.specs.Element.{elem}

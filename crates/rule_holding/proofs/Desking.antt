@@ -11,7 +11,7 @@ use Rattle.std.proofs.lemmas.List.{reverse-reverse}
 use Rattle.source.specs.Trees.{Text}
 use Rattle.source.specs.Encoding.{node, root_of, expr_nodes}
 use Rattle.rule_trees.specs.Grammar.{Tree, Statement, Level, strength}
-use Rattle.rule_trees.specs.Reading.{Frame, group, Stack, reduced, State, at_start, after_def, after_name, wanting, wanting_atom, having}
+use Rattle.rule_trees.specs.Reading.{Frame, group, Stack, reduced, State, wanting, having}
 use Rattle.rule_trees.specs.Record.{expr_of, nodes_of, node_count}
 use Rattle.rule_trees.specs.Writing.{count_of, frame_count, frame_nodes, stack_count, stack_nodes, pending_nodes}
 use Rattle.rule_build.specs.declared.pieces.Waiting.{Waiting}

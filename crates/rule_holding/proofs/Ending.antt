@@ -1,11 +1,11 @@
 -- A statement's end: its roots, and its nodes are whole. Assumes nothing.
-use mathlib.Core.Path.{◌≡◌, refl, sym, ap, ap₂, ◌∙◌, subst}
+use mathlib.Core.Path.{◌≡◌, refl, sym, ap, ap₂, ◌∙◌}
 use mathlib.Core.List.{List, [], ◌∷◌, ◌++◌, append_assoc, append-nil}
 use Prim.Native.Nat.{ℕ, ◌+◌, ◌-◌}
 use native.Mathlib.Omega.{arith}
 use lib.ListN.{length}
 use Rattle.std.specs.Prelude.{reverse}
-use Rattle.std.proofs.lemmas.List.{reverse-reverse, length-append}
+use Rattle.std.proofs.lemmas.List.{length-append}
 use Rattle.field.specs.declared.InfixOp.{InfixOp}
 use Rattle.field.specs.Operators.{operator_number}
 use Rattle.records.specs.Kinds.{INFIX}
@@ -111,8 +111,8 @@ module _ (ns : List Text) (done : List Statement) (q : Desk) (zs : List Waits.Fr
   pub equate-holds : (y x : Tree) (left : ℕ) → Holds ns done (having x (equating y ∷ [])) q → left ≡ root_of (node_count ns done) (count_of ns y)
       → Stacked ns (node_count ns done) (reverse zs) []
       → Holds ns (done ++ (equation y x ∷ [])) at_start (finished (Waiting.Operator InfixOp.Equal) left (with_frames zs q))
-  unfolding finished applied with_node stack_of operand_count operand_nodes pending_nodes definitions_of equations_of definition_words equation_words root_of top_node
-      equation_of expr_count
+  unfolding finished applied with_node stack_of operand_count operand_nodes pending_nodes definitions_of equations_of definition_words equation_words root_of
+      top_node equation_of expr_count
   equate-holds y x left h l t =
       let b = side-count y in
       let i = length q.nodes.items in

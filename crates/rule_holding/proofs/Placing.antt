@@ -10,7 +10,8 @@ use Rattle.rule_trees.specs.declared.Term.TheVariants.{Plus, Minus}
 use Rattle.rule_trees.specs.Tokens.{Token, def, name, number, equals, semicolon, opening, closing, caret, factor, term}
 use Rattle.rule_trees.specs.Grammar.{Tree, sum}
 use Rattle.rule_trees.specs.Reading.{Frame, raising, negating, multiplying, adding, group, defining, equating, Stack, reduced, State, at_start, after_def}
-use Rattle.rule_trees.specs.Reading.{after_name, wanting, wanting_atom, having, Next, refused, goes, gives, operand_step, equated, finished, having_step, start_step}
+use Rattle.rule_trees.specs.Reading.{after_name, wanting, wanting_atom, having, Next, refused}
+use Rattle.rule_trees.specs.Reading.{goes, gives, operand_step, equated, finished, having_step, start_step}
 use Rattle.rule_trees.specs.Reading.{def_step, name_step, step}
 use Rattle.rule_trees.specs.Reading as Reading
 use Rattle.rule_build.specs.declared.pieces.Piece.{Piece}
@@ -95,7 +96,8 @@ Stands refused p = Unit {0}
 Stands (goes u) p = p ≡ standing u
 Stands (gives q) p = p ≡ standing at_start
 
-operand-stands : (signed : Bool) (fs : Stack) (ns : List Text) (t : Token) → Stands (operand_step signed fs t) (place_behind Position.WantsOperand (piece_of ns t))
+operand-stands : (signed : Bool) (fs : Stack) (ns : List Text) (t : Token)
+    → Stands (operand_step signed fs t) (place_behind Position.WantsOperand (piece_of ns t))
 unfolding operand_step piece_of place_behind standing
 operand-stands s fs ns def = tt
 operand-stands s fs ns (name n) = refl

@@ -2,7 +2,7 @@
 use mathlib.Core.Path.{◌≡◌, refl, sym, ap, ap₂, ◌∙◌, subst}
 use mathlib.Core.List.{List, [], ◌∷◌, ◌++◌, append_assoc}
 use mathlib.Core.Bool.{Bool, true, false, cond}
-use Prim.Native.Nat.{ℕ, suc, ◌+◌, ◌-◌, ◌≤◌, ◌<◌}
+use Prim.Native.Nat.{ℕ, ◌+◌, ◌-◌, ◌≤◌}
 use native.Mathlib.Omega.{arith}
 use lib.Dec.{leb}
 use lib.ListN.{length}
@@ -14,7 +14,7 @@ use Rattle.field.specs.Operators.{operator_number}
 use Rattle.records.specs.declared.nodes.NodeEntry.{NodeEntry}
 use Rattle.records.specs.Kinds.{INFIX, NEGATE}
 use Rattle.source.specs.Trees.{Text}
-use Rattle.source.specs.Encoding.{node, root_of, expr_count, expr_nodes}
+use Rattle.source.specs.Encoding.{node, root_of, expr_count}
 use Rattle.rule_trees.specs.declared.Factor.{Factor}
 use Rattle.rule_trees.specs.declared.Term.{Term}
 use Rattle.rule_trees.specs.Tokens.{factor_of, term_of}

@@ -4,13 +4,14 @@ use mathlib.Core.List.{List, [], ◌∷◌, ◌++◌, append_assoc, append-nil}
 use Prim.Native.Nat.{ℕ, suc, ◌+◌, max, ◌≤◌}
 use native.Mathlib.Omega.{arith}
 use lib.ListN.{length, length-append}
-use Rattle.std.specs.Prelude.{Option, None, Some, reverse}
+use Rattle.std.specs.Prelude.{Option, None, Some}
 use Rattle.std.proofs.lemmas.List.{length-reverse}
 use Rattle.records.specs.SourceRecord.{NODES, DEFINITIONS, EXPRESSIONS}
 use Rattle.source.specs.Trees.{Text}
 use Rattle.rule_trees.specs.Tokens.{Token}
 use Rattle.rule_trees.specs.Grammar.{Statement, Level}
-use Rattle.rule_trees.specs.Reading.{Frame, raising, negating, multiplying, adding, group, defining, equating, Stack, State, at_start, after_def, after_name, wanting}
+use Rattle.rule_trees.specs.Reading.{Frame, raising, negating, multiplying, adding, group, defining}
+use Rattle.rule_trees.specs.Reading.{equating, Stack, State, at_start, after_def, after_name, wanting}
 use Rattle.rule_trees.specs.Reading.{wanting_atom, having, Next, refused, goes, gives, step, ends, before, statements_from}
 use Rattle.rule_trees.specs.declared.Place.{Place}
 use Rattle.rule_trees.specs.Judge.{open_in, judged}
@@ -18,7 +19,8 @@ use Rattle.rule_trees.specs.Record.{definitions_of, equations_of, node_count}
 use Rattle.rule_trees.specs.Rules.{DEEPEST}
 use Rattle.rule_trees.specs.Writing.{stack_count}
 use Rattle.rule_trees.proofs.Facts.{none-some}
-use Rattle.rule_trees.proofs.Sound.{Stands, left, right, value, in_group, under_sign, in_power, in_product, in_sum, Represents, is_start, is_def, is_named, is_wanting}
+use Rattle.rule_trees.proofs.Sound.{Stands, left, right, value, in_group, under_sign, in_power}
+use Rattle.rule_trees.proofs.Sound.{in_product, in_sum, Represents, is_start, is_def, is_named, is_wanting}
 use Rattle.rule_trees.proofs.Sound.{is_wanting_atom, is_having, Right, step_right}
 use Rattle.rule_trees.proofs.Judged.{depth, place_of, place_next, step-agrees}
 use Rattle.rule_trees.proofs.Depth.{token_opened, Open, judged-open}
@@ -26,7 +28,7 @@ use Rattle.rule_trees.proofs.Balance.{deepest_tokens, deepest-from}
 use Rattle.rule_trees.proofs.Growing.{definitions-append, equations-append, count-append}
 use Rattle.rule_build.specs.declared.desk.Frame as Waits
 use Rattle.rule_build.specs.declared.desk.Desk.{Desk}
-use Rattle.rule_build.specs.Steps.{ROOM, empty_desk, Roomy, stepped}
+use Rattle.rule_build.specs.Steps.{empty_desk, Roomy, stepped}
 use Rattle.rule_holding.specs.Holding.{piece_of, standing, Stacked, stack_of, operand_count, operand_nodes, Based, Holds, entries, pairs}
 use Rattle.rule_trees.specs.Record.{nodes_of, definition_words, equation_words}
 use Rattle.rule_trees.specs.Writing.{stack_nodes}
@@ -241,7 +243,8 @@ module _ (ns : List Text) where
 
   -- before the first token
   pub empty-holds : Holds ns [] at_start empty_desk
-  unfolding stack_of operand_count operand_nodes nodes_of node_count definitions_of equations_of definition_words equation_words stack_count stack_nodes entries pairs
+  unfolding stack_of operand_count operand_nodes nodes_of node_count definitions_of equations_of definition_words equation_words stack_count stack_nodes
+      entries pairs
   empty-holds = record {
     nodes = refl;
     words = refl;

@@ -4,7 +4,6 @@ use mathlib.Core.List.{List, [], ◌∷◌, ◌++◌, append_assoc}
 use mathlib.Core.Bool.{Bool, true, false}
 use Prim.Native.Nat.{ℕ, ◌+◌, ◌-◌, ◌/◌, ◌%◌}
 use native.Mathlib.Omega.{arith}
-use lib.IntN.{pos}
 use lib.ListN.{length}
 use Rattle.std.specs.Prelude.{reverse}
 use Rattle.std.proofs.lemmas.List.{reverse-reverse}
@@ -14,25 +13,24 @@ use Rattle.records.specs.Kinds.{CONSTANT, VARIABLE, VARIABLE-PATTERN}
 use Rattle.source.specs.Trees.{Text}
 use Rattle.source.specs.Encoding.{node, root_of, expr_count, expr_nodes, pat_nodes}
 use Rattle.rule_trees.specs.declared.Factor.{Factor}
-use Rattle.rule_trees.specs.declared.Term.{Term}
 use Rattle.rule_trees.specs.declared.Term.TheVariants.{Plus, Minus}
 use Rattle.rule_trees.specs.Tokens.{Token, def, name, number, equals, semicolon, opening, closing, caret, factor, term, factor_of, term_of}
 use Rattle.rule_trees.specs.Grammar.{Tree, variable, constant, Statement, Level, atom, product, sum, strength}
 use Rattle.rule_trees.specs.Grammar as Grammar
 use Rattle.rule_trees.specs.Reading.{Frame, raising, negating, multiplying, adding, group, defining, equating, Stack, reduced, State, at_start, after_def}
-use Rattle.rule_trees.specs.Reading.{after_name, wanting, wanting_atom, having, Next, refused, goes, gives, operand_step, equated, finished, having_step, start_step}
+use Rattle.rule_trees.specs.Reading.{after_name, wanting, wanting_atom, having, Next, refused}
+use Rattle.rule_trees.specs.Reading.{goes, gives, operand_step, equated, finished, having_step, start_step}
 use Rattle.rule_trees.specs.Reading.{def_step, name_step, step}
 use Rattle.rule_trees.specs.Reading as Reading
 use Rattle.rule_trees.specs.Record.{index_of, expr_of, node_count, nodes_of}
 use Rattle.rule_trees.specs.Writing.{count_of, frame_count, frame_nodes, stack_count, stack_nodes}
 use Rattle.rule_trees.proofs.Reduction.{atom-stays}
-use Rattle.rule_build.specs.declared.pieces.Piece.{Piece}
 use Rattle.rule_build.specs.declared.pieces.Position.{Position}
 use Rattle.rule_build.specs.declared.pieces.Waiting.{Waiting}
 use Rattle.rule_build.specs.declared.desk.Frame as Waits
 use Rattle.rule_build.specs.declared.desk.Desk.{Desk}
 use Rattle.rule_build.specs.Pieces.{limit_of, place_behind}
-use Rattle.rule_build.specs.Steps.{entry, with_node, with_frame, with_frames, operated, closed, ended_by, ended, named, equalled, signed, stepped_at, stepped}
+use Rattle.rule_build.specs.Steps.{with_node, with_frame, with_frames, operated, closed, ended_by, ended, named, equalled, signed, stepped_at, stepped}
 use Rattle.rule_build.specs.Steps as Steps
 use Rattle.rule_holding.specs.Holding.{piece_of, waiting_of, standing, LeftIs, Stacked, stack_of, operand_count, operand_nodes, Based, Holds}
 use Rattle.rule_holding.proofs.Desking.{leaf-holds, bare-holds, left-holds, reduce-holds, close-holds, frame-more}

@@ -1,26 +1,22 @@
 -- The nodes to come: a state weighs no more than what it is read as, so the lists have room. Assumes nothing.
-use mathlib.Core.Path.{◌≡◌, refl, sym, ap, ◌∙◌, subst}
-use mathlib.Core.List.{List, [], ◌∷◌, ◌++◌}
+use mathlib.Core.Path.{◌≡◌, refl, ap, ◌∙◌, subst}
+use mathlib.Core.List.{List, [], ◌∷◌}
 use mathlib.Core.Bool.{Bool, true, false, cond}
-use Rattle.std.specs.Prelude.{Option, None, Some}
-use Prim.Native.Nat.{ℕ, suc, ◌+◌, ◌≤◌}
+use Prim.Native.Nat.{ℕ, ◌+◌, ◌≤◌}
 use native.Mathlib.Omega.{arith}
 use lib.Dec.{leb}
-use lib.ListN.{length}
 use borrow.Author.Tests.{leb-true}
 use Rattle.source.specs.Trees.{Text}
 use Rattle.source.specs.Encoding.{expr_count}
 use Rattle.rule_trees.specs.Tokens.{Token, def, name, number, equals, semicolon, opening, closing, caret, factor, term}
 use Rattle.rule_trees.specs.declared.Term.TheVariants.{Plus, Minus}
-use Rattle.rule_trees.specs.Grammar.{Tree, variable, constant, Statement, definition, equation, Level, product, sum, strength}
+use Rattle.rule_trees.specs.Grammar.{Tree, Level, product, sum, strength}
 use Rattle.rule_trees.specs.Reading.{Frame, raising, negating, multiplying, adding, group, defining, equating, Stack, holds, applied, Pending, reduced}
 use Rattle.rule_trees.specs.Reading.{State, at_start, after_def, after_name, wanting, wanting_atom, having, Next, refused, goes, gives, operand_step, closed}
-use Rattle.rule_trees.specs.Reading.{equated, finished, having_step, start_step, def_step, name_step, step, ends, before, statements_from}
-use Rattle.rule_trees.specs.Record.{expr_of, equation_of, node_count}
+use Rattle.rule_trees.specs.Reading.{equated, finished, having_step, start_step, def_step, name_step, step}
+use Rattle.rule_trees.specs.Record.{equation_of, node_count}
 use Rattle.rule_trees.specs.Writing.{count_of, frame_count, stack_count}
-use Rattle.rule_trees.proofs.Facts.{none-some}
 use Rattle.rule_trees.proofs.Sound.{least}
-use Rattle.rule_trees.proofs.Judged.{depth}
 use Rattle.rule_holding.specs.Holding.{stack_of, operand_count, Based}
 use Rattle.rule_holding.proofs.Putting.{applied-count}
 

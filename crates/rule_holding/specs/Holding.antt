@@ -10,7 +10,7 @@ use Rattle.rule_trees.specs.Grammar.{Tree, Statement}
 use Rattle.rule_trees.specs.Reading.{Frame, raising, negating, multiplying, adding, group, defining, equating, Stack, State, at_start, after_def, after_name}
 use Rattle.rule_trees.specs.Reading.{wanting, wanting_atom, having}
 use Rattle.rule_trees.specs.Record.{index_of, expr_of, definitions_of, equations_of, nodes_of, node_count, definition_words, equation_words}
-use Rattle.rule_trees.specs.Writing.{count_of, frame_count, stack_count, stack_nodes, pending_nodes}
+use Rattle.rule_trees.specs.Writing.{count_of, stack_count, stack_nodes, pending_nodes}
 use Rattle.rule_build.specs.declared.pieces.Piece.{Piece}
 use Rattle.rule_build.specs.declared.pieces.Position.{Position}
 use Rattle.rule_build.specs.declared.pieces.Waiting.{Waiting}

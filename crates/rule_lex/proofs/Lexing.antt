@@ -69,7 +69,8 @@ word-last b i w e = subst (λ (l : List ℕ). tokens_from (word w) l ≡ prepend
 
 pub digits_last : (b : List ℕ) (i n : ℕ) → i ≡ length b → tokens_from (digits n) (drop i b) ≡ prepend (number_token n) (tokens_of (drop i b))
 unfolding tokens_from tokens_of ended
-digits_last b i n e = subst (λ (l : List ℕ). tokens_from (digits n) l ≡ prepend (number_token n) (tokens_of l)) (sym (ap (λ m. drop m b) e ∙ drop-length b)) refl
+digits_last b i n e = subst (λ (l : List ℕ). tokens_from (digits n) l ≡ prepend (number_token n) (tokens_of l))
+    (sym (ap (λ m. drop m b) e ∙ drop-length b)) refl
 
 -- ---- a text that has tokens has no number over the largest
 

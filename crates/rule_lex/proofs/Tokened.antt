@@ -201,7 +201,8 @@ module _ (b : List ℕ) (at : ℕ) (ts : List Token) (h : tokens_of (drop at b) 
 
 -- ---- what a caller learns
 
-pub more-left : (b : List ℕ) (at : ℕ) (ts : List Token) (l : Lexeme) → Lexes b at ts (Some l) → (t : Token) × (us : List Token) × (ts ≡ t ∷ us) × Found b at t us l
+pub more-left : (b : List ℕ) (at : ℕ) (ts : List Token) (l : Lexeme) → Lexes b at ts (Some l)
+    → (t : Token) × (us : List Token) × (ts ≡ t ∷ us) × Found b at t us l
 more-left b at [] l h = absurd (let z : ◌≡◌ {A = ℕ} 0 1 = cc in omega arith)
 more-left b at (t ∷ ts) l h = (t, ts, refl, subst (Found b at t ts) (let k = h.1 in let z : h.0 ≡ l = cc in z) h.2)
 

@@ -1,2 +1,4 @@
 pub mod Places
 pub mod Expected
+pub mod Message
+pub mod Statements

@@ -1,19 +1,19 @@
-// Where a text stops to be one of the grammar, for people: line and column, and in words what was expected there.
+// Where a text stops to be one of the grammar, for people: line and column, what was expected there, what stands there, and why it stops.
 #![tactic(auto)]
 
 mod expected;
+mod line;
 
-ghost use Rattle.std.specs.Prelude.{◌≡◌, length, IsErr};
-ghost use Rattle.std.specs.Option.{option_map, IfSome};
-ghost use Rattle.rule_trees.specs.Prefix.{START, walk};
-ghost use Rattle.rule_scan.specs.Stages.{stage_of, Standing};
+ghost use Rattle.std.specs.Prelude.{◌≡◌, IsErr};
 ghost use Rattle.rule_message.specs.Places.{place_of, text_buffer};
+ghost use Rattle.rule_message.specs.Expected.{byte_at};
+ghost use Rattle.rule_message.specs.Message.{message_of};
 
-use expected::{goes_on, print_tokens};
+use expected::limit_of;
+pub use line::{LINE, Line};
+use line::{push_expected, push_found, push_limit, push_place};
 use records::refusals::Refusal;
-use rule_scan::stages::{Run, Stage};
-use rule_scan::{Outside, scan};
-use rule_trees::Place;
+use rule_scan::{Walked, walk};
 use streams::Failed;
 
 // A program reads no longer text.
@@ -51,58 +51,34 @@ impl TextPlace {
     }
 }
 
-// The stage behind a text, if some text of the grammar begins with it.
-fn stage_behind(text: &[u8]) -> Option<Stage>
-    ensures value { option_map (stage_of text.now (length text.now)) result ≡ walk START text.now }
-    ensures standing { IfSome result (Standing text.now (length text.now)) }
+#[tactic(auto, unfolding(crate::specs::Expected::byte_at))]
+fn byte_at(text: &[u8], at: usize) -> Option<u8>
+    ensures { result ≡ byte_at text.now at }
 {
-    let mut stage = Stage {
-        place: Place::Starting,
-        run: Run::Nothing,
-    };
-    for at in 0..text.len() {
-        let Some(next) = stage.next(text, at) else {
-            return None;
-        };
-        stage = next;
-    }
-    Some(stage)
+    (at < text.len()).then(|| text[at])
 }
 
-// What the text of a stage may go on with: a longer word or number, and the tokens behind it.
-fn print_expected(rt: &impl Eprint, text: &[u8], stage: Stage)
-    requires { Standing text.now (length text.now) stage }
+// The line for a text, behind the longest front with which some text of the grammar begins.
+pub fn message(text: &[u8]) -> Line
+    ensures { result.bytes ≡ message_of text.now }
 {
-    let _ = rt.eprint("expected");
-    let more = goes_on(text, stage);
-    if more {
-        let _ = rt.eprint(" the word or number to go on");
-    }
-    if let Some(place) = stage.ended(text, text.len()) {
-        print_tokens(rt, place, !more);
-    }
-    let _ = rt.eprint("\n");
+    let Walked { at, stage, .. } = walk(text);
+    let next = byte_at(text, at);
+    let mut line = Line::new();
+    push_place(&mut line, TextPlace::behind(&text[..at]));
+    line.push_str(": expected ");
+    push_expected(&mut line, text, at, stage);
+    line.push_str(", found ");
+    push_found(&mut line, next);
+    push_limit(&mut line, limit_of(text, at, stage, next));
+    line.push_str("\n");
+    line
 }
 
-// The place behind a front of a text, and what it may go on with.
-fn print_front(rt: &impl Eprint, front: &[u8]) {
-    let TextPlace { line, column } = TextPlace::behind(front);
-    let _ = eprint!(rt; "line {line}, column {column}: ");
-    if let Some(stage) = stage_behind(front) {
-        print_expected(rt, front, stage);
-    }
-}
-
-// Of a text that is refused by `OutsideGrammar`: the place behind the longest front with which some text of the grammar begins.
+// Of a text that is refused by `OutsideGrammar`.
 pub fn print_stop(rt: &impl Eprint, answer: Result<usize, Refusal>, text: &[u8]) {
-    if answer != Err(Refusal::OutsideGrammar) {
-        return;
-    }
-    let Err(Outside { at }) = scan(text) else {
-        return;
-    };
-    if let Some(front) = text.get(..at) {
-        print_front(rt, front);
+    if answer == Err(Refusal::OutsideGrammar) {
+        let _ = rt.eprint(message(text).as_str());
     }
 }
 

@@ -28,14 +28,14 @@ use Rattle.rule_print.specs.Statements.{ModulePrintedBack}
 
 -- ---- two of which both are there
 
-record Both {A B C : Type 0} (f : A → B → C) (a : Option A) (b : Option B) (c : C) : Type 0 where
+pub record Both {A B C : Type 0} (f : A → B → C) (a : Option A) (b : Option B) (c : C) : Type 0 where
   pub first : A
   pub second : B
   pub first-is : a ≡ Some first
   pub second-is : b ≡ Some second
   pub made : f first second ≡ c
 
-both-some : {A B C : Type 0} (f : A → B → C) (a : Option A) (b : Option B) (c : C) → both f a b ≡ Some c → Both f a b c
+pub both-some : {A B C : Type 0} (f : A → B → C) (a : Option A) (b : Option B) (c : C) → both f a b ≡ Some c → Both f a b c
 both-some f None b c e = none-some e
 both-some f (Some a) None c e = none-some e
 both-some f (Some a) (Some b) c e = record { first = a; second = b; first-is = refl; second-is = refl; made = (let z : f a b ≡ c = cc in z) }
@@ -104,7 +104,7 @@ named ns v n e = go (is_name m && all_in_word m) refl e
 
 -- ---- expressions
 
-record Held (ns : List Text) (e : Expr) (x : Tree) : Type 0 where
+pub record Held (ns : List Text) (e : Expr) (x : Tree) : Type 0 where
   pub printable : PrintableTree x
   pub back : Different ns → expr_of ns x ≡ e
 
@@ -135,7 +135,7 @@ module _ (ns : List Text) where
       go IntDivide k = made IntDivide (λ q. let z : ◌≡◌ {A = ℕ} 0 1 = cc in omega arith) k
       go Modulo k = made Modulo (λ q. let z : ◌≡◌ {A = ℕ} 0 1 = cc in omega arith) k
 
-  held : (e : Expr) (x : Tree) → tree_in ns e ≡ Some x → Held ns e x
+  pub held : (e : Expr) (x : Tree) → tree_in ns e ≡ Some x → Held ns e x
   unfolding tree_in constant_in expr_of
   held Expr.unit x k = none-some k
   held Expr.nil x k = none-some k
@@ -214,7 +214,7 @@ module _ (ns : List Text) where
   equation-held (Expr.letting p e f) q k = none-some k
   equation-held (Expr.matching e rs) q k = none-some k
 
-  pattern-held : (p : Pat) (n : Text) → pattern_in ns p ≡ Some n → PrintableName n × (Different ns → Pat.variable_p (index_of n ns) ≡ p)
+  pub pattern-held : (p : Pat) (n : Text) → pattern_in ns p ≡ Some n → PrintableName n × (Different ns → Pat.variable_p (index_of n ns) ≡ p)
   unfolding pattern_in
   pattern-held Pat.unit_p n k = none-some k
   pattern-held Pat.nil_p n k = none-some k
@@ -280,7 +280,7 @@ module _ (ns : List Text) where
 
 -- ---- the module
 
-no-public : (vs : List ℕ) (o : Option (List Statement)) (qs : List Statement) → unless_public vs o ≡ Some qs → (vs ≡ []) × (o ≡ Some qs)
+pub no-public : (vs : List ℕ) (o : Option (List Statement)) (qs : List Statement) → unless_public vs o ≡ Some qs → (vs ≡ []) × (o ≡ Some qs)
 unfolding unless_public
 no-public [] o qs k = (refl, k)
 no-public (v ∷ vs) o qs k = none-some k

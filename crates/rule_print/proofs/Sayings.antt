@@ -15,7 +15,7 @@ use Rattle.source.specs.declared.Shape.{Shape}
 use Rattle.source.proofs.Nodes.{tree_is, expression-is, pattern-is}
 use Rattle.rule_trees.specs.Tokens.{def, equals, semicolon}
 use Rattle.rule_trees.specs.Grammar as Grammar
-use Rattle.rule_trees.specs.Grammar.{sum, definition, equation, Statement}
+use Rattle.rule_trees.specs.Grammar.{sum, definition, equation}
 use Rattle.rule_trees.specs.Print.{level_of, tree_tokens, statement_tokens, token_text, text_of}
 use Rattle.rule_trees.proofs.Sound.{least}
 use Rattle.rule_print.specs.Modules.{both, name_in, tree_in, pattern_in, definition_in, sides_in, equation_in}
@@ -72,7 +72,8 @@ pub equation-text : (ns : List Text) (e f : Expr)
 unfolding equation_in sides_in expression_text
 equation-text ns e f = go (tree_in ns e) (tree_in ns f)
   where
-    go : (x y : Option Grammar.Tree) → equating (option_map (placed_text sum) x) (option_map (placed_text sum) y) ≡ option_map statement_text (both equation x y)
+    go : (x y : Option Grammar.Tree) → equating (option_map (placed_text sum) x) (option_map (placed_text sum) y)
+        ≡ option_map statement_text (both equation x y)
     go None y = refl
     go (Some x) None = refl
     go (Some x) (Some y) = ap Some (written x y)
@@ -149,7 +150,8 @@ module _ (b : List ℕ) (at : ℕ) (ns : List Text) where
   by-entry : (k : ℕ) (f : Form) → entry_of b at k ≡ Some (Node.Expression f) → at-form k f ≡ shown-equation k
   by-entry k f h = sym (ap (λ e. option_map statement_text (equation_in ns e)) (expression-is b at k h))
 
-  pub no-infix : (k : ℕ) (f : Form) → entry_of b at k ≡ Some (Node.Expression f) → ((o : InfixOp) (x y : ℕ) → f ≡ Form.Infix o x y → ⊥) → None ≡ shown-equation k
+  pub no-infix : (k : ℕ) (f : Form) → entry_of b at k ≡ Some (Node.Expression f) → ((o : InfixOp) (x y : ℕ) → f ≡ Form.Infix o x y → ⊥)
+      → None ≡ shown-equation k
   unfolding expression_of equation_in
   no-infix k f h g = go f g ∙ by-entry k f h
     where

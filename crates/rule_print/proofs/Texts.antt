@@ -75,7 +75,8 @@ pub placed-grouped : (l : Level) (x : Tree) → strength (level_of x) < strength
 unfolding placed_text placed bare_text text_of
 placed-grouped l x h =
     ap (λ b. text_of (cond b (tree_tokens x) (opening ∷ (tree_tokens x ++ (closing ∷ []))))) (lt-leb (strength l) (strength (level_of x)) h)
-    ∙ ap (λ (t : Text). token_text opening ++ t) (text-append (tree_tokens x) (closing ∷ []) ∙ ap (λ (t : Text). text_of (tree_tokens x) ++ t) (one-text closing))
+    ∙ ap (λ (t : Text). token_text opening ++ t) (text-append (tree_tokens x) (closing ∷ [])
+    ∙ ap (λ (t : Text). text_of (tree_tokens x) ++ t) (one-text closing))
 
 -- ---- of a negation and of an operation
 
@@ -84,7 +85,7 @@ unfolding bare_text tree_tokens placed_text text_of
 negate-text None = refl
 negate-text (Some x) = refl
 
-binary-text : (o : InfixOp) (x y : Tree)
+pub binary-text : (o : InfixOp) (x y : Tree)
     → placed_text (left_level (operator_level o)) x ++ (token_text (operator_token o) ++ placed_text (right_level (operator_level o)) y)
     ≡ bare_text (binary o x y)
 unfolding bare_text tree_tokens placed_text text_of

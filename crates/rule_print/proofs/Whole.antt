@@ -30,6 +30,7 @@ use Rattle.rule_print.specs.Modules.{both, definition_in, equation_in, all_in, u
 use Rattle.rule_print.specs.Texts.{TEXT, Puts, statement_text}
 use Rattle.rule_print.specs.Listed.{upto}
 use Rattle.rule_print.specs.Printed.{IsText}
+use Rattle.rule_print.proofs.Longest.{text-short}
 use Rattle.rule_print.proofs.Texts.{then, text-append}
 
 -- ---- texts of statements
@@ -105,25 +106,31 @@ puts-few (Some t) old new h = go (leb (length old + length t) TEXT) refl
         omega (arith, ap length k, length-append old t)
     go false e = none-some (sym (h.1 (let l : TEXT < length old + length t = omega (arith, leb-false (length old + length t) TEXT e) in l)))
 
--- what was put into an empty text is the text, if the room suffices
+-- the text, if the room suffices
+abbrev pub IfRoom : Option (List Statement) → Option (ArrayVec ℕ) → Type 0
+IfRoom None r = r ≡ None
+IfRoom (Some qs) r =
+    ((length (printed qs) ≤ TEXT) → (v : ArrayVec ℕ) × (r ≡ Some v) × (v.items ≡ printed qs)) × ((TEXT < length (printed qs)) → r ≡ None)
+
+-- what was put into an empty text
 pub text-done : (o : Option (List Statement)) (new : List ℕ) (v : ArrayVec ℕ) → v.items ≡ new → Puts (option_map printed o) [] (Some tt) new
-    → IsText o (Some v)
+    → IfRoom o (Some v)
 text-done None new v i h = none-some (sym h)
 text-done (Some qs) new v i h =
     (λ l. (v, refl, i ∙ (h.0 (omega arith)).1), λ l. none-some (sym (h.1 (omega arith))))
 
-pub text-none : (o : Option (List Statement)) (new : List ℕ) → Puts (option_map printed o) [] None new → IsText o None
+pub text-none : (o : Option (List Statement)) (new : List ℕ) → Puts (option_map printed o) [] None new → IfRoom o None
 text-none None new h = refl
 text-none (Some qs) new h = (λ l. none-some (h.0 (omega arith)).0, λ l. refl)
 
 -- the same of what is known of a text at a step
 module _ (o : Option (List Statement)) (t : Option Text) (old new : List ℕ) (s : t ≡ option_map printed o) (e : old ≡ []) where
-  pub step-done : (v : ArrayVec ℕ) → v.items ≡ new → Puts t old (Some tt) new → IsText o (Some v)
+  pub step-done : (v : ArrayVec ℕ) → v.items ≡ new → Puts t old (Some tt) new → IfRoom o (Some v)
   step-done v i h = text-done o new v i (subst (λ (t : Option Text). Puts t [] (Some tt) new) s (subst (λ (l : List ℕ). Puts t l (Some tt) new) e h))
 
-  pub step-none : (r : Option (ArrayVec ℕ)) → r ≡ None → Puts t old None new → IsText o r
+  pub step-none : (r : Option (ArrayVec ℕ)) → r ≡ None → Puts t old None new → IfRoom o r
   step-none r i h =
-      subst (λ (r : Option (ArrayVec ℕ)). IsText o r) (sym i)
+      subst (λ (r : Option (ArrayVec ℕ)). IfRoom o r) (sym i)
       (text-none o new (subst (λ (t : Option Text). Puts t [] None new) s (subst (λ (l : List ℕ). Puts t l None new) e h)))
 
 -- ---- a record
@@ -197,6 +204,14 @@ module _ (b : List ℕ) (l : Layout) (e : l ≡ layout_of b) where
     pub expressions-asked : 4 * (l.expressions_at + l.expressions) ≤ length b
     unfolding layout_of
     expressions-asked = rw e (omega (arith, Q.long))
+
+-- a readable record's text has room
+pub room-suffices : (b : List ℕ) (r : Option (ArrayVec ℕ)) → Readable b → IfRoom (statements_in (module_of b)) r → IsText (statements_in (module_of b)) r
+room-suffices b r Q h = go (statements_in (module_of b)) refl h
+  where
+    go : (o : Option (List Statement)) → statements_in (module_of b) ≡ o → IfRoom o r → IsText o r
+    go None e h = h
+    go (Some qs) e h = h.0 (text-short b Q qs e)
 
 -- a refused record's answer
 pub refused-is : (t : Read) {r : Refusal} → Err r ≡ checked t → t ≡ Read.refused r

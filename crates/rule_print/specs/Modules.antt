@@ -1,4 +1,4 @@
--- A plain module as statements, its definitions first: what is printed of them (rule_trees/specs/Print.antt) is read back as the module.
+-- A module that a text can have, as statements, its definitions first: what is printed of them (rule_trees/specs/Print.antt) is read back as the module.
 use Rattle.std.specs.Prelude.{List, [], ◌∷◌, ◌++◌, Bool, ◌&&◌, cond, ℕ, ℤ, pos, negsuc, leb, get_or, Option, Some, None}
 use Rattle.std.specs.List.{list_all}
 use Rattle.std.specs.Option.{option_map}

@@ -1,18 +1,16 @@
 -- What is printed of a source record.
-use Rattle.std.specs.Prelude.{◌≡◌, List, ℕ, ◌≤◌, ◌<◌, length, Option, Some, None, Result, Ok, Err}
+use Rattle.std.specs.Prelude.{◌≡◌, List, ℕ, Option, Some, None, Result, Ok, Err}
 use Rattle.arrayvec.specs.ArrayVec.{ArrayVec}
 use Rattle.records.specs.declared.refusals.Refusal.{Refusal}
 use Rattle.source.specs.Record.{Read}
 use Rattle.rule_trees.specs.Grammar.{Statement}
 use Rattle.rule_trees.specs.Print.{printed}
 use Rattle.rule_print.specs.Modules.{statements_in}
-use Rattle.rule_print.specs.Texts.{TEXT}
 
--- the text of statements, if there are some and the room suffices
+-- the text of statements, if there are some: no text of an accepted record is longer than the room (`TextsFit`, specs/Statements.antt)
 abbrev pub IsText : Option (List Statement) → Option (ArrayVec ℕ) → Type 0
 IsText None r = r ≡ None
-IsText (Some qs) r =
-    ((length (printed qs) ≤ TEXT) → (v : ArrayVec ℕ) × (r ≡ Some v) × (v.items ≡ printed qs)) × ((TEXT < length (printed qs)) → r ≡ None)
+IsText (Some qs) r = (v : ArrayVec ℕ) × (r ≡ Some v) × (v.items ≡ printed qs)
 
 -- of a module its text, of anything else the refusal
 abbrev pub Answers : Read → Result (Option (ArrayVec ℕ)) Refusal → Type 0

@@ -64,9 +64,9 @@ ConstantFits f = (n : ℤ) → f ≡ Form.Constant n → SFits w64 n
 abbrev pub table_of : Printer → List Text
 table_of p = rows p.names.count 0 (name_of p.names.bytes.now p.names.text)
 
--- no text is longer
+-- no text is longer: 73 bytes a node (`TextsFit`, specs/Statements.antt)
 abbrev pub TEXT : ℕ
-TEXT = 262144
+TEXT = 149504
 
 -- `Puts o old r new`: the text o went behind the old one, if there is one and it has room
 abbrev pub Puts : Option Text → List ℕ → Option ⊤ → List ℕ → Type 0

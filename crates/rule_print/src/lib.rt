@@ -1,4 +1,4 @@
-// A plain module as text of rules.
+// A module that a text can have, as text of rules.
 #![tactic(auto)]
 
 pub mod expressions;
@@ -65,7 +65,7 @@ fn print_checked(bytes: &[u8]) -> Option<Text>
     Some(text)
 }
 
-// The text that is printed of a source record, if a text can have its module and the room suffices; or the record's refusal.
+// The text that is printed of a source record, if a text can have its module; or the record's refusal.
 pub fn print(bytes: &[u8]) -> Result<Option<Text>, Refusal>
     ensures { Answers (source_of bytes.now) result }
 {

@@ -12,8 +12,8 @@ use field::InfixOp;
 use itoa::Buffer;
 use rule_scan::kinds::in_word;
 
-// No text is longer.
-pub const TEXT: usize = 262144;
+// No text is longer: 73 bytes for each of 2,048 nodes, as "def NAME = ;" and its line end have with a name of 64.
+pub const TEXT: usize = 149504;
 
 pub type Text = ArrayVec<u8, TEXT>;
 

@@ -67,7 +67,8 @@ among-symbol [] c = refl
 among-symbol (s ∷ ss) c = go (eqb c s.0) (among-symbol ss c)
   where
     go : (x : Bool) → option_map_or Code.Class.Symbol (symbol_of (class_among ss c)) Code.Class.Other ≡ class_in (class_among ss c)
-        → option_map_or Code.Class.Symbol (symbol_of (cond x (symbol s.1) (class_among ss c))) Code.Class.Other ≡ class_in (cond x (symbol s.1) (class_among ss c))
+        → option_map_or Code.Class.Symbol (symbol_of (cond x (symbol s.1) (class_among ss c))) Code.Class.Other
+        ≡ class_in (cond x (symbol s.1) (class_among ss c))
     go true e = refl
     go false e = e
 

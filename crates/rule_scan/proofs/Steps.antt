@@ -97,7 +97,8 @@ module _ (b : List ℕ) (at : ℕ) (inside : at < length b) (p : Place) (low : o
       same = omega arith
 
       go : (y : Bool) → takes_number p ≡ y
-          → Steps b (at + 1) (cond (leb (onto 0 c) LARGEST && y) (Some (stage (digits (onto 0 c)) p)) None) (cond y (Some (staged p (Run.Digits (c - 48)))) None)
+          → Steps b (at + 1) (cond (leb (onto 0 c) LARGEST && y) (Some (stage (digits (onto 0 c)) p)) None)
+          (cond y (Some (staged p (Run.Digits (c - 48)))) None)
       go true j =
           rw small (
             ap (λ n. Some (stage (digits n) p)) same,
@@ -130,7 +131,8 @@ module _ (b : List ℕ) (at : ℕ) (inside : at < length b) (p : Place) (low : o
   pub begun-symbol : (t : Token) (o : Option Place) → class_of c ≡ symbol t → o ≡ judged p t → Steps b (at + 1) (begun c (Some p)) (arrived o)
   unfolding by-class
   begun-symbol t o e f =
-      from-class (arrived o) (symbol t) e (subst (λ x. Steps b (at + 1) (at_place (judged p t)) (arrived x)) (sym f) (at-symbol t (judged p t) (judged-open p t)))
+      from-class (arrived o) (symbol t) e (subst (λ x. Steps b (at + 1) (at_place (judged p t)) (arrived x))
+      (sym f) (at-symbol t (judged p t) (judged-open p t)))
 
   pub begun-kind : (k : Kind) (o : Option Place) → class_in (class_of c) ≡ Code.Class.Symbol k → o ≡ judged p (sample k)
       → Steps b (at + 1) (begun c (Some p)) (arrived o)

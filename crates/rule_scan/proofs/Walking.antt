@@ -6,13 +6,11 @@ use Prim.Native.Nat.{ℕ, suc, ◌+◌, max, ◌≤◌, ◌<◌}
 use native.Mathlib.Nat.{zero-max, max-eq_left, max-eq_right}
 use native.Mathlib.Omega.{arith}
 use native.Mathlib.Numerals.{add-one}
-use lib.Dec.{leb, ltb, eqb}
+use lib.Dec.{leb}
 use lib.ListN.{length, get_or, drop}
 use lib.Seq.{drop-cons, drop-length}
-use borrow.Author.Tests.{leb-true, leb-false, ltb-true, ltb-false}
+use borrow.Author.Tests.{leb-true, leb-false}
 use Rattle.std.specs.Prelude.{Option, Some, None, Ok, Err}
-use Rattle.std.proofs.Common.{Less, Equal, Greater}
-use Rattle.std.specs.Ordering.{is_lt, nat_cmp, ord_max}
 use Rattle.rule_trees.specs.declared.Place.TheVariants.{Starting}
 use Rattle.rule_trees.specs.Judge.{open_in, belongs}
 use Rattle.rule_trees.specs.Prefix.{Stage, hopeful, byte_step, walk, complete, START, taken}
@@ -22,7 +20,8 @@ use Rattle.rule_trees.proofs.Depth.{OpenStage, byte-open}
 use Rattle.rule_scan.specs.declared.stages.Stage as Code
 use Rattle.rule_scan.specs.declared.stages.Run.{Run}
 use Rattle.rule_scan.specs.Stages.{stage_of, Standing, staged}
-use Rattle.rule_scan.specs.Scan.{outside, scan_of}
+use Rattle.rule_scan.specs.declared.Walked.{Walked}
+use Rattle.rule_scan.specs.Scan.{outside, scan_of, furthest, Walks}
 
 -- ---- the deepest
 
@@ -40,15 +39,6 @@ larger a b = go (leb a b) refl
         let h : b ≤ a = omega (arith, leb-false a b e) in
         let k = max-eq_left h in
         record { left = omega arith; right = omega arith; one = λ c p q. omega arith }
-
--- the larger of two, as `max` answers
-pub max-is : (a b : ℕ) → ord_max nat_cmp a b ≡ max a b
-max-is a b = go (ltb b a) (eqb b a) refl
-  where
-    go : (x y : Bool) → ltb b a ≡ x → cond (is_lt (cond x Less (cond y Equal Greater))) a b ≡ max a b
-    go true y e = sym (max-eq_left (let h : b ≤ a = omega (arith, ltb-true b a e) in h))
-    go false true e = sym (max-eq_right (ltb-false b a e))
-    go false false e = sym (max-eq_right (ltb-false b a e))
 
 deepest-from : (d : ℕ) (b : List ℕ) → d ≤ deepest d b
 unfolding deepest
@@ -74,6 +64,7 @@ pub record Going (b : List ℕ) (i : ℕ) (s : Code.Stage) (deep : ℕ) : Type 0
   pub stands : Standing b i s
   pub walks : walk START b ≡ walk (stage_of b i s) (drop i b)
   pub takes : taken START b ≡ i + taken (stage_of b i s) (drop i b)
+  pub reaches : furthest START b ≡ furthest (stage_of b i s) (drop i b)
   pub deepens : deepest 0 b ≡ max deep (deepest (open_in s.place) (drop i b))
   pub under : open_in s.place ≤ deep
 
@@ -83,6 +74,7 @@ going-start b = record {
   stands = record { hopeful-is = refl; starts = tt; shallow = omega arith; read = omega arith };
   walks = refl;
   takes = omega arith;
+  reaches = refl;
   deepens = sym (zero-max (deepest 0 b));
   under = omega arith;
 }
@@ -97,8 +89,8 @@ module _ (b : List ℕ) (i : ℕ) (s : Code.Stage) (deep : ℕ) (g : Going b i s
   rest : drop i b ≡ c ∷ drop (i + 1) b
   rest = drop-cons b i 0 inside ∙ ap (λ n. c ∷ drop n b) (sym (add-one i))
 
-  pub going-stop : None ≡ byte_step t c → Err (outside i) ≡ scan_of b
-  unfolding scan_of walk taken complete
+  pub going-stop : None ≡ byte_step t c → Walks b (record { at = i; stage = s; deepest = deep })
+  unfolding walk taken furthest
   going-stop f =
       let e = sym f in
       let w : walk START b ≡ None =
@@ -106,12 +98,13 @@ module _ (b : List ℕ) (i : ℕ) (s : Code.Stage) (deep : ℕ) (g : Going b i s
       let n : taken START b ≡ i =
       g.takes ∙ ap (λ l. i + taken t l) rest
       ∙ ap (λ o. i + (elim o as (λ _. ℕ) [ None ↦ 0 | Some u ↦ suc (taken u (drop (i + 1) b)) ])) e ∙ (let z : i + 0 ≡ i = omega arith in z) in
-      let f : belongs b ≡ false = walk-decides b ∙ ap complete w in
-      rw (f, n)
+      let r : furthest START b ≡ t =
+      g.reaches ∙ ap (furthest t) rest ∙ ap (λ o. elim o as (λ _. Stage) [ None ↦ t | Some u ↦ furthest u (drop (i + 1) b) ]) e in
+      record { at-is = sym n; stage-is = sym r; stands = g.stands; short = λ h. w; whole = λ h. absurd (omega arith) }
 
   pub going-step : (v : Code.Stage) (d : ℕ) → Some (stage_of b (i + 1) v) ≡ byte_step t c → Standing b (i + 1) v → d ≡ max deep (open_in v.place)
       → Going b (i + 1) v d
-  unfolding walk taken deepest
+  unfolding walk taken furthest deepest
   going-step v d f h k =
       let u = stage_of b (i + 1) v in
       let e = sym f in
@@ -124,6 +117,8 @@ module _ (b : List ℕ) (i : ℕ) (s : Code.Stage) (deep : ℕ) (g : Going b i s
             g.takes ∙ ap (λ l. i + taken t l) rest
             ∙ ap (λ o. i + (elim o as (λ _. ℕ) [ None ↦ 0 | Some w ↦ suc (taken w (drop (i + 1) b)) ])) e
             ∙ (let y : i + suc (taken u (drop (i + 1) b)) ≡ i + 1 + taken u (drop (i + 1) b) = omega arith in y);
+        reaches =
+            g.reaches ∙ ap (furthest t) rest ∙ ap (λ o. elim o as (λ _. Stage) [ None ↦ t | Some w ↦ furthest w (drop (i + 1) b) ]) e;
         deepens =
             g.deepens ∙ ap (λ l. max deep (deepest (open_in s.place) l)) rest
             ∙ ap (λ n. max deep (max (open_in s.place) (deepest n (drop (i + 1) b)))) (sym o)
@@ -132,13 +127,30 @@ module _ (b : List ℕ) (i : ℕ) (s : Code.Stage) (deep : ℕ) (g : Going b i s
         under = let m = (larger deep (open_in v.place)).right in omega arith;
       }
 
-pub going-end : (b : List ℕ) (s : Code.Stage) (deep : ℕ) → Going b (length b) s deep
-    → cond (complete (Some (stage_of b (length b) s))) (Ok deep) (Err (outside (length b))) ≡ scan_of b
-unfolding scan_of walk taken deepest
+pub going-end : (b : List ℕ) (s : Code.Stage) (deep : ℕ) → Going b (length b) s deep → Walks b (record { at = length b; stage = s; deepest = deep })
+unfolding walk taken furthest deepest
 going-end b s deep g =
     let t = stage_of b (length b) s in
     let w : walk START b ≡ Some t = g.walks ∙ ap (walk t) (drop-length b) in
-    let f : belongs b ≡ complete (Some t) = walk-decides b ∙ ap complete w in
     let n : taken START b ≡ length b = g.takes ∙ ap (λ l. length b + taken t l) (drop-length b) ∙ (let y : length b + 0 ≡ length b = omega arith in y) in
+    let r : furthest START b ≡ t = g.reaches ∙ ap (furthest t) (drop-length b) in
     let d : deepest 0 b ≡ deep = g.deepens ∙ ap (λ l. max deep (deepest (open_in s.place) l)) (drop-length b) ∙ max-eq_left g.under in
-    rw (f, n, d)
+    record { at-is = sym n; stage-is = sym r; stands = g.stands; short = λ h. absurd (omega arith); whole = λ h. (w, sym d) }
+
+-- ---- what a walk says of the grammar
+
+module _ (b : List ℕ) (w : Walked) (k : Walks b w) where
+  pub short-scanned : w.at < length b → Err (outside w.at) ≡ scan_of b
+  unfolding scan_of complete
+  short-scanned h =
+      let f : belongs b ≡ false = walk-decides b ∙ ap complete (k.short h) in
+      rw (f, sym k.at-is)
+
+  pub whole-scanned : w.at ≡ length b
+      → cond (complete (Some (stage_of b (length b) w.stage))) (Ok w.deepest) (Err (outside (length b))) ≡ scan_of b
+  unfolding scan_of
+  whole-scanned e =
+      let f : belongs b ≡ complete (Some (stage_of b w.at w.stage)) = walk-decides b ∙ ap complete (k.whole e).0 in
+      let n : taken START b ≡ w.at = sym k.at-is in
+      let d : deepest 0 b ≡ w.deepest = sym (k.whole e).1 in
+      subst (λ m. cond (complete (Some (stage_of b m w.stage))) (Ok w.deepest) (Err (outside m)) ≡ scan_of b) e (rw (f, n, d))

@@ -14,7 +14,7 @@ use rule_trees::Place;
 // The largest number, and how many tens are in it.
 pub const LARGEST: u64 = 9223372036854775807;
 
-const TENS: u64 = LARGEST / 10;
+pub const TENS: u64 = LARGEST / 10;
 
 // A word by where it starts, a number by its value.
 #[derive(Clone, Copy, Debug, PartialEq, Eq)]

@@ -23,7 +23,7 @@ use Rattle.rule_trees.proofs.Sound.{least}
 use Rattle.rule_trees.proofs.Depth.{token_opened}
 use Rattle.source.specs.Encoding.{All}
 use Rattle.rule_trees.specs.Statements.{PrintedAnswers}
-use Rattle.rule_trees.specs.Rules.{deepest, DEEPEST, Answer, unless, written_in, rules_of}
+use Rattle.rule_trees.specs.Rules.{deepest, DEEPEST, unless, written_in, answered, rules_of}
 use Rattle.rule_trees.proofs.Fitting.{read-printable}
 use Rattle.rule_trees.proofs.PrintedText.{printed-spelt, printed-back}
 use Rattle.rule_trees.proofs.Theorems.{reading-given}
@@ -181,9 +181,8 @@ printed-shallow b qs r =
     omega (arith, deepest-tokens (printed-spelt qs h) 0, lists-shallow r.listed h 0, deepest-tokens r.spelt 0)
 
 answer-is : (b : List ℕ) (qs : List Statement) (room : ℕ) → Reading b qs → rules_of b room ≡ written_in b room qs
-unfolding rules_of
-answer-is b qs room r =
-    ap (λ (o : Option (List Statement)). elim o as (λ _. Answer) [ None ↦ Err OutsideGrammar | Some ps ↦ written_in b room ps ]) (reading-given b qs r)
+unfolding rules_of answered
+answer-is b qs room r = ap (answered b room) (reading-given b qs r)
 
 pub printed-answers : PrintedAnswers
 unfolding written_in unless

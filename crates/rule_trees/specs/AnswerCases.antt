@@ -1,7 +1,7 @@
 -- Texts and their answers: where a text outside the grammar stops, the words of a small record, and the refusals in their order.
 use Rattle.std.specs.Prelude.{◌≡◌, refl, List, [], ◌∷◌, ◌++◌, ℕ, zero, suc, Ok, Err}
 use Prim.Native.String.{String}
-use Rattle.records.specs.declared.refusals.Refusal.TheVariants.{Output, OutsideGrammar, Nesting}
+use Rattle.records.specs.declared.refusals.Refusal.TheVariants.{Count, Output, OutsideGrammar, Nesting}
 use Rattle.words.specs.Words.{bytes_of, low_word, high_word}
 use Rattle.source.specs.Trees.{Text}
 use Rattle.source.specs.Encoding.{root_of, expr_count, pat_nodes, expr_nodes, pair_words, joined}
@@ -18,7 +18,7 @@ use Rattle.rule_trees.specs.Prefix.{START, taken}
 use Rattle.rule_trees.specs.Record.{names_in, occurring, without, once, names_of, index_of, expr_of, definitions_of, equation_of, equations_of}
 use Rattle.rule_trees.specs.Record.{nodes_of, node_count}
 use Rattle.rule_trees.specs.Record.{definition_words, equation_words, words_of, record_of, within_limits}
-use Rattle.rule_trees.specs.Rules.{opened, deepest, Answer, unless, written_in, rules_of}
+use Rattle.rule_trees.specs.Rules.{opened, deepest, Answer, unless, written_in, answered, rules_of}
 
 -- ---- where a text stops
 
@@ -86,6 +86,10 @@ repeated (suc n) t = t ++ repeated n t
 abbrev pub nested : ℕ → ℕ → Text
 nested n m = repeated n (typed "(") ++ (typed "x" ++ (repeated m (typed ")") ++ typed "=0;"))
 
+-- so many equations of 1 with itself
+abbrev pub many : ℕ → Text
+many n = repeated n (typed "1=1;")
+
 pub record Tried : Type 0 where
   pub text : Text
   pub room : ℕ
@@ -102,6 +106,11 @@ tries =
     ∷ try_of (nested 65 64) 0 (Err OutsideGrammar)
     ∷ try_of (nested 65 65) 0 (Err Nesting)
     ∷ try_of (nested 64 64) 0 (Err Output)
+    -- each before those behind it, where several fit
+    ∷ try_of (nested 65 65 ++ (many 513 ++ typed "@")) 0 (Err OutsideGrammar)
+    ∷ try_of (nested 65 65 ++ many 513) 0 (Err Nesting)
+    ∷ try_of (many 513) 0 (Err Count)
+    ∷ try_of (many 512) 0 (Err Output)
     ∷ []
 
 abbrev pub tried : List Tried → List Answer
@@ -117,5 +126,5 @@ unfolding between is_lower is_letter is_digit is_blank class_among class_of same
     in_number prepend ended longer tokens_from tokens_of factor_of term_of strength holds applied reduced operand_step closed equated finished having_step
     start_step def_step name_step step ends before statements_from statements_of reading_of words_of names_of occurring names_in once without index_of expr_of
     definitions_of equation_of equations_of node_count definition_words equation_words nodes_of expr_count expr_nodes pat_nodes root_of pair_words low_word
-    high_word bytes_of joined record_of within_limits opened deepest unless written_in rules_of repeated
+    high_word bytes_of joined record_of within_limits opened deepest unless written_in answered rules_of repeated
 tries-hold = refl

@@ -1,5 +1,5 @@
 -- What `rules` answers: a source record, or the first of the numbers 40, 41, 2 and 33. For a reader with docs/RECORDS.md, "Rules as text", beside it.
-use Rattle.std.specs.Prelude.{List, [], ◌∷◌, Bool, true, false, cond, ℕ, suc, ◌+◌, ◌-◌, max, leb, eqb, length, None, Some, Result, Ok, Err}
+use Rattle.std.specs.Prelude.{List, [], ◌∷◌, Bool, true, false, cond, ℕ, suc, ◌+◌, ◌-◌, max, leb, eqb, length, Option, None, Some, Result, Ok, Err}
 use Prim.Native.Char.{code}
 use Rattle.records.specs.declared.refusals.Refusal.{Refusal}
 use Rattle.records.specs.declared.refusals.Refusal.TheVariants.{Count, Output, OutsideGrammar, Nesting}
@@ -41,9 +41,14 @@ written_in b room qs =
     let r = record_of qs in
     unless (leb (deepest 0 b) DEEPEST) Nesting (unless (within_limits qs) Count (unless (leb (length r) room) Output (Ok r)))
 
--- "Text outside the grammar is refused with 40, checked first"; the record is written to so much room
+-- "Text outside the grammar is refused with 40, checked first": of a text and its reading, if it has one
+unfoldable pub answered : List ℕ → ℕ → Option (List Statement) → Answer
+answered b room None = Err OutsideGrammar
+answered b room (Some qs) = written_in b room qs
+
+-- the record is written to so much room
 unfoldable pub rules_of : List ℕ → ℕ → Answer
-rules_of b room = elim (reading_of b) [ None ↦ Err OutsideGrammar | Some qs ↦ written_in b room qs ]
+rules_of b room = answered b room (reading_of b)
 
 -- ---- counts, token by token
 

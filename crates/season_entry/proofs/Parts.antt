@@ -16,14 +16,13 @@ use Rattle.records.specs.declared.refusals.Refusal.{Refusal}
 use Rattle.constraint.specs.declared.reading.Layout.{Layout}
 use Rattle.constraint.specs.Reading.{size, layout_of, constraint_of}
 use Rattle.constraint.specs.Record.{constraint_bytes}
-use Rattle.constraint_check.specs.Record.{legal, same, Read, constraint_read, checked}
+use Rattle.constraint_check.specs.Record.{Bytes, legal, same_bytes, Read, constraint_read, checked}
 use Rattle.constraint_check.specs.Tests.{has_few, measured, rules, tests}
 use Rattle.constraint_check.proofs.Decides.{passes, read-by}
 use Rattle.constraint_check.proofs.OneToOne.{same-is}
 use Rattle.season_trees.proofs.Tests.{not-both}
 use Rattle.season_trees.specs.Values.{inputs_of}
 use Rattle.season_trees.specs.Season.{record_part, rest_part, calibrations_of, well_counted, Season, counted, season_of, answer_for, output_for}
-use Rattle.season_values.specs.Record.{Bytes}
 
 -- the layout's size, by the header
 module _ (b : List ℕ) {l : Layout} (e : l ≡ layout_of b) where
@@ -66,9 +65,9 @@ bytes-taken (suc n) (x ∷ xs) h (suc k) = bytes-taken n xs (λ j. h (suc j)) k
 -- bytes that fail the tests are refused
 pub tested-refused : (s : List ℕ) → tests s ≡ false → constraint_read s ≡ Read.refused Refusal.ConstraintRecord
 unfolding constraint_read pick
-tested-refused s h = go (legal (constraint_of s)) refl (same s (constraint_bytes (constraint_of s))) refl
+tested-refused s h = go (legal (constraint_of s)) refl (same_bytes s (constraint_bytes (constraint_of s))) refl
   where
-    go : (l : Bool) → legal (constraint_of s) ≡ l → (t : Bool) → same s (constraint_bytes (constraint_of s)) ≡ t
+    go : (l : Bool) → legal (constraint_of s) ≡ l → (t : Bool) → same_bytes s (constraint_bytes (constraint_of s)) ≡ t
         → pick (l && t) (Read.module-of (constraint_of s)) (Read.refused Refusal.ConstraintRecord) ≡ Read.refused Refusal.ConstraintRecord
     go true e true f =
         let own = same-is s (constraint_bytes (constraint_of s)) f in
@@ -88,9 +87,9 @@ module _ (s : List ℕ) (bytes : Bytes s) where
 module _ (s : List ℕ) where
   pub check-passed : {u : Unit {0}} → Ok u ≡ checked (constraint_read s) → tests s ≡ true
   unfolding constraint_read checked pick
-  check-passed {u} g = go (legal (constraint_of s)) refl (same s (constraint_bytes (constraint_of s))) refl g
+  check-passed {u} g = go (legal (constraint_of s)) refl (same_bytes s (constraint_bytes (constraint_of s))) refl g
     where
-      go : (l : Bool) → legal (constraint_of s) ≡ l → (t : Bool) → same s (constraint_bytes (constraint_of s)) ≡ t
+      go : (l : Bool) → legal (constraint_of s) ≡ l → (t : Bool) → same_bytes s (constraint_bytes (constraint_of s)) ≡ t
           → Ok u ≡ checked (pick (l && t) (Read.module-of (constraint_of s)) (Read.refused Refusal.ConstraintRecord)) → tests s ≡ true
       go true e true f w = ap tests (same-is s (constraint_bytes (constraint_of s)) f) ∙ passes (constraint_of s) e
       go true e false f w = absurd cc

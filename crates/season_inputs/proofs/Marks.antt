@@ -15,7 +15,7 @@ use Rattle.flat.specs.Record.{rows}
 use Rattle.flat.specs.Trees.{Definition, defines}
 use Rattle.constraint.specs.declared.Term.{Term}
 use Rattle.constraint.specs.Trees.{Side, Equality, operation, first, second, written, written_of}
-use Rattle.constraint_check.specs.Record.{among}
+use Rattle.constraint.specs.Numbers.{member}
 use Rattle.season_trees.specs.Values.{in_term, in_side, in_tree, in_equalities, in_kept}
 use Rattle.season_inputs.specs.Marks.{marked, MarksMore, Unmarked, in_operation, in_written}
 use Rattle.season_inputs.proofs.Rows.{from_more, from_none, from_whole}
@@ -86,8 +86,8 @@ pub record Some-of {A : Type 0} (h : ℕ → List A → Bool) (g : ℕ → A →
   pub none : (v : ℕ) → h v [] ≡ false
   pub more : (v : ℕ) (a : A) (xs : List A) → h v (a ∷ xs) ≡ (g v a || h v xs)
 
-pub some-among : Some-of (λ v (ws : List ℕ). among v ws) eqb
-unfolding among
+pub some-among : Some-of (λ v (ws : List ℕ). member v ws) eqb
+unfolding member
 some-among = record { none = λ v. refl; more = λ v a xs. refl }
 
 pub some-equality : Some-of (λ v (qs : List Equality). in_equalities v qs) (λ v q. in_written v (written q))

@@ -3,7 +3,7 @@ ghost use Rattle.std.specs.Prelude.{◌≡◌, ◌<◌, eqb};
 ghost use Rattle.flat.specs.Layout.{nodes};
 ghost use Rattle.records.specs.FlatRecord.{IDS};
 ghost use Rattle.constraint.specs.Reading.{constraint_of};
-ghost use Rattle.constraint_check.specs.Record.{among};
+ghost use Rattle.constraint.specs.Numbers.{member};
 ghost use Rattle.season_trees.specs.Values.{in_term, in_tree, in_equalities, in_kept, is_input};
 ghost use Rattle.season_values.specs.Record.{TermBelow, EqualityBelow, tree_of};
 ghost use Rattle.season_inputs.specs.Marks.{MarksMore, Unmarked, Marked, in_operation, in_written};
@@ -93,7 +93,7 @@ fn mark_kept(r: &Record, marks: &mut Marks)
 
 // The prover ids are marked too.
 fn mark_provers(r: &Record, marks: &mut Marks)
-    ensures { MarksMore marks.old marks.new (λ v. among v (constraint_of r.now.bytes.now).provers) }
+    ensures { MarksMore marks.old marks.new (λ v. member v (constraint_of r.now.bytes.now).provers) }
 {
     for k in (0..r.layout.provers).rev() {
         mark(marks, r.prover(k));
@@ -102,7 +102,7 @@ fn mark_provers(r: &Record, marks: &mut Marks)
 
 // The public ids are marked too.
 fn mark_publics(r: &Record, marks: &mut Marks)
-    ensures { MarksMore marks.old marks.new (λ v. among v (constraint_of r.now.bytes.now).publics) }
+    ensures { MarksMore marks.old marks.new (λ v. member v (constraint_of r.now.bytes.now).publics) }
 {
     for k in (0..r.layout.publics).rev() {
         mark(marks, r.public(k));

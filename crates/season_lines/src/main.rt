@@ -4,18 +4,14 @@
 #![tactic(auto)]
 
 use answer_record::print_refused;
+use constraint_check::record_buffer;
 use season_count::Count;
-use season_stream::{RECORD_BYTES, Stop, count_stream, read_record};
+use season_stream::{Stop, count_stream, read_record};
 use season_text::print_report;
 use season_values::record::Record;
 use std::io;
 use std::rt::Env;
 use streams::{Failed, close_output, open_standard};
-
-// Kept as it is: where a literal stands in the body that uses it, its proof computes the array place by place.
-fn record_buffer() -> [u8; RECORD_BYTES] {
-    [0u8; RECORD_BYTES]
-}
 
 // The season that is read, as lines; how many.
 fn print_season(rt: &(impl Input + Print + Eprint)) -> Result<usize, Stop> {

@@ -20,7 +20,7 @@ use Rattle.season_trees.proofs.Tests.{not-both}
 use Rattle.constraint.specs.declared.Term.{Term}
 use Rattle.constraint.specs.Trees.{Side, Equality, ConstraintModule}
 use Rattle.constraint.specs.Meaning.{InTerm, InSide, InEquality, EqualityHolds, term_value, side_value}
-use Rattle.constraint_check.specs.Record.{among}
+use Rattle.constraint.specs.Numbers.{member}
 use Rattle.numbering.specs.Inputs.{inputs, input_ids}
 use Rattle.numbering.specs.Numbering.{numbered}
 use Rattle.numbering.specs.Statements.{Pointwise}
@@ -159,7 +159,7 @@ all_in Q (q ∷ qs) f = (
 
 seen : (c : ConstraintModule) → All (InEquality (λ v. appears c v ≡ true)) c.equalities
 unfolding appears
-seen c = all_in _ c.equalities (λ v h. or_right (among v c.publics) _ (or_right (among v c.provers) _ (or_left (in_equalities v c.equalities) _ h)))
+seen c = all_in _ c.equalities (λ v h. or_right (member v c.publics) _ (or_right (member v c.provers) _ (or_left (in_equalities v c.equalities) _ h)))
 
 -- ---- equalities that hold under one assignment hold under one with the same values of their variables
 

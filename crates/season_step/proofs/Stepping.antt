@@ -14,8 +14,8 @@ use Rattle.flat.specs.Meaning.{update}
 use Rattle.flat.specs.Record.{pick}
 use Rattle.flat.specs.Trees.{Definition, defines}
 use Rattle.constraint.specs.Trees.{ConstraintModule}
-use Rattle.constraint_check.specs.Record.{among}
-use Rattle.season_trees.specs.Values.{Environment, ids_from, inputs_of, is_input, given, value_in, worked_out, values_of}
+use Rattle.constraint.specs.Numbers.{member, keep_if, ids_from}
+use Rattle.season_trees.specs.Values.{Environment, inputs_of, is_input, given, value_in, worked_out, values_of}
 use Rattle.season_trees.proofs.Tests.{not-both}
 use Rattle.season_values.specs.Arrays.{said, Says, cleared}
 use Rattle.season_inputs.specs.Given.{written}
@@ -36,43 +36,43 @@ module _ (σ : Environment) (v w : ℕ) (a : Answer) where
   unfolding update
   update-else e = rw e
 
-written-other : (ws : List ℕ) (es : List ℤ) (σ : Environment) (v : ℕ) → among v ws ≡ false → written ws es σ v ≡ σ v
-unfolding written among
+written-other : (ws : List ℕ) (es : List ℤ) (σ : Environment) (v : ℕ) → member v ws ≡ false → written ws es σ v ≡ σ v
+unfolding written member
 written-other [] es σ v h = refl
 written-other (w ∷ ws) [] σ v h = refl
 written-other (w ∷ ws) (e ∷ es) σ v h =
-    let k = neither (eqb v w) (among v ws) h in
+    let k = neither (eqb v w) (member v ws) h in
     written-other ws es (update σ w (Some e)) v k.1 ∙ update-else σ v w (Some e) k.0
 
-given-other : (ws : List ℕ) (es : List ℤ) (v : ℕ) → among v ws ≡ false → given ws es v ≡ None
-unfolding given among pick
+given-other : (ws : List ℕ) (es : List ℤ) (v : ℕ) → member v ws ≡ false → given ws es v ≡ None
+unfolding given member pick
 given-other [] es v h = refl
 given-other (w ∷ ws) [] v h = refl
 given-other (w ∷ ws) (e ∷ es) v h =
-    let k = neither (eqb v w) (among v ws) h in
+    let k = neither (eqb v w) (member v ws) h in
     rw k.0 (given-other ws es v k.1)
 
 -- ids from a on that pass a test: all at least a
-ids-above : (t : ℕ → Bool) (a n v : ℕ) → v < a → among v (ids_from t a n) ≡ false
-unfolding ids_from among pick
+ids-above : (t : ℕ → Bool) (a n v : ℕ) → v < a → member v (ids_from t a n) ≡ false
+unfolding ids_from member keep_if
 ids-above t a zero v l = refl
 ids-above t a (suc n) v l = go (t a) (ids-above t (suc a) n v (omega arith))
   where
-    go : (s : Bool) → among v (ids_from t (suc a) n) ≡ false → among v (pick s (a ∷ ids_from t (suc a) n) (ids_from t (suc a) n)) ≡ false
+    go : (s : Bool) → member v (ids_from t (suc a) n) ≡ false → member v (keep_if s a (ids_from t (suc a) n)) ≡ false
     go true h = rw (ne_eqb v a (λ e. omega arith)) h
     go false h = h
 
 -- the elements written over an environment without them are what the calibration gives
 module _ (t : ℕ → Bool) (v : ℕ) where
   Given : List ℕ → Type 0
-  Given ws = (es : List ℤ) (σ : Environment) → length ws ≡ length es → (among v ws ≡ false → σ v ≡ None) → written ws es σ v ≡ given ws es v
+  Given ws = (es : List ℤ) (σ : Environment) → length ws ≡ length es → (member v ws ≡ false → σ v ≡ None) → written ws es σ v ≡ given ws es v
 
   given-none : Given []
-  unfolding Given written given among
+  unfolding Given written given member
   given-none es σ h k = k refl
 
-  given-more : (w : ℕ) (ws : List ℕ) → (v ≡ w → among v ws ≡ false) → Given ws → Given (w ∷ ws)
-  unfolding Given written given among pick
+  given-more : (w : ℕ) (ws : List ℕ) → (v ≡ w → member v ws ≡ false) → Given ws → Given (w ∷ ws)
+  unfolding Given written given member pick
   given-more w ws apart rest [] σ h k = absurd (omega (arith, h))
   given-more w ws apart rest (e ∷ es) σ h k = go (eqb v w) refl
     where
@@ -82,19 +82,19 @@ module _ (t : ℕ → Bool) (v : ℕ) where
           written-other ws es (update σ w (Some e)) v (apart same) ∙ update_here σ v w (Some e) same
       go false q =
           rest es (update σ w (Some e)) (omega (arith, h))
-          (λ n. update-else σ v w (Some e) q ∙ k (ap (λ (x : Bool). x || among v ws) q ∙ n))
+          (λ n. update-else σ v w (Some e) q ∙ k (ap (λ (x : Bool). x || member v ws) q ∙ n))
 
   ids-given : (a n : ℕ) → Given (ids_from t a n)
-  unfolding ids_from pick
+  unfolding ids_from keep_if
   ids-given a zero = given-none
   ids-given a (suc n) = go (t a) (ids-given (suc a) n)
     where
-      go : (s : Bool) → Given (ids_from t (suc a) n) → Given (pick s (a ∷ ids_from t (suc a) n) (ids_from t (suc a) n))
+      go : (s : Bool) → Given (ids_from t (suc a) n) → Given (keep_if s a (ids_from t (suc a) n))
       go true h = given-more a (ids_from t (suc a) n) (λ e. ids-above t (suc a) n v (omega arith)) h
       go false h = h
 
   written-given : (a n : ℕ) (es : List ℤ) (σ : Environment) → length (ids_from t a n) ≡ length es
-      → (among v (ids_from t a n) ≡ false → σ v ≡ None) → written (ids_from t a n) es σ v ≡ given (ids_from t a n) es v
+      → (member v (ids_from t a n) ≡ false → σ v ≡ None) → written (ids_from t a n) es σ v ≡ given (ids_from t a n) es v
   unfolding Given
   written-given a n es σ h k = ids-given a n es σ h k
 
@@ -149,13 +149,13 @@ module _ (m : ConstraintModule) (es : List ℤ) where
 -- ---- the inputs are ids
 
 ids-low : (t : ℕ → Bool) (a n k : ℕ) → k < length (ids_from t a n) → get_or (ids_from t a n) k 0 < a + n
-unfolding ids_from pick
+unfolding ids_from keep_if
 ids-low t a zero k l = absurd (omega (arith, l))
 ids-low t a (suc n) k l = go (λ j m. omega (arith, ids-low t (suc a) n j m)) (t a) k l
   where
     go : ((j : ℕ) → j < length (ids_from t (suc a) n) → get_or (ids_from t (suc a) n) j 0 < a + suc n)
-        → (s : Bool) (j : ℕ) → j < length (pick s (a ∷ ids_from t (suc a) n) (ids_from t (suc a) n))
-        → get_or (pick s (a ∷ ids_from t (suc a) n) (ids_from t (suc a) n)) j 0 < a + suc n
+        → (s : Bool) (j : ℕ) → j < length (keep_if s a (ids_from t (suc a) n))
+        → get_or (keep_if s a (ids_from t (suc a) n)) j 0 < a + suc n
     go rest true zero m = omega arith
     go rest true (suc j) m = rest j (omega (arith, m))
     go rest false j m = rest j m

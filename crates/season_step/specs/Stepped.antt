@@ -7,7 +7,7 @@ use Rattle.records.specs.declared.refusals.Refusal.{Refusal}
 use Rattle.records.specs.FlatRecord.{IDS}
 use Rattle.constraint.specs.Trees.{ConstraintModule}
 use Rattle.constraint.specs.Reading.{equalities, equalities_offset, equality_at, constraint_of}
-use Rattle.constraint_check.specs.Record.{among}
+use Rattle.constraint.specs.Numbers.{member}
 use Rattle.season_trees.specs.Values.{inputs_of, values_of, verdict}
 use Rattle.season_trees.specs.Count.{Calibration, is_held, is_failed, fulfils}
 use Rattle.season_trees.specs.Season.{in_range}
@@ -21,7 +21,7 @@ stepped m c = pick (in_range c) (Ok (fulfils m c)) (Err Refusal.Calibrations)
 -- between two calibrations: what is neither given nor kept has no value
 pub record Idle (m : ConstraintModule) (a : List Answer) : Type 0 where
   pub long : length a ≡ IDS
-  pub idle : (v : ℕ) → among v (inputs_of m) ≡ false → defines m.kept v ≡ false → said a v ≡ None
+  pub idle : (v : ℕ) → member v (inputs_of m) ≡ false → defines m.kept v ≡ false → said a v ≡ None
 
 -- what a step in range leaves: the values can take the next calibration, and the totals have grown by its verdicts
 pub record Left (b : List ℕ) (c : Calibration) (s s' : State) : Type 0 where

@@ -8,9 +8,9 @@ use Rattle.std.specs.Prelude.{Option, Result, Ok, Err}
 use Rattle.std.specs.Io.KnownBytes.{Consumes, IsAtEnd}
 use Rattle.records.specs.declared.refusals.Refusal.{Refusal}
 use Rattle.constraint.specs.Reading.{size}
+use Rattle.constraint_check.specs.Record.{Bytes}
 use Rattle.constraint_check.specs.Tests.{tests}
 use Rattle.constraint_check.proofs.Accepted.{tested}
-use Rattle.season_values.specs.Record.{Bytes}
 use Rattle.season_trees.specs.Season.{calibrations_of}
 use Rattle.season_trees.proofs.Written.{front-part, rest-behind}
 use Rattle.season_count.specs.declared.Count.{Count}

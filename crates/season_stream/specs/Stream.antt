@@ -16,10 +16,6 @@ abbrev pub Had : Option (List ℕ) → List ℕ → Type 0
 Had None b = Unit {0}
 Had (Some xs) b = xs ≡ b
 
--- the longest record that is accepted: a header, 64 publics, 8,192 prover ids, 16,384 equalities, 4,096 kept definitions, 16,384 nodes
-abbrev pub RECORD-BYTES : ℕ
-RECORD-BYTES = 868632
-
 -- an accepted record of n bytes was read to the front of the buffer, or what the reader had is refused for its record
 abbrev pub RecordTaken : Result ℕ Stop → Option (List ℕ) → Option (List ℕ) → List ℕ → Type 0
 RecordTaken (Ok n) old new buf = (n ≤ length buf) × (tests (take n buf) ≡ true) × Consumes old new (take n buf)

@@ -8,7 +8,8 @@ ghost use Rattle.std.specs.Prelude.{◌≡◌};
 ghost use Rattle.season_stream.specs.Statement.{StreamReported};
 
 pub use blocks::count_stream;
-pub use parts::{RECORD_BYTES, read_record};
+use constraint_check::record_buffer;
+pub use parts::read_record;
 use records::refusals::Refusal;
 use season_count::Count;
 use season_entry::report::write_report;
@@ -41,11 +42,6 @@ impl From<Refusal> for Stop {
     fn from(refusal: Refusal) -> Stop {
         Stop::Refused(refusal)
     }
-}
-
-// Kept as it is: where a literal stands in the body that uses it, its proof computes the array place by place.
-fn record_buffer() -> [u8; RECORD_BYTES] {
-    [0u8; RECORD_BYTES]
 }
 
 // The report of a season that is read to its end, at the front of the output.

@@ -3,24 +3,13 @@ ghost use Rattle.season_stream.specs.Stream.{RecordTaken};
 ghost use Rattle.season_stream.specs.Parts.{Filled, CountTaken, Ended};
 
 use super::Stop;
-use constraint::{EQUALITY_WORDS, KEPT_WORDS};
-use constraint_check::{EQUALITIES, PROVERS, check_constraint};
-use records::NODE_WORDS;
-use records::flat_record::{HEADER, HEADER_BYTES, LISTED, NODES, PUBLICS};
+use constraint_check::{RECORD_BYTES, check_constraint};
+use records::flat_record::HEADER_BYTES;
 use records::refusals::Refusal;
 use season_entry::{MOST, WORD_BYTES, record_bytes};
 use std::io::Read;
 use streams::read_input;
 use words::count;
-
-// The longest record that is accepted has every list at its limit.
-pub const RECORD_BYTES: usize = WORD_BYTES
-    * (HEADER
-        + PUBLICS
-        + PROVERS
-        + EQUALITY_WORDS * EQUALITIES
-        + KEPT_WORDS * LISTED
-        + NODE_WORDS * NODES);
 
 // Fills the buffer, or `missing` where the input ends before.
 pub fn fill<R: Read>(

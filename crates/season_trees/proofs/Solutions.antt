@@ -27,7 +27,8 @@ use Rattle.constraint.specs.declared.Term.{Term}
 use Rattle.constraint.specs.Trees.{Side, Equality, ConstraintModule}
 use Rattle.constraint.specs.Meaning.{InTerm, InSide, InEquality, term_value, side_value, EqualityHolds}
 use Rattle.season_trees.specs.declared.Verdict.{Verdict}
-use Rattle.season_trees.specs.Values.{appears, is_input, inputs_of, Environment, given, value_in, worked_out, values_of, term_in, side_in, same_number}
+use Rattle.constraint.specs.Numbers.{same_number}
+use Rattle.season_trees.specs.Values.{appears, is_input, inputs_of, Environment, given, value_in, worked_out, values_of, term_in, side_in}
 use Rattle.season_trees.specs.Values.{compared, verdict}
 use Rattle.season_trees.specs.Count.{Calibration, is_held, all_held, fulfils}
 use Rattle.season_trees.specs.Season.{in_range}

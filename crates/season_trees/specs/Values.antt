@@ -1,6 +1,6 @@
 -- What a calibration makes of a constraint record: which variables it gives, the value of each variable, and what becomes of each
 -- equality.
-use Rattle.std.specs.Prelude.{Bool, false, not, ◌&&◌, ◌||◌, List, [], ◌∷◌, ℕ, zero, suc, eqb, ℤ, pos, negsuc, Some, None}
+use Rattle.std.specs.Prelude.{Bool, false, not, ◌&&◌, ◌||◌, List, [], ◌∷◌, ℕ, eqb, ℤ, Some, None}
 use Rattle.field.specs.Operations.{Answer}
 use Rattle.field.specs.Prime.{P}
 use Rattle.field.specs.Element.{elem}
@@ -9,7 +9,7 @@ use Rattle.flat.specs.Meaning.{update, on_values, negated}
 use Rattle.flat.specs.Record.{pick}
 use Rattle.constraint.specs.declared.Term.{Term}
 use Rattle.constraint.specs.Trees.{Side, Equality, ConstraintModule}
-use Rattle.constraint_check.specs.Record.{among}
+use Rattle.constraint.specs.Numbers.{member, ids_from, same_number}
 use Rattle.season_trees.specs.declared.Verdict.{Verdict}
 
 -- ---- "one element for each variable of the record that no kept definition defines, publics and prover inputs included, in rising id order"
@@ -39,15 +39,10 @@ in_kept v (d ∷ ds) = in_tree v d.right || in_kept v ds
 
 -- whether a variable appears in the record; a kept id is a prover id
 unfoldable pub appears : ConstraintModule → ℕ → Bool
-appears m v = among v m.publics || (among v m.provers || (in_equalities v m.equalities || in_kept v m.kept))
+appears m v = member v m.publics || (member v m.provers || (in_equalities v m.equalities || in_kept v m.kept))
 
 unfoldable pub is_input : ConstraintModule → ℕ → Bool
 is_input m v = appears m v && not (defines m.kept v)
-
--- the ids from v on, n of them, that pass a test
-unfoldable pub ids_from : (ℕ → Bool) → ℕ → ℕ → List ℕ
-ids_from t v zero = []
-ids_from t v (suc n) = pick (t v) (v ∷ ids_from t (suc v) n) (ids_from t (suc v) n)
 
 unfoldable pub inputs_of : ConstraintModule → List ℕ
 inputs_of m = ids_from (is_input m) 0 m.next
@@ -92,12 +87,6 @@ side_in σ (Side.negate x) = negated (term_in σ x)
 side_in σ (Side.copy x) = term_in σ x
 
 -- "how often it held, how often it failed, and how often a term or the operation had no value"
-unfoldable pub same_number : ℤ → ℤ → Bool
-same_number (pos m) (pos n) = eqb m n
-same_number (pos m) (negsuc n) = false
-same_number (negsuc m) (pos n) = false
-same_number (negsuc m) (negsuc n) = eqb m n
-
 unfoldable pub compared : Answer → Answer → Verdict
 compared (Some a) (Some b) = pick (same_number a b) Verdict.Held Verdict.Failed
 compared (Some a) None = Verdict.Valueless

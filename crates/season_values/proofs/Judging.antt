@@ -14,7 +14,8 @@ use Rattle.constraint.specs.declared.Equality.{Equality as Written}
 use Rattle.constraint.specs.Trees.{Side, operation, first, second, written_of}
 use Rattle.constraint.specs.Reading.{equality_at, written_at}
 use Rattle.season_trees.specs.declared.Verdict.{Verdict}
-use Rattle.season_trees.specs.Values.{Environment, term_in, side_in, same_number, compared, verdict}
+use Rattle.constraint.specs.Numbers.{same_number}
+use Rattle.season_trees.specs.Values.{Environment, term_in, side_in, compared, verdict}
 use Rattle.season_trees.proofs.Tests.{not-both}
 use Rattle.season_trees.proofs.Solutions.{same_number_lem, same_self}
 use Rattle.season_values.specs.Arrays.{operation_value}

@@ -1,5 +1,5 @@
 -- What an accepted record's entries say of their ids and children.
-use Rattle.std.specs.Prelude.{List, ℕ, ◌+◌, ◌<◌, get_or}
+use Rattle.std.specs.Prelude.{List, ℕ, ◌+◌, ◌<◌}
 use Rattle.std.specs.Coded.{le_prop}
 use Rattle.flat.specs.declared.Node.{Node}
 use Rattle.flat.specs.Record.{tree}
@@ -7,12 +7,10 @@ use Rattle.flat.specs.Trees.{Flat}
 use Rattle.constraint.specs.Reading.{nodes_offset}
 use Rattle.constraint.specs.declared.Equality.{Equality as Written}
 use Rattle.constraint.specs.declared.Term.{Term}
+use Rattle.constraint_check.specs.Record.{Bytes}
 use Rattle.records.specs.FlatRecord.{IDS}
 
--- the numbers of a list are bytes
-abbrev pub Bytes : List ℕ → Type 0
-Bytes b = (k : ℕ) → get_or b k 0 < 256
-
+-- that the numbers of a list are bytes
 pub bytes-prop : (b : List ℕ) → IsProp (Bytes b)
 bytes-prop b = hlevel le_prop
 

@@ -1,7 +1,8 @@
 // What becomes of an equality under the values of variables.
 ghost use Rattle.std.specs.Prelude.{◌≡◌, ◌<◌};
 ghost use Rattle.constraint.specs.Reading.{equalities, equalities_offset, equality_at};
-ghost use Rattle.season_trees.specs.Values.{term_in, same_number, compared, verdict};
+ghost use Rattle.constraint.specs.Numbers.{same_number};
+ghost use Rattle.season_trees.specs.Values.{term_in, compared, verdict};
 ghost use Rattle.season_values.specs.Arrays.{said, operation_value};
 
 use super::record::Record;

@@ -6,9 +6,10 @@ ghost use Rattle.flat.specs.Layout.{public_at, prover_at, definition_entry};
 ghost use Rattle.flat.specs.Record.{node_of, grown};
 ghost use Rattle.constraint.specs.Reading.{publics, provers, equalities, kept, nodes, provers_offset, equalities_offset, kept_offset, nodes_offset};
 ghost use Rattle.constraint.specs.Reading.{layout_of, written_at};
+ghost use Rattle.constraint_check.specs.Record.{Bytes};
 ghost use Rattle.constraint_check.specs.Tests.{tests};
 ghost use Rattle.records.specs.FlatRecord.{IDS};
-ghost use Rattle.season_values.specs.Record.{Bytes, bytes-prop, Below, EqualityBelow, tree_of};
+ghost use Rattle.season_values.specs.Record.{bytes-prop, Below, EqualityBelow, tree_of};
 
 use constraint::Equality;
 use constraint::reading::{Layout, equality_at, layout_of};

@@ -13,7 +13,7 @@ use Rattle.std.proofs.Math.ListN.{length-replicate}
 use Rattle.std.proofs.Math.Seq.{take-length, drop-length}
 use Rattle.flat.specs.Record.{pick}
 use Rattle.pass_entry.specs.Cut.{cut_record}
-use Rattle.share_trees.specs.declared.Lengths.{Lengths}
+use Rattle.share_trees.specs.declared.PartLengths.{PartLengths}
 use Rattle.share_trees.specs.Pool.{fits, after}
 use Rattle.share_trees.specs.Sharing.{Lent, Given, need_in, need, given, turns}
 use Rattle.share_trees.specs.Parts.{held, lents_of, rejoined, answers_of}
@@ -47,7 +47,7 @@ module _ (n : ℕ) (s : List ℕ) where
 
 -- ---- needs: an output counts by its length alone
 
-pub same-needs : (records out out' : List ℕ) (zs : List Lengths) → length out ≡ length out' →
+pub same-needs : (records out out' : List ℕ) (zs : List PartLengths) → length out ≡ length out' →
     map need (lents_of records out zs) ≡ map need (lents_of records out' zs)
 unfolding lents_of need
 same-needs records out out' [] e = refl
@@ -57,7 +57,7 @@ same-needs records out out' (z ∷ zs) e =
     (held-length z.output out ∙ ap (held_length z.output) e ∙ sym (held-length z.output out')))
     (same-needs (drop z.record records) (drop z.output out) (drop z.output out') zs (omega (arith, length-drop z.output out, length-drop z.output out', e)))
 
-module _ (q : Queue) {z : Lengths} {zs : List Lengths} (first : q.lengths.now ≡ z ∷ zs) where
+module _ (q : Queue) {z : PartLengths} {zs : List PartLengths} (first : q.lengths.now ≡ z ∷ zs) where
   pub needs-step : (room : ℕ) {k h j x r : ℕ} {rest : List ℕ} → k ≡ held_length z.record (length q.records.now) → h ≡ held_length z.output room →
       x ≡ need_in h (cut_record (take k q.records.now)) → j ≡ min z.record (length q.records.now) → r ≡ room - z.output →
       rest ≡ map need (lents_of (take (length q.records.now - j) (drop j q.records.now)) (replicate r 0) zs) →
@@ -73,11 +73,11 @@ module _ (q : Queue) {z : Lengths} {zs : List Lengths} (first : q.lengths.now �
       (ex ∙ ap₂ (λ (a : ℕ) (b : List ℕ). need_in a (cut_record b)) size (part-is z.record rec ek))
       (e ∙ ap (λ (b : List ℕ). map need (lents_of b (replicate r 0) zs)) (behind-is z.record rec ej)
       ∙ same-needs (drop z.record rec) (replicate r 0) (drop z.output out) zs (omega (arith, short, er, length-drop z.output out, long)))
-      ∙ ap (λ (ls : List Lengths). map need (lents_of rec out ls)) (sym first)
+      ∙ ap (λ (ls : List PartLengths). map need (lents_of rec out ls)) (sym first)
 
 pub needs-none : (q : Queue) (out : List ℕ) → q.lengths.now ≡ [] → [] ≡ map need (lents_in q out)
 unfolding lents_in lents_of
-needs-none q out e = ap (λ (ls : List Lengths). map need (lents_of q.records.now out ls)) (sym e)
+needs-none q out e = ap (λ (ls : List PartLengths). map need (lents_of q.records.now out ls)) (sym e)
 
 -- ---- the outputs' slice, of which the first part is left as o
 
@@ -124,7 +124,7 @@ module _ (n : ℕ) (out o : List ℕ) (same : length o ≡ length (held n out)) 
 
 -- ---- the first turn, and those behind it
 
-module _ (q : Queue) {z : Lengths} {zs : List Lengths} (first : q.lengths.now ≡ z ∷ zs) (s left : ℕ) (out : List ℕ)
+module _ (q : Queue) {z : PartLengths} {zs : List PartLengths} (first : q.lengths.now ≡ z ∷ zs) (s left : ℕ) (out : List ℕ)
     {x : ℕ} {xs : List ℕ} (needs : x ∷ xs ≡ map need (lents_in q out)) where
   abbrev rec : List ℕ
   rec = q.records.now
@@ -219,7 +219,7 @@ none-left q out e z =
 module _ (q : Queue) (s left : ℕ) (out : List ℕ) (none : q.lengths.now ≡ []) where
   no-turns : turns s left (lents_in q out) ≡ []
   unfolding turns lents_in lents_of
-  no-turns = ap (λ (ls : List Lengths). turns s left (lents_of q.records.now out ls)) none
+  no-turns = ap (λ (ls : List PartLengths). turns s left (lents_of q.records.now out ls)) none
 
   pub no-answers : (m : ℕ) {bs : List (Result ℕ ℕ)} → bs ≡ answers_of m [] → bs ≡ answers_of m (turns s left (lents_in q out))
   no-answers m e = e ∙ sym (ap (answers_of m) no-turns)

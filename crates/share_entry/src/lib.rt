@@ -14,12 +14,12 @@ ghost use Rattle.share_trees.specs.Sharing.{need, need_in, given, turns};
 use pass_entry::{cut, measure};
 use pool::Pool;
 use records::refusals::Refusal;
-use share_trees::{Lengths, MOST};
+use share_trees::{MOST, PartLengths};
 
 // The records whose turn is to come, one behind the other, with the lengths of each.
 #[derive(Clone, Copy)]
 struct Queue<'a> {
-    lengths: &'a [Lengths],
+    lengths: &'a [PartLengths],
     records: &'a [u8],
 }
 
@@ -120,7 +120,7 @@ fn take_turns(
 // The answers of those that there are stand first in the array. The store is cleared.
 pub fn cut_all(
     total: usize,
-    lengths: &[Lengths],
+    lengths: &[PartLengths],
     records: &[u8],
     store: &mut [u8],
     out: &mut [u8],

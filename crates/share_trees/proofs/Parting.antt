@@ -15,7 +15,7 @@ use Rattle.pass_trees.specs.Passes.{Outcome, cut, refused}
 use Rattle.pass_entry.specs.Cut.{cut_record, output_for}
 use Rattle.share_trees.specs.Pool.{fits, after}
 use Rattle.share_trees.specs.Sharing.{Lent, alone, need, given, turns, share_of, pool_of, shared_out}
-use Rattle.share_trees.specs.declared.Lengths.{Lengths}
+use Rattle.share_trees.specs.declared.PartLengths.{PartLengths}
 use Rattle.share_trees.specs.Parts.{held, parts_of, record_lengths, output_lengths, lents_of, rejoined}
 use Rattle.share_trees.specs.Statements.{before, part_at, PartsAt, LentParts, OwnOutputs}
 
@@ -90,7 +90,7 @@ module _ (m : ℕ) (out g rest : List ℕ) (same : length g ≡ length (held m o
           let n = nothing-behind m out l in
           (held_none m out l ∙ sym (empty g (same ∙ ap length (held_none m out l))), n ∙ sym (empty rest (behind ∙ ap length n)))
 
-pub rejoined-long : (s left : ℕ) (records out : List ℕ) (zs : List Lengths)
+pub rejoined-long : (s left : ℕ) (records out : List ℕ) (zs : List PartLengths)
     → length (rejoined out zs (turns s left (lents_of records out zs))) ≡ length out
 unfolding rejoined turns lents_of piece
 rejoined-long s left records out [] = refl
@@ -102,7 +102,7 @@ rejoined-long s left records out (z ∷ zs) =
     piece-long z.output out (given (fits s left (need l)) l).output rest (given-long (fits s left (need l)) l)
     (rejoined-long s left' (drop z.record records) behind zs)
 
-own : (s left : ℕ) (records out : List ℕ) (zs : List Lengths) →
+own : (s left : ℕ) (records out : List ℕ) (zs : List PartLengths) →
     let gs = turns s left (lents_of records out zs) in
     parts_of (rejoined out zs gs) (output_lengths zs) ≡ map (λ g. g.output) gs
 unfolding rejoined turns lents_of parts_of output_lengths piece

@@ -3,7 +3,7 @@ use Rattle.std.specs.Prelude.{ℕ, zero, suc, List, [], ◌∷◌, ◌++◌, leb
 use Rattle.flat.specs.Record.{pick}
 use Rattle.records.specs.declared.refusals.Refusal.{Refusal}
 use Rattle.records.specs.Refusals.{refusal_number, numbered}
-use Rattle.share_trees.specs.declared.Lengths.{Lengths}
+use Rattle.share_trees.specs.declared.PartLengths.{PartLengths}
 use Rattle.share_trees.specs.Sharing.{Lent, Given, shared_out}
 
 -- "Up to 8 flat records"
@@ -20,19 +20,19 @@ parts_of s [] = []
 parts_of s (n ∷ ns) = held n s ∷ parts_of (drop n s) ns
 
 -- the lengths of the records, and those of their outputs
-unfoldable pub record_lengths : List Lengths → List ℕ
+unfoldable pub record_lengths : List PartLengths → List ℕ
 record_lengths zs = map (λ z. z.record) zs
 
-unfoldable pub output_lengths : List Lengths → List ℕ
+unfoldable pub output_lengths : List PartLengths → List ℕ
 output_lengths zs = map (λ z. z.output) zs
 
 -- the records with their outputs
-unfoldable pub lents_of : List ℕ → List ℕ → List Lengths → List Lent
+unfoldable pub lents_of : List ℕ → List ℕ → List PartLengths → List Lent
 lents_of records out [] = []
 lents_of records out (z ∷ zs) = record { bytes = held z.record records; output = held z.output out } ∷ lents_of (drop z.record records) (drop z.output out) zs
 
 -- the outputs' slice with what each part is left as; what no part holds stays
-unfoldable pub rejoined : List ℕ → List Lengths → List Given → List ℕ
+unfoldable pub rejoined : List ℕ → List PartLengths → List Given → List ℕ
 rejoined out [] gs = out
 rejoined out (z ∷ zs) [] = out
 rejoined out (z ∷ zs) (g ∷ gs) = pick (leb z.output (length out)) (g.output ++ rejoined (drop z.output out) zs gs) out
@@ -44,14 +44,14 @@ answers_of (suc k) [] = Ok 0 ∷ answers_of k []
 answers_of (suc k) (g ∷ gs) = g.answer ∷ answers_of k gs
 
 -- what the records get
-unfoldable pub givens_of : ℕ → List ℕ → List ℕ → List Lengths → List Given
+unfoldable pub givens_of : ℕ → List ℕ → List ℕ → List PartLengths → List Given
 givens_of T records out zs = shared_out T (lents_of records out zs)
 
 -- "more than 8 are refused 2"
-unfoldable pub shared_for : ℕ → List ℕ → List ℕ → List Lengths → Result (List (Result ℕ ℕ)) ℕ
+unfoldable pub shared_for : ℕ → List ℕ → List ℕ → List PartLengths → Result (List (Result ℕ ℕ)) ℕ
 shared_for T records out zs = pick (leb (length zs) MOST) (Ok (answers_of MOST (givens_of T records out zs))) (Err 2)
 
-unfoldable pub output_after : ℕ → List ℕ → List ℕ → List Lengths → List ℕ
+unfoldable pub output_after : ℕ → List ℕ → List ℕ → List PartLengths → List ℕ
 output_after T records out zs = pick (leb (length zs) MOST) (rejoined out zs (givens_of T records out zs)) out
 
 -- the answers of the records; none where the call is refused

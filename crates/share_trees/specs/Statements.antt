@@ -12,7 +12,7 @@ use Rattle.pass_trees.specs.Passes.{cut, cut_of}
 use Rattle.share_trees.specs.Pool.{excess, fits, left_at}
 use Rattle.share_trees.specs.Sharing.{Lent, Given, alone, need, given, share_of, pool_of, shared_out}
 use Rattle.share_trees.specs.Pool.{share}
-use Rattle.share_trees.specs.declared.Lengths.{Lengths}
+use Rattle.share_trees.specs.declared.PartLengths.{PartLengths}
 use Rattle.share_trees.specs.Parts.{parts_of, record_lengths, output_lengths, lents_of, rejoined, MOST, shared_for, each_of, output_after}
 
 -- what is left of the pool when the turn of record k comes
@@ -100,22 +100,41 @@ PartsAt = (s ns : List ℕ) (k n : ℕ) → get_elem? ns k ≡ some n → get_el
 -- and these are the records and the outputs of a call
 abbrev pub LentParts : Type 0
 LentParts =
-    (records out : List ℕ) (zs : List Lengths) →
+    (records out : List ℕ) (zs : List PartLengths) →
     let ls = lents_of records out zs in
     (map (λ l. l.bytes) ls ≡ parts_of records (record_lengths zs)) × (map (λ l. l.output) ls ≡ parts_of out (output_lengths zs))
 
 -- "Each has its own output": afterwards the parts of the outputs' slice are what the records got, each in its own
 abbrev pub OwnOutputs : Type 0
 OwnOutputs =
-    (T : ℕ) (records out : List ℕ) (zs : List Lengths) →
+    (T : ℕ) (records out : List ℕ) (zs : List PartLengths) →
     let gs = shared_out T (lents_of records out zs) in
     parts_of (rejoined out zs gs) (output_lengths zs) ≡ map (λ g. g.output) gs
 
--- and the same of a whole call: its answer for record k, and its part of the outputs' slice, are what the record would get alone where it needs no more
--- than its share
+-- and the same of a whole call, by its answer for record k and its part of the outputs' slice: what is not refused with 48 gets what it would get alone
+abbrev pub CallsTaken : Type 0
+CallsTaken =
+    (T k : ℕ) (records out : List ℕ) (zs : List PartLengths) (l : Lent) →
+    length zs ≤ MOST → get_elem? (lents_of records out zs) k ≡ some l →
+    (get_elem? (each_of (shared_for T records out zs)) k ≡ some (Err 48) → ⊥) →
+    (get_elem? (each_of (shared_for T records out zs)) k ≡ some (alone l).answer)
+    × (get_elem? (parts_of (output_after T records out zs) (output_lengths zs)) k ≡ some (alone l).output)
+
+-- the equalities of all that a call writes never pass T
+unfoldable pub equalities_among : List (Result ℕ ℕ) → List (List ℕ) → ℕ
+equalities_among [] outs = 0
+equalities_among (r ∷ rs) [] = 0
+equalities_among (r ∷ rs) (out ∷ outs) = equalities_in r out + equalities_among rs outs
+
+abbrev pub CallsNeverPast : Type 0
+CallsNeverPast =
+    (T : ℕ) (records out : List ℕ) (zs : List PartLengths) →
+    equalities_among (each_of (shared_for T records out zs)) (parts_of (output_after T records out zs) (output_lengths zs)) ≤ T
+
+-- a record that needs no more than its share gets in it what it would get alone
 abbrev pub CallsWithinShare : Type 0
 CallsWithinShare =
-    (T k : ℕ) (records out : List ℕ) (zs : List Lengths) (l : Lent) →
+    (T k : ℕ) (records out : List ℕ) (zs : List PartLengths) (l : Lent) →
     length zs ≤ MOST → get_elem? (lents_of records out zs) k ≡ some l →
     need l ≤ share T (length zs) →
     (get_elem? (each_of (shared_for T records out zs)) k ≡ some (alone l).answer)
@@ -125,7 +144,7 @@ CallsWithinShare =
 -- others are
 abbrev pub CallsIndependent : Type 0
 CallsIndependent =
-    (T k : ℕ) (records out records' out' : List ℕ) (zs zs' : List Lengths) (l : Lent) →
+    (T k : ℕ) (records out records' out' : List ℕ) (zs zs' : List PartLengths) (l : Lent) →
     length zs ≤ MOST → length zs ≡ length zs' →
     get_elem? (lents_of records out zs) k ≡ some l → get_elem? (lents_of records' out' zs') k ≡ some l →
     need l ≤ share T (length zs) →

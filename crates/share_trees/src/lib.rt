@@ -6,7 +6,7 @@ pub const MOST: usize = 8;
 
 // How many bytes a record has, and how many are lent as its output.
 #[derive(Clone, Copy)]
-pub struct Lengths {
+pub struct PartLengths {
     pub record: usize,
     pub output: usize,
 }

@@ -46,3 +46,7 @@ Stepped (Err e) size = Unit {0}
 abbrev pub Taken : Result ℕ Failed → Option (List ℕ) → Option (List ℕ) → List ℕ → Type 0
 Taken (Ok n) old new xs = Consumes old new (take n xs) × (n ≡ 0 → 0 < length xs → IsAtEnd new)
 Taken (Err e) old new xs = Unit {0}
+
+-- the byte that begins an option, `-`
+abbrev pub HYPHEN : ℕ
+HYPHEN = 45

@@ -1,9 +1,9 @@
 // The streams of a program. What fails is said on standard error, in words, and no failure is taken for an end or for success.
 #![tactic(auto)]
 
-ghost use Rattle.std.specs.Prelude.{◌≡◌, IfOk, length};
+ghost use Rattle.std.specs.Prelude.{◌≡◌, ◌≢◌, IfOk, get_or, length};
 ghost use Rattle.std.specs.Io.KnownBytes.{Keeps};
-ghost use Rattle.streams.specs.Streams.{Within, Given, Whole, Added, Put, PutBytes, Stepped, Taken};
+ghost use Rattle.streams.specs.Streams.{Within, Given, Whole, Added, Put, PutBytes, Stepped, Taken, HYPHEN};
 
 use std::convert::Infallible;
 use std::env::FillError;
@@ -24,9 +24,12 @@ pub enum Opened<F> {
 }
 
 // The room for the name of a file, and for the words of an error.
-const NAME: usize = 4096;
+pub const NAME: usize = 4096;
 
 const WORDS: usize = 256;
+
+// An argument that begins with it is an option.
+const HYPHEN: u8 = b'-';
 
 // The words of an error, without its number, which std puts behind the system's words.
 fn words_of(text: &str) -> &str {
@@ -151,20 +154,20 @@ pub fn has_argument(rt: &impl Env, i: usize) -> bool {
 
 // The name of a file that an argument gives. An option is answered by the line of usage.
 pub fn file_name<'a>(rt: &impl Eprint, argument: &'a [u8], usage: &str) -> Result<&'a str, Failed>
-    ensures { IfOk result (λ name. name.now ≡ argument.now) }
+    ensures { IfOk result (λ name. (name.now ≡ argument.now) × (get_or name.now 0 0 ≢ HYPHEN)) }
 {
-    if argument.starts_with(b"-") {
+    if argument.starts_with(&[HYPHEN]) {
         return Err(say_usage(rt, usage));
     }
     let Ok(name) = str::from_utf8(argument) else {
-        let _ = eprintln!(rt; "input: the name is not UTF-8");
+        let _ = eprintln!(rt; "the name of the file is not UTF-8");
         return Err(Failed);
     };
     Ok(name)
 }
 
 // The file that an argument names.
-pub fn open_named<R: Files + Eprint>(
+fn open_named<R: Files + Eprint>(
     rt: &R,
     argument: &[u8],
     usage: &str,
@@ -186,7 +189,7 @@ pub fn open_standard(rt: &(impl Env + Eprint), usage: &str) -> Result<Opened<Inf
     Ok(Opened::Standard)
 }
 
-// Standard input, or the file that the only argument names. Options and further arguments are answered by the line of usage.
+// Standard input, or the file that the only argument names. Options, further arguments and a name over 4,096 bytes are answered by the line of usage.
 pub fn open_input<R: Env + Files + Eprint>(rt: &R, usage: &str) -> Result<Opened<R::File>, Failed> {
     let mut name = [0u8; NAME];
     match rt.arg(1, &mut name) {
@@ -196,7 +199,7 @@ pub fn open_input<R: Env + Files + Eprint>(rt: &R, usage: &str) -> Result<Opened
     }
 }
 
-// The file that argument i names. An option, or no argument, is answered by the line of usage.
+// The file that argument i names. An option, no argument, or a name over 4,096 bytes, is answered by the line of usage.
 pub fn open_argument<R: Env + Files + Eprint>(
     rt: &R,
     i: usize,

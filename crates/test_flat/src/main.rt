@@ -67,7 +67,7 @@ impl Cases<KINDS_OF_CASES> for Lent {
             return Err(Stop::Broken);
         }
         let right = answers(flat, store, out, n, expected);
-        let same = is_next(rt, &out[..n])?;
+        let same = is_next(rt, &mut rt.reader(), &out[..n])?;
         let verdict = Verdict::of(right && same, expected.is_ok());
         counts.count_case(rt, verdict as usize, part)?;
         Ok(())

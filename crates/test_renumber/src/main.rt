@@ -4,12 +4,13 @@
 // that fails is said on standard error.
 #![tactic(auto)]
 
-use renumber_entry::{RECORD_BYTES, TABLE_BYTES, expand, renumber};
+use constraint_check::RECORD_BYTES;
+use renumber_entry::{TABLE_BYTES, expand, renumber};
 use std::rt::Env;
 use streams::{Failed, open_standard};
 use test_report::{
-    CASES_TEXT, Cases, Counts, KINDS_OF_CASES, Stop, Verdict, read_rest, read_words, replay_all,
-    said,
+    CASES_TEXT, Cases, Counts, KINDS_OF_CASES, Stop, Verdict, is_next, read_rest, read_words,
+    replay_all, said,
 };
 
 // Room beyond the longest record and the longest table.
@@ -19,27 +20,12 @@ const INPUT: usize = RECORD_BYTES + MORE;
 
 const TABLE: usize = TABLE_BYTES + MORE;
 
-// Bytes are compared by blocks.
-const BLOCK: usize = 4096;
-
 // What stands in the output and in the table before a case.
 // Kept as it is: each program fills what it lends with a byte of its own choice, and no test needs them to be alike.
 const UNWRITTEN: u8 = 165;
 
 // The kind of a case that renumbers.
 const RENUMBER: u32 = 0;
-
-// Reads as many bytes as `s` has, whatever they are: are they those of `s`?
-fn is_next(rt: &(impl Input + Eprint), s: &[u8]) -> Result<bool, Stop> {
-    let mut same = true;
-    for expected in s.chunks(BLOCK) {
-        let mut block = [0u8; BLOCK];
-        let block = &mut block[..expected.len()];
-        read_rest(rt, block)?;
-        same &= &*block == expected;
-    }
-    Ok(same)
-}
 
 // Whether nothing was written behind the first n bytes.
 fn untouched(s: &[u8], n: usize) -> bool {
@@ -119,8 +105,8 @@ impl Cases<KINDS_OF_CASES> for Lent {
             return Err(Stop::Broken);
         }
         let right = answers(rt, record, table, out, &wanted)?;
-        let same = is_next(rt, &out[..wanted.output])?;
-        let same_table = is_next(rt, &table[..wanted.table])?;
+        let same = is_next(rt, &mut rt.reader(), &out[..wanted.output])?;
+        let same_table = is_next(rt, &mut rt.reader(), &table[..wanted.table])?;
         let verdict = Verdict::of(right && same && same_table, answer.is_ok());
         counts.count_case(rt, verdict as usize, part)?;
         Ok(())

@@ -1,17 +1,23 @@
 -- What holds of lines with counts in them. Assumes nothing.
 use Prim.Native.Nat.{ℕ, zero, suc, ◌+◌, ◌≤◌, ◌<◌}
-use mathlib.Core.Path.{◌≡◌, refl, ap, sym}
-use mathlib.Core.List.{List, [], ◌∷◌, ◌++◌, append_assoc}
+use mathlib.Core.Path.{◌≡◌, refl, ap, ap₂, sym, subst, ◌∙◌}
+use mathlib.Core.Bool.{Bool, true, ◌&&◌}
+use mathlib.Core.List.{List, [], ◌∷◌, ◌++◌, append_assoc, append-nil}
+use mathlib.Core.Logic.{◌↔◌}
 use native.Mathlib.Omega.{arith}
 use native.Mathlib.Numerals.{add-one}
-use lib.ListN.{length, get_or, set, take, drop, drop_of_length-le, get_or-eq_default}
-use lib.Seq.{set_out, drop-cons, drop-drop, get_or-drop}
+use lib.ListN.{length, get_or, set, take, drop, length-append, drop_of_length-le, get_or-eq_default}
+use lib.Seq.{set_out, drop-cons, drop-drop, get_or-drop, take_at, drop_at}
 use borrow.Author.Tests.{lt-ltb, le-ltb, eq-eqb, ne_eqb}
-use Rattle.std.specs.Prelude.{Result, Ok, Err}
+use Rattle.std.specs.Prelude.{Option, Result, Ok, Err, nat_eq}
+use Rattle.std.specs.Cmp.Lexicographic.{pointwise, bytes_decides}
+use Rattle.std.specs.Io.KnownBytes.{Consumes}
+use Rattle.std.proofs.KnownBytes.{Consumes-nil, Consumes-trans}
+use Rattle.std.proofs.lemmas.Bool.{and_parts}
 use Rattle.std.specs.Result.{IsOk, OnOk}
 use Rattle.constraint_text.specs.Text.{decimal}
 use Rattle.test_report.specs.Lines.{MARK, piece, takes, filled}
-use Rattle.test_report.specs.Parts.{MANY, counted}
+use Rattle.test_report.specs.Parts.{MANY, counted, Compared}
 
 -- a line that is cut, with more behind it
 pub cut-append : (n : ℕ) (t u : List ℕ) → take n (take n t ++ u) ≡ take n (t ++ u)
@@ -67,3 +73,34 @@ counted-many xs k h = rw (le-ltb (get_or xs k 0) MANY h)
 
 pub counted-out : (xs : List ℕ) (k : ℕ) → length xs ≤ k → xs ≡ counted xs k
 counted-out xs k h = rw (get_or-eq_default {A = ℕ} xs 0 h) (sym (set_out {A = ℕ} xs k 1 h))
+
+-- ---- bytes that are compared by blocks
+
+pub compared-none : (a : Option (List ℕ)) → Compared true a a []
+compared-none a = ([], Consumes-nil a, refl, ((λ _. refl), (λ _. refl)))
+
+-- one block more
+module _ (x y : List ℕ) where
+  alike : (again : Bool) → again ≡ pointwise nat_eq y x → (again ≡ true) ↔ (y ≡ x)
+  alike again e = ((λ t. (bytes_decides y x).0 (sym e ∙ t)), (λ q. e ∙ (bytes_decides y x).1 q))
+
+  pub compared-more : (same again : Bool) (a b c : Option (List ℕ)) (xs : List ℕ) → Compared same a b xs → Consumes b c y → length y ≡ length x
+      → again ≡ pointwise nat_eq y x → Compared (same && again) a c (xs ++ x)
+  compared-more same again a b c xs h k l e =
+      let ys = h.0 in
+      let is = alike again e in (
+        ys ++ y,
+        Consumes-trans a b c ys y h.1 k,
+        length-append ys y ∙ ap₂ (λ (m n : ℕ). m + n) h.2 l ∙ sym (length-append xs x),
+        (
+          (λ t. let p = and_parts same again t in ap₂ (λ (u v : List ℕ). u ++ v) (h.3.0 p.0) (is.0 p.1)),
+          (λ q.
+              let front : ys ≡ xs = sym (take_at ys y (length xs) h.2) ∙ ap (take (length xs)) q ∙ take_at xs x (length xs) refl in
+              let back : y ≡ x = sym (drop_at ys y (length xs) h.2) ∙ ap (drop (length xs)) q ∙ drop_at xs x (length xs) refl in
+              rw (h.3.1 front, is.1 back)),
+        ),
+      )
+
+pub compared-all : (same : Bool) (a b : Option (List ℕ)) (s xs rest : List ℕ) → s ≡ xs ++ rest → length rest ≡ 0 → Compared same a b xs → Compared same a b s
+compared-all same a b s xs [] e l h = subst (Compared same a b) (sym (e ∙ append-nil xs)) h
+compared-all same a b s xs (x ∷ rest) e l h = absurd (omega arith)

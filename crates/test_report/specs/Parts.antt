@@ -1,5 +1,6 @@
 -- What the answers about parts of the input say, and the counts.
-use Rattle.std.specs.Prelude.{ℕ, ◌+◌, ◌-◌, ◌<◌, Bool, true, false, cond, List, ltb, get_or, set, Result, Ok, Err, IsErr}
+use Rattle.std.specs.Prelude.{ℕ, ◌≡◌, ◌+◌, ◌-◌, ◌<◌, Bool, true, false, cond, List, length, ltb, get_or, set, Option, Result, Ok, Err, IsErr, ◌↔◌}
+use Rattle.std.specs.Io.KnownBytes.{Consumes}
 use Rattle.streams.specs.declared.Failed.{Failed}
 use Rattle.test_report.specs.declared.Stop.{Stop}
 use Rattle.test_report.specs.declared.Verdict.{Verdict}
@@ -17,6 +18,19 @@ Rest (Ok _) = Unit {0}
 Rest (Err Stop.End) = ⊥
 Rest (Err Stop.Broken) = Unit {0}
 Rest (Err Stop.Failed) = Unit {0}
+
+-- what was read is what the input had next, where its bytes are known
+abbrev pub Took : Result (Unit {0}) Stop → Option (List ℕ) → Option (List ℕ) → List ℕ → Type 0
+Took (Ok _) old new xs = Consumes old new xs
+Took (Err _) old new xs = Unit {0}
+
+-- as many bytes as the list has came next, and whether they are those of the list
+abbrev pub Compared : Bool → Option (List ℕ) → Option (List ℕ) → List ℕ → Type 0
+Compared same old new xs = (ys : List ℕ) × Consumes old new ys × (length ys ≡ length xs) × ((same ≡ true) ↔ (ys ≡ xs))
+
+abbrev pub Next : Result Bool Stop → Option (List ℕ) → Option (List ℕ) → List ℕ → Type 0
+Next (Ok same) old new xs = Compared same old new xs
+Next (Err _) old new xs = Unit {0}
 
 -- a case whose answer is as expected or not, and which was to be accepted or refused
 abbrev pub verdict_of : Bool → Bool → Verdict

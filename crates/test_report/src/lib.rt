@@ -7,13 +7,14 @@ mod line;
 
 ghost use Rattle.std.specs.Prelude.{◌≡◌, ◌*◌, ◌≤◌, length, take, replicate, IfOk};
 ghost use Rattle.streams.specs.Streams.{Whole};
-ghost use Rattle.test_report.specs.Parts.{Asked, Rest, Finish, counted, finished, verdict_of, run_kind, said_of, PARTS};
+ghost use Rattle.test_report.specs.Parts.{Asked, Rest, Took, Next, Finish, counted, finished, verdict_of, run_kind, said_of, PARTS};
 ghost use Rattle.test_report.specs.Lines.{filled, LINE};
 
 pub use groups::{Groups, RUNS, Runs, Seen};
 use line::fill_line;
+use std::io::Read;
 use std::{array, io};
-use streams::{Failed, close_output, read_standard, write_output};
+use streams::{Failed, close_output, read_input, write_output};
 
 // Why no further part of the input is read. A part is a case, or some bytes of it.
 #[derive(Clone, Copy, Debug, PartialEq, Eq)]
@@ -79,11 +80,12 @@ const BLOCK: usize = 4096;
 // How many parts a program takes.
 const PARTS: u64 = 1000000;
 
-// The next bytes of standard input, as many as the slice has.
-pub fn read_part(rt: &(impl Input + Eprint), s: &mut [u8]) -> Result<(), Stop>
-    ensures { Asked result (length s.old) × (length s.new ≡ length s.old) }
+// The next bytes of an input, as many as the slice has.
+fn read_next<R: Read>(rt: &impl Eprint, input: &mut R, s: &mut [u8]) -> Result<(), Stop>
+    ensures asked { Asked result (length s.old) × (length s.new ≡ length s.old) }
+    ensures bytes { Took result (R.remaining input.old) (R.remaining input.new) s.new }
 {
-    let n = read_standard(rt, s)?;
+    let n = read_input(rt, input, s)?;
     if s.len() <= n {
         return Ok(());
     }
@@ -91,6 +93,13 @@ pub fn read_part(rt: &(impl Input + Eprint), s: &mut [u8]) -> Result<(), Stop>
         return Err(Stop::End);
     }
     Err(Stop::Broken)
+}
+
+// The next bytes of standard input, as many as the slice has.
+pub fn read_part(rt: &(impl Input + Eprint), s: &mut [u8]) -> Result<(), Stop>
+    ensures { Asked result (length s.old) × (length s.new ≡ length s.old) }
+{
+    read_next(rt, &mut rt.reader(), s)
 }
 
 // The words of bytes.
@@ -109,24 +118,33 @@ pub fn read_words<const N: usize>(rt: &(impl Input + Eprint)) -> Result<[u32; N]
 
 // The same of bytes that belong to what was read before: the input must not end in front of them.
 // Kept as it is: `map_err` would take the same match, inside a closure.
-pub fn read_rest(rt: &(impl Input + Eprint), s: &mut [u8]) -> Result<(), Stop>
-    ensures { Rest result × (length s.new ≡ length s.old) }
+fn read_behind<R: Read>(rt: &impl Eprint, input: &mut R, s: &mut [u8]) -> Result<(), Stop>
+    ensures rest { Rest result × (length s.new ≡ length s.old) }
+    ensures bytes { Took result (R.remaining input.old) (R.remaining input.new) s.new }
 {
-    match read_part(rt, s) {
+    match read_next(rt, input, s) {
         Err(Stop::End) => Err(Stop::Broken),
         other => other,
     }
 }
 
+// The same of standard input.
+pub fn read_rest(rt: &(impl Input + Eprint), s: &mut [u8]) -> Result<(), Stop>
+    ensures { Rest result × (length s.new ≡ length s.old) }
+{
+    read_behind(rt, &mut rt.reader(), s)
+}
+
 // Reads as many bytes as `s` has, whatever they are: are they those of `s`?
-pub fn is_next(rt: &(impl Input + Eprint), s: &[u8]) -> Result<bool, Stop>
-    ensures { Rest result }
+pub fn is_next<R: Read>(rt: &impl Eprint, input: &mut R, s: &[u8]) -> Result<bool, Stop>
+    ensures rest { Rest result }
+    ensures answer { Next result (R.remaining input.old) (R.remaining input.new) s.now }
 {
     let mut same = true;
     for expected in s.chunks(BLOCK) {
         let mut block = [0u8; BLOCK];
         let block = &mut block[..expected.len()];
-        read_rest(rt, block)?;
+        read_behind(rt, input, block)?;
         same &= &*block == expected;
     }
     Ok(same)

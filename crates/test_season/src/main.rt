@@ -6,8 +6,8 @@
 use std::rt::Env;
 use streams::{Failed, open_standard};
 use test_report::{
-    CASES_TEXT, Cases, Counts, KINDS_OF_CASES, Stop, Verdict, read_rest, read_words, replay_all,
-    said,
+    CASES_TEXT, Cases, Counts, KINDS_OF_CASES, Stop, Verdict, is_next, read_rest, read_words,
+    replay_all, said,
 };
 
 // Room for the input and the output of each case.
@@ -15,23 +15,8 @@ const INPUT: usize = 600000;
 
 const OUTPUT: usize = 200000;
 
-// Bytes are compared by blocks.
-const BLOCK: usize = 4096;
-
 // What stands in the output before a case.
 const UNWRITTEN: u8 = 165;
-
-// Reads as many bytes as `s` has, whatever they are: are they those of `s`?
-fn is_next(rt: &(impl Input + Eprint), s: &[u8]) -> Result<bool, Stop> {
-    let mut same = true;
-    for expected in s.chunks(BLOCK) {
-        let mut block = [0u8; BLOCK];
-        let block = &mut block[..expected.len()];
-        read_rest(rt, block)?;
-        same &= &*block == expected;
-    }
-    Ok(same)
-}
 
 // Whether the answer is the expected one, and the output as it was behind its first n bytes.
 fn answers(input: &[u8], out: &mut [u8], n: usize, expected: Result<u32, u32>) -> bool {
@@ -67,7 +52,7 @@ impl Cases<KINDS_OF_CASES> for Lent {
             return Err(Stop::Broken);
         }
         let right = answers(input, out, n, expected);
-        let same = is_next(rt, &out[..n])?;
+        let same = is_next(rt, &mut rt.reader(), &out[..n])?;
         let verdict = Verdict::of(right && same, expected.is_ok());
         counts.count_case(rt, verdict as usize, part)?;
         Ok(())

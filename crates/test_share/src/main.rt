@@ -7,12 +7,12 @@
 
 use records::refusals::Refusal;
 use share_entry::cut_all;
-use share_trees::{Lengths, MOST};
+use share_trees::{MOST, PartLengths};
 use std::rt::Env;
 use streams::{Failed, open_standard};
 use test_report::{
-    CASES_TEXT, Cases, Counts, KINDS_OF_CASES, Stop, Verdict, read_rest, read_words, replay_all,
-    said,
+    CASES_TEXT, Cases, Counts, KINDS_OF_CASES, Stop, Verdict, is_next, read_rest, read_words,
+    replay_all, said,
 };
 
 // Where the words of a case's head stand, and how many there are.
@@ -36,9 +36,6 @@ const STORE: usize = 64;
 // More records than there may be: a call of more lengths is refused as one of so many.
 const TOO_MANY: usize = MOST + 1;
 
-// Bytes are compared by blocks.
-const BLOCK: usize = 4096;
-
 // What stands in the outputs and in the store before a case.
 // Kept as it is: each program fills what it lends with a byte of its own choice, and no test needs them to be alike.
 const UNWRITTEN: u8 = 165;
@@ -53,27 +50,14 @@ fn number(word: u32) -> usize {
     word as usize
 }
 
-// Reads as many bytes as `s` has, whatever they are: are they those of `s`?
-// Kept as it is: `test_flat` has it too, and the test programs share no more than what `test_report` says.
-fn is_next(rt: &(impl Input + Eprint), s: &[u8]) -> Result<bool, Stop> {
-    let mut same = true;
-    for expected in s.chunks(BLOCK) {
-        let mut block = [0u8; BLOCK];
-        let block = &mut block[..expected.len()];
-        read_rest(rt, block)?;
-        same &= &*block == expected;
-    }
-    Ok(same)
-}
-
 // The lengths of a head.
-fn lengths_of(head: &[u32; HEAD]) -> [Lengths; TOO_MANY] {
-    let mut lengths = [Lengths {
+fn lengths_of(head: &[u32; HEAD]) -> [PartLengths; TOO_MANY] {
+    let mut lengths = [PartLengths {
         record: 0,
         output: 0,
     }; TOO_MANY];
     for k in 0..MOST {
-        lengths[k] = Lengths {
+        lengths[k] = PartLengths {
             record: number(head[RECORDS_AT + k]),
             output: number(head[OUTPUTS_AT + k]),
         };

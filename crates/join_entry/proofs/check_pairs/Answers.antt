@@ -11,7 +11,9 @@ use Rattle.flat.specs.Record.{module_of}
 use Rattle.join_trees.specs.Pairs.{pairs_of}
 use Rattle.join_trees.specs.Joined.{renamed}
 use Rattle.join_trees.specs.Join.{Joining}
-use Rattle.join_entry.proofs.Answers.{module-next, pairs-test, pairs-44, pairs-45, pairs-46, pairs-pass}
+use Rattle.join_trees.proofs.Order.{pairs-44, pairs-45, pairs-46, pairs-pass}
+use Rattle.join_entry.specs.Entry.{finished}
+use Rattle.join_entry.proofs.Answers.{module-next, pairs-test}
 use Rattle.join_entry.proofs.check_pairs.Goals as goal
 
 pub overflow_cast-n : goal.overflow_cast-n
@@ -50,6 +52,7 @@ returns-then-not-provers_alike c =
     pairs-46 _ _ _ _ _ fit (sym c.none_defined.ensures ∙ c.if-not-none_defined.false) (sym c.provers_alike.ensures ∙ c.if-not-provers_alike.true)
 
 pub returns : goal.returns
+unfolding finished
 returns c =
     let e = c.in_ok-names.ensures in
     let f = module_of c.args.first.now.bytes.now in

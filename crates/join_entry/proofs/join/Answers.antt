@@ -3,7 +3,8 @@ use mathlib.Core.Path.{sym, ap, ◌∙◌}
 use lib.ListN.{length}
 use Rattle.std.proofs.lemmas.Result.{err_from_is_err_and}
 use Rattle.join_entry.specs.Entry.{answer_for, output_for}
-use Rattle.join_entry.proofs.Answers.{refused-answer, first-refused, second-refused, accepted-as, joining-is}
+use Rattle.join_trees.proofs.Order.{first-refused, second-refused}
+use Rattle.join_entry.proofs.Answers.{refused-answer, accepted-as, joining-is}
 use Rattle.join_entry.proofs.join.Goals as goal
 
 pub returns-in_err-first-clause-value : goal.returns-in_err-first-clause-value

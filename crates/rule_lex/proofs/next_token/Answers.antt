@@ -38,7 +38,8 @@ returns-in_ok-kind-in-Letter c =
 pub returns-in-Digit : goal.returns-in-Digit
 returns-in-Digit c =
     λ ts h.
-    number-token c.args.text.now c.args.at ts h _ c.skip-from.ensures _ c.if-text-from.false (is-digit _ (sym c.class_of.ensures ∙ c.in-Digit.is)) c.number_at.ensures
+    number-token c.args.text.now c.args.at ts h _ c.skip-from.ensures _ c.if-text-from.false (is-digit _ (sym c.class_of.ensures ∙ c.in-Digit.is))
+    c.number_at.ensures
 
 pub returns-in-Symbol : goal.returns-in-Symbol
 returns-in-Symbol c =
@@ -46,7 +47,8 @@ returns-in-Symbol c =
     let b = c.args.text.now in
     let y = is-symbol _ _ (sym c.class_of.ensures ∙ c.in-Symbol.is) in
     let from = c.skip-from.result in
-    subst (λ k. Lexes b c.args.at ts (Some (lexeme k from (from + 1) 0))) (sym y.2) (symbol-token b c.args.at ts h _ c.skip-from.ensures y.0 c.if-text-from.false y.1)
+    subst (λ k. Lexes b c.args.at ts (Some (lexeme k from (from + 1) 0))) (sym y.2)
+    (symbol-token b c.args.at ts h _ c.skip-from.ensures y.0 c.if-text-from.false y.1)
 
 pub returns-in_default : goal.returns-in_default
 returns-in_default c =

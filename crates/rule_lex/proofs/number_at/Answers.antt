@@ -40,7 +40,8 @@ record Grows (n c : ℕ) : Type 0 where
   pub digit : (48 ≤ c) × (c ≤ 57)
   pub low : n * 10 + (c - 48) ≤ LARGEST
 
-grows : (b : List ℕ) (from to n : ℕ) (ts : List Token) → from < length b → tokens_of (drop from b) ≡ Some ts → class_of (get_or b from 0) ≡ digit → to < length b
+grows : (b : List ℕ) (from to n : ℕ) (ts : List Token) → from < length b → tokens_of (drop from b) ≡ Some ts
+    → class_of (get_or b from 0) ≡ digit → to < length b
     → in_number (class_of (get_or b to 0)) ≡ true
     → tokens_from (digits (onto 0 (get_or b from 0))) (drop (from + 1) b) ≡ tokens_from (digits n) (drop to b) → Grows n (get_or b to 0)
 unfolding onto

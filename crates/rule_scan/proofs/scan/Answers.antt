@@ -1,40 +1,26 @@
 -- `rule_scan::scan` meets its contract. Assumes nothing.
-use mathlib.Core.Path.{◌≡◌, sym, ap, subst, ◌∙◌}
+use mathlib.Core.Path.{◌≡◌, subst, ◌∙◌}
 use native.Mathlib.Omega.{arith}
-use Prim.Native.Nat.{◌+◌, max}
 use lib.ListN.{length}
-use Rattle.std.specs.Option.{option_map}
-use Rattle.rule_scan.specs.Stages.{stage_of, Standing}
-use Rattle.rule_scan.proofs.Walking.{Going, going-start, going-step, going-stop, going-end, max-is}
+use Rattle.rule_scan.specs.Stages.{Standing}
+use Rattle.rule_scan.proofs.Walking.{short-scanned, whole-scanned}
 use Rattle.rule_scan.proofs.scan.Goals as goal
 
-pub loop-at-init : goal.loop-at-init
-loop-at-init c = going-start c.args.text.now
-
-pub next-requires : goal.next-requires
-next-requires c = (c.loop-at-test.true, c.loop-at.invariant.stands)
-
-pub returns-in_default : goal.returns-in_default
-returns-in_default c =
-    let b = c.args.text.now in
-    going-stop b c.loop-at.at c.loop-at.stage c.loop-at.deepest c.loop-at.invariant c.loop-at-test.true
-    (ap (option_map (stage_of b (c.loop-at.at + 1))) (sym c.in_default.is) ∙ c.next.ensures.value)
-
-pub loop-at-preserved : goal.loop-at-preserved
-loop-at-preserved c =
-    let b = c.args.text.now in
-    going-step b c.loop-at.at c.loop-at.stage c.loop-at.deepest c.loop-at.invariant c.loop-at-test.true c.in-Some.next _
-    c.in-Some.ensures.value c.in-Some.ensures.standing
-    (c.max-deepest.ensures ∙ max-is c.loop-at.deepest c.open_in.result ∙ ap (max c.loop-at.deepest) c.open_in.ensures)
+pub returns-then-at-text : goal.returns-then-at-text
+returns-then-at-text c = short-scanned c.args.text.now c.walk-at.result c.walk-at.ensures c.if-at-text.true
 
 pub ending-requires : goal.ending-requires
 ending-requires c =
     let b = c.args.text.now in
-    let e : c.loop-at.at ≡ length b = omega arith in
-    subst (λ n. Standing b n c.loop-at.stage) e c.loop-at.invariant.stands
+    let w = c.walk-at.result in
+    let k = c.walk-at.ensures in
+    let e : w.at ≡ length b = omega (arith, c.if-at-text.false, k.stands.read) in
+    subst (λ n. Standing b n w.stage) e k.stands
 
 pub returns : goal.returns
 returns c =
     let b = c.args.text.now in
-    let e : c.loop-at.at ≡ length b = omega arith in
-    c.ending.ensures ∙ going-end b _ _ (subst (λ n. Going b n c.loop-at.stage c.loop-at.deepest) e c.loop-at.invariant)
+    let w = c.walk-at.result in
+    let k = c.walk-at.ensures in
+    let e : w.at ≡ length b = omega (arith, c.if-at-text.false, k.stands.read) in
+    c.ending.ensures ∙ whole-scanned b w k e

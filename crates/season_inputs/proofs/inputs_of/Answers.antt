@@ -5,7 +5,8 @@ use Prim.Native.Nat.{ℕ, ◌<◌}
 use lib.ListN.{length}
 use Rattle.arrayvec.specs.ArrayVec.{ArrayVec}
 use Rattle.constraint.specs.Reading.{next, constraint_of}
-use Rattle.season_trees.specs.Values.{ids_from, inputs_of}
+use Rattle.constraint.specs.Numbers.{ids_from}
+use Rattle.season_trees.specs.Values.{inputs_of}
 use Rattle.season_values.proofs.Entries.{ids-few}
 use Rattle.season_values.proofs.Laid.{next-laid}
 use Rattle.season_inputs.specs.Marks.{marked}

@@ -1,7 +1,7 @@
 use mathlib.Core.Path.{◌≡◌}
 use Rattle.constraint.specs.Reading.{next}
 use Rattle.season_inputs.specs.Marks.{marked}
-use Rattle.season_trees.specs.Values.{ids_from}
+use Rattle.constraint.specs.Numbers.{ids_from}
 use Rattle.season_inputs.proofs.inputs_of.Given as goal
 
 abbrev pub invariant-loop-v : goal.invariant-loop-v

@@ -86,7 +86,8 @@ returns-in-Plus c =
     λ t h.
     let b = c.args.text.now in
     let l = c.args.token in
-    carried-piece b c.args.names.now l t h (index_of (spanned b l.span) (table_of b c.args.names.now)) (λ e. refl) (Kind.Term Term.Plus) (c.in-Term.is ∙ ap Kind.Term c.in-Plus.is)
+    carried-piece b c.args.names.now l t h (index_of (spanned b l.span) (table_of b c.args.names.now))
+    (λ e. refl) (Kind.Term Term.Plus) (c.in-Term.is ∙ ap Kind.Term c.in-Plus.is)
 
 pub returns-in-Minus : goal.returns-in-Minus
 unfolding made
@@ -94,7 +95,8 @@ returns-in-Minus c =
     λ t h.
     let b = c.args.text.now in
     let l = c.args.token in
-    carried-piece b c.args.names.now l t h (index_of (spanned b l.span) (table_of b c.args.names.now)) (λ e. refl) (Kind.Term Term.Minus) (c.in-Term.is ∙ ap Kind.Term c.in-Minus.is)
+    carried-piece b c.args.names.now l t h (index_of (spanned b l.span) (table_of b c.args.names.now))
+    (λ e. refl) (Kind.Term Term.Minus) (c.in-Term.is ∙ ap Kind.Term c.in-Minus.is)
 
 pub returns-in-Factor : goal.returns-in-Factor
 unfolding made
@@ -103,4 +105,5 @@ returns-in-Factor c =
     let b = c.args.text.now in
     let l = c.args.token in
     ap Piece.Operator c.operator_of.ensures
-    ∙ carried-piece b c.args.names.now l t h (index_of (spanned b l.span) (table_of b c.args.names.now)) (λ e. refl) (Kind.Factor c.in-Factor.factor) c.in-Factor.is
+    ∙ carried-piece b c.args.names.now l t h (index_of (spanned b l.span) (table_of b c.args.names.now))
+    (λ e. refl) (Kind.Factor c.in-Factor.factor) c.in-Factor.is

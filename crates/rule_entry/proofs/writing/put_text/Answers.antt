@@ -34,7 +34,9 @@ loop-k-preserved c =
     record {
       left =
           text-turn c.loop-k.out c.put_name.new.out c.loop-k.to (c.loop-k.to + span_size e) (spanned b e) (joined (table_of b (drop (k + 1) names)))
-          (joined (table_of b (drop k names))) (text-left b names k d e c.loop-k-test.true refl) (c.put_name.ensures ∙ ap (sets c.loop-k.out c.loop-k.to) (spanned-part b e h.0.0)) (ap (λ j. c.loop-k.to + j) (sym l))
+          (joined (table_of b (drop k names))) (text-left b names k d e c.loop-k-test.true refl)
+          (c.put_name.ensures ∙ ap (sets c.loop-k.out c.loop-k.to) (spanned-part b e h.0.0))
+          (ap (λ j. c.loop-k.to + j) (sym l))
           ∙ i.left;
       within = h.1;
       room = text-less b names k d e c.loop-k-test.true refl c.loop-k.to _ i.room l;

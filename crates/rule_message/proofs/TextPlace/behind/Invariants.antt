@@ -1,4 +1,4 @@
-use Rattle.std.proofs.Common.{◌≡◌, ◌+◌, ◌≤◌, length, drop}
+use Rattle.std.proofs.Common.{◌≡◌, ◌+◌, ◌≤◌, drop}
 use Rattle.rule_message.specs.Places.{place_from, place_of}
 use Rattle.rule_message.proofs.TextPlace.behind.Given as goal
 

@@ -10,7 +10,8 @@ returns-then-is_ascii_alphabetic c = letter-class c.args.c (sym c.is_ascii_alpha
 
 pub returns-then-is_ascii_digit : goal.returns-then-is_ascii_digit
 returns-then-is_ascii_digit c =
-    digit-class c.args.c (sym c.is_ascii_alphabetic.ensures.value ∙ c.if-is_ascii_alphabetic.false) (sym c.is_ascii_digit.ensures.value ∙ c.if-is_ascii_digit.true)
+    digit-class c.args.c (sym c.is_ascii_alphabetic.ensures.value ∙ c.if-is_ascii_alphabetic.false)
+    (sym c.is_ascii_digit.ensures.value ∙ c.if-is_ascii_digit.true)
 
 pub returns-then-c-eq32 : goal.returns-then-c-eq32
 returns-then-c-eq32 c =

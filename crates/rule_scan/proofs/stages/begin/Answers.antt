@@ -14,7 +14,8 @@ use Rattle.rule_scan.proofs.stages.begin.Goals as goal
 pub begin_number-requires : goal.begin_number-requires
 begin_number-requires c = digit-byte _ (is-digit _ (sym c.class_of.ensures ∙ c.in-Digit.is))
 
-in-letter : (c : goal.After-begin_word) → Steps c.args.text.now (c.args.at + 1) (begun (get_or c.args.text.now c.args.at 0) (Some c.args.place)) c.begin_word.result
+in-letter : (c : goal.After-begin_word)
+    → Steps c.args.text.now (c.args.at + 1) (begun (get_or c.args.text.now c.args.at 0) (Some c.args.place)) c.begin_word.result
 in-letter c =
     let b = c.args.text.now in
     subst (Steps b (c.args.at + 1) (begun (get_or b c.args.at 0) (Some c.args.place))) (sym c.begin_word.ensures)
@@ -26,7 +27,8 @@ returns-in-Letter-clause-value c = (in-letter c).0
 pub returns-in-Letter-clause-standing : goal.returns-in-Letter-clause-standing
 returns-in-Letter-clause-standing c = (in-letter c).1
 
-in-digit : (c : goal.After-begin_number) → Steps c.args.text.now (c.args.at + 1) (begun (get_or c.args.text.now c.args.at 0) (Some c.args.place)) c.begin_number.result
+in-digit : (c : goal.After-begin_number)
+    → Steps c.args.text.now (c.args.at + 1) (begun (get_or c.args.text.now c.args.at 0) (Some c.args.place)) c.begin_number.result
 in-digit c =
     let b = c.args.text.now in
     let d = is-digit _ (sym c.class_of.ensures ∙ c.in-Digit.is) in

@@ -3,7 +3,7 @@ use mathlib.Core.Bool.{Bool, not, ◌&&◌, ◌||◌, or-false}
 use mathlib.Core.Path.{ap, ◌∙◌}
 use Rattle.flat.specs.Trees.{defines}
 use Rattle.constraint.specs.Reading.{constraint_of}
-use Rattle.constraint_check.specs.Record.{among}
+use Rattle.constraint.specs.Numbers.{member}
 use Rattle.season_trees.specs.Values.{in_equalities, in_kept, appears, is_input}
 use Rattle.season_inputs.proofs.Marks.{none-marked}
 use Rattle.season_inputs.proofs.marking.marked_inputs.Goals as goal
@@ -17,9 +17,9 @@ returns c =
           c.unmark_kept.ensures.says v
           ∙ ap (λ (t : Bool). t && not (defines m.kept v))
           (c.mark_publics.ensures.says v
-          ∙ ap (λ (t : Bool). among v m.publics || t)
+          ∙ ap (λ (t : Bool). member v m.publics || t)
           (c.mark_provers.ensures.says v
-          ∙ ap (λ (t : Bool). among v m.provers || t)
+          ∙ ap (λ (t : Bool). member v m.provers || t)
           (c.mark_equalities.ensures.says v
           ∙ ap (λ (t : Bool). in_equalities v m.equalities || t)
           (c.mark_kept.ensures.says v ∙ ap (λ (t : Bool). in_kept v m.kept || t) (none-marked v) ∙ or-false (in_kept v m.kept)))));

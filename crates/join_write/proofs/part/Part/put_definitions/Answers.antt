@@ -13,8 +13,8 @@ loop-k-preserved c =
     record {
       end = i.end;
       writing =
-        definitions-turn _ _ _ _ _ _ _ (omega (arith, i.end, c.loop-k-test.true)) c.definition-d.ensures.value c.new_id-id.ensures.value refl
-        c.put_definition.ensures i.writing;
+          definitions-turn _ _ _ _ _ _ _ (omega (arith, i.end, c.loop-k-test.true)) c.definition-d.ensures.value c.new_id-id.ensures.value refl
+          c.put_definition.ensures i.writing;
     }
 
 pub returns-clause-value : goal.returns-clause-value

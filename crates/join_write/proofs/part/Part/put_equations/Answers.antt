@@ -13,8 +13,8 @@ loop-k-preserved c =
     record {
       end = i.end;
       writing =
-        equations-turn _ (λ v. v) _ _ _ _ _ (omega (arith, i.end, c.loop-k-test.true)) c.equation-e.ensures.value refl refl
-        c.put_equation.ensures i.writing;
+          equations-turn _ (λ v. v) _ _ _ _ _ (omega (arith, i.end, c.loop-k-test.true)) c.equation-e.ensures.value refl refl
+          c.put_equation.ensures i.writing;
     }
 
 pub returns-clause-value : goal.returns-clause-value

@@ -147,7 +147,8 @@ expression-returns-in_default t c =
     let p = c.args.self.now in
     let old = c.args.text.now.items in
     subst (λ o. Puts o old None old)
-    (other-node p.nodes.bytes.now p.nodes.at (table_of p) (level_in c.args.wanted) c.args.k _ (sym c.entry.ensures ∙ c.in_ok-form.was) c.in_default.not-Expression)
+    (other-node p.nodes.bytes.now p.nodes.at (table_of p) (level_in c.args.wanted) c.args.k _ (sym c.entry.ensures ∙ c.in_ok-form.was)
+    c.in_default.not-Expression)
     refl
 
 pub expression-returns-then-strength : goal.expression-returns-then-strength
@@ -158,7 +159,8 @@ expression-returns-then-strength t c =
     let l = level_in c.args.wanted in
     let f = c.in-Expression.form in
     let e = sym c.entry.ensures ∙ c.in_ok-form.was ∙ ap Some c.in-Expression.is in
-    let h : strength l ≤ strength (form_level f) = omega (arith, c.strength.ensures, c.strength-2.ensures, ap strength c.level_of.ensures, c.if-strength.true) in
+    let h : strength l ≤ strength (form_level f) =
+    omega (arith, c.strength.ensures, c.strength-2.ensures, ap strength c.level_of.ensures, c.if-strength.true) in
     subst (λ o. Puts o c.args.text.now.items c.bare.result c.bare.new.text.items)
     (form-open T (table_of p) f l h ∙ form-node b p.nodes.at (table_of p) l c.args.k f e)
     c.bare.ensures
@@ -174,7 +176,8 @@ expression-returns-in_err-push t c =
     let l = level_in c.args.wanted in
     let f = c.in-Expression.form in
     let e = sym c.entry.ensures ∙ c.in_ok-form.was ∙ ap Some c.in-Expression.is in
-    let h : strength (form_level f) < strength l = omega (arith, c.strength.ensures, c.strength-2.ensures, ap strength c.level_of.ensures, c.if-strength.false) in
+    let h : strength (form_level f) < strength l =
+    omega (arith, c.strength.ensures, c.strength-2.ensures, ap strength c.level_of.ensures, c.if-strength.false) in
     let rest = then (shown T ns f) (Some (token_text closing)) in
     subst (λ r. Puts (expression_text ns l (node_tree b p.nodes.at c.args.k).expression) old r c.push.new.text.items) (sym c.from_residual-in_err-push.ensures)
     (subst (λ o. Puts o old None c.push.new.text.items) (form-grouped T ns f l h ∙ form-node b p.nodes.at ns l c.args.k f e)
@@ -191,7 +194,8 @@ expression-returns-in_err-bare t c =
     let l = level_in c.args.wanted in
     let f = c.in-Expression.form in
     let e = sym c.entry.ensures ∙ c.in_ok-form.was ∙ ap Some c.in-Expression.is in
-    let h : strength (form_level f) < strength l = omega (arith, c.strength.ensures, c.strength-2.ensures, ap strength c.level_of.ensures, c.if-strength.false) in
+    let h : strength (form_level f) < strength l =
+    omega (arith, c.strength.ensures, c.strength-2.ensures, ap strength c.level_of.ensures, c.if-strength.false) in
     let rest = then (shown T ns f) (Some (token_text closing)) in
     let mid = c.push.new.text.items in
     let new = c.bare-2.new.text.items in
@@ -211,7 +215,8 @@ expression-returns t c =
     let l = level_in c.args.wanted in
     let f = c.in-Expression.form in
     let e = sym c.entry.ensures ∙ c.in_ok-form.was ∙ ap Some c.in-Expression.is in
-    let h : strength (form_level f) < strength l = omega (arith, c.strength.ensures, c.strength-2.ensures, ap strength c.level_of.ensures, c.if-strength.false) in
+    let h : strength (form_level f) < strength l =
+    omega (arith, c.strength.ensures, c.strength-2.ensures, ap strength c.level_of.ensures, c.if-strength.false) in
     let rest = then (shown T ns f) (Some (token_text closing)) in
     let mid = c.push.new.text.items in
     let mid2 = c.bare-2.new.text.items in

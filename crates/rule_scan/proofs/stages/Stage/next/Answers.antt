@@ -13,7 +13,9 @@ use Rattle.rule_scan.proofs.stages.Stage.next.Goals.{in_default-via-in-Word+else
 pub longer_number-requires : goal.longer_number-requires
 longer_number-requires c = digit-byte _ (number-class _ (sym c.in_number.ensures ∙ c.if-in_number.true))
 
-in-word : (c : goal.After-longer_word) → Steps c.args.text.now (c.args.at + 1) (byte_step (stage_of c.args.text.now c.args.at c.args.self) (get_or c.args.text.now c.args.at 0)) c.longer_word.result
+in-word : (c : goal.After-longer_word)
+    → Steps c.args.text.now (c.args.at + 1) (byte_step (stage_of c.args.text.now c.args.at c.args.self) (get_or c.args.text.now c.args.at 0))
+    c.longer_word.result
 in-word c =
     let b = c.args.text.now in
     subst (Steps b (c.args.at + 1) (byte_step (stage_of b c.args.at c.args.self) (get_or b c.args.at 0))) (sym c.longer_word.ensures)
@@ -25,7 +27,9 @@ returns-in-Word-clause-value c = (in-word c).0
 pub returns-in-Word-clause-standing : goal.returns-in-Word-clause-standing
 returns-in-Word-clause-standing c = (in-word c).1
 
-in-number : (c : goal.After-longer_number) → Steps c.args.text.now (c.args.at + 1) (byte_step (stage_of c.args.text.now c.args.at c.args.self) (get_or c.args.text.now c.args.at 0)) c.longer_number.result
+in-number : (c : goal.After-longer_number)
+    → Steps c.args.text.now (c.args.at + 1) (byte_step (stage_of c.args.text.now c.args.at c.args.self) (get_or c.args.text.now c.args.at 0))
+    c.longer_number.result
 in-number c =
     let b = c.args.text.now in
     subst (Steps b (c.args.at + 1) (byte_step (stage_of b c.args.at c.args.self) (get_or b c.args.at 0))) (sym c.longer_number.ensures)
