@@ -1,4 +1,4 @@
--- Demand 3, from the text to the bytes. Assumes nothing.
+-- The agreement from the text to the bytes. Assumes nothing.
 use Rattle.rule_trees.specs.Record.{module_of}
 use Rattle.rule_trees.proofs.Answers.{writes-reading}
 use Rattle.plain.proofs.Condition.{plain-has-plain-body}
