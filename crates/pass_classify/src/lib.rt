@@ -20,18 +20,19 @@ pub use pass_trees::Usage;
 use record::Record;
 use records::flat_record::ID_COUNT;
 
-type Usages = [Usage; ID_COUNT];
+// How each id is used, and whether it is the prover's.
+pub type Usages = [Usage; ID_COUNT];
 
-type Provers = [bool; ID_COUNT];
+pub type Provers = [bool; ID_COUNT];
 
-// A readable record, and after classify_defs how each id is used and whether it is the prover's.
+// A readable record, and after classify_defs how each id is used and whether it is the prover's: in arrays that are lent, so that none is copied.
 // Kept as it is: two arrays by id, not one of pairs, since the definitions have a function for each, and most functions read one of them.
-#[derive(Drop)]
+#[derive(Clone, Copy)]
 pub struct Classes<'a> {
     pub record: Record<'a>,
-    pub usage: Usages,
-    pub provers: Provers,
-    pub ghost classified: { Classified record.bytes.now usage provers } by { Classified-prop },
+    pub usage: &'a Usages,
+    pub provers: &'a Provers,
+    pub ghost classified: { Classified record.bytes.now usage.now provers.now } by { Classified-prop },
 }
 
 // An id is used at least so.
@@ -117,19 +118,22 @@ fn add_witnesses(usage: &Usages, next: usize, provers: &mut Provers)
     }
 }
 
-// Usages and prover ids of a readable record. Not inlined: the arrays that they are made in are given up before the caller goes on.
-#[inline(never)]
-pub fn classify_defs<'a>(record: Record<'a>) -> Classes<'a>
+// Usages and prover ids of a readable record, in the arrays that are lent, whatever they hold.
+pub fn classify_defs<'a>(
+    record: Record<'a>,
+    usage: &'a mut Usages,
+    provers: &'a mut Provers,
+) -> Classes<'a>
     ensures { (result.record ≡ record.entry)
-        × (result.usage ≡ usages_of record.entry.bytes.now)
-        × (result.provers ≡ marks_of record.entry.bytes.now) }
+        × (result.usage.now ≡ usages_of record.entry.bytes.now)
+        × (result.provers.now ≡ marks_of record.entry.bytes.now) }
 {
-    let mut usage = [Usage::Never; ID_COUNT];
-    let mut provers = [false; ID_COUNT];
-    mark_provers(&record, &mut provers);
-    mark_equations(&record, &mut usage);
-    mark_definitions(&record, &provers, &mut usage);
-    add_witnesses(&usage, record.layout.next, &mut provers);
+    *usage = [Usage::Never; ID_COUNT];
+    *provers = [false; ID_COUNT];
+    mark_provers(&record, provers);
+    mark_equations(&record, usage);
+    mark_definitions(&record, provers, usage);
+    add_witnesses(usage, record.layout.next, provers);
     Classes {
         record,
         usage,
@@ -178,7 +182,7 @@ impl Classes<'_> {
     // Whether the id is not used.
     pub fn is_never(&self, v: usize) -> bool
         requires { v < IDS }
-        ensures { result ≡ is_never (usage_of self.now.usage v) }
+        ensures { result ≡ is_never (usage_of self.now.usage.now v) }
     {
         let u = self.usage[v];
         u == Usage::Never
@@ -187,7 +191,7 @@ impl Classes<'_> {
     // Whether the id is the prover's.
     pub fn is_prover(&self, v: usize) -> bool
         requires { v < IDS }
-        ensures { result ≡ marked self.now.provers v }
+        ensures { result ≡ marked self.now.provers.now v }
     {
         self.provers[v]
     }
@@ -196,7 +200,7 @@ impl Classes<'_> {
 // A definition that is not counted need not be cut.
 fn cuttable_def(classes: &Classes, d: DefinitionEntry) -> bool
     requires { (d.id < IDS) × (d.node < nodes classes.now.record.bytes.now) }
-    ensures { result ≡ (is_never (usage_of classes.now.usage d.id) || (marked classes.now.provers d.id
+    ensures { result ≡ (is_never (usage_of classes.now.usage.now d.id) || (marked classes.now.provers.now d.id
         || cuttable_expr (tree_of classes.now.record.bytes.now d.node))) }
 {
     let id = d.id as usize;

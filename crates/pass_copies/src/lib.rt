@@ -121,7 +121,7 @@ pub fn is_dead(a: Option<Term>, b: Option<Term>) -> bool
 
 // How many of the record's definitions are used: the steps that suffice for every walk.
 pub fn used_definitions(classes: &Classes) -> usize
-    ensures { result ≡ length (those (λ v. not (is_never (usage_of classes.now.usage v))) (module_of classes.now.record.bytes.now).definitions) }
+    ensures { result ≡ length (those (λ v. not (is_never (usage_of classes.now.usage.now v))) (module_of classes.now.record.bytes.now).definitions) }
 {
     let record = &classes.record;
     (0..record.layout.definitions)

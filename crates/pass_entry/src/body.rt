@@ -67,7 +67,7 @@ impl Built {
     }
 }
 
-// The passes' constraint module of a classified record, in the two lists. Not inlined: its substitutions don't stand beside what classifies.
+// The passes' constraint module of a classified record, in the two lists. Not inlined: its substitutions stand in its own frame alone.
 // Kept as it is: `few` is a clause: `Classes` has any readable record, and trees that share nodes have more in all than the record has.
 #[inline(never)]
 pub fn build(classes: &Classes, body: &mut [u8], list: &mut [u8]) -> Built

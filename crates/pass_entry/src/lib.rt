@@ -19,8 +19,9 @@ use body::run_passes;
 use built::Built;
 pub use lists::OUTPUT_BYTES;
 use lists::{BODY_BYTES, LIST_BYTES};
-use pass_classify::classify_defs;
 use pass_classify::record::Record;
+use pass_classify::{Usage, classify_defs};
+use records::flat_record::ID_COUNT;
 use records::refusals::Refusal;
 use words::filled;
 
@@ -46,11 +47,10 @@ impl Buffers {
         ensures body_after { self.new.body ≡ body_after self.old.body (module_of s.now) }
         ensures list_after { self.new.list ≡ list_after self.old.list (module_of s.now) }
     {
-        run_passes(
-            &classify_defs(Record::new(s)),
-            &mut self.body,
-            &mut self.list,
-        )
+        let mut usage = [Usage::Never; ID_COUNT];
+        let mut provers = [false; ID_COUNT];
+        let classes = classify_defs(Record::new(s), &mut usage, &mut provers);
+        run_passes(&classes, &mut self.body, &mut self.list)
     }
 }
 

@@ -43,8 +43,8 @@ pub fn put_publics(record: &Record, body: &mut [u8])
 // Kept as it is: one function of a test, for this and write_provers of eval_write, asks a law of the test and a third definition beside `ids_from`, `marked`.
 pub fn put_provers(classes: &Classes, body: &mut [u8], at: usize) -> usize
     requires { 4 * (at + next classes.now.record.bytes.now) ≤ length body.old }
-    ensures { (body.new ≡ set_words body.old at (ids_from (marked classes.now.provers) 0 (next classes.now.record.bytes.now)))
-        × (result ≡ at + length (ids_from (marked classes.now.provers) 0 (next classes.now.record.bytes.now))) }
+    ensures { (body.new ≡ set_words body.old at (ids_from (marked classes.now.provers.now) 0 (next classes.now.record.bytes.now)))
+        × (result ≡ at + length (ids_from (marked classes.now.provers.now) 0 (next classes.now.record.bytes.now))) }
 {
     let mut to = at;
     for v in 0..classes.record.layout.next {

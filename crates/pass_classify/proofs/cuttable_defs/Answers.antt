@@ -20,8 +20,8 @@ pub returns : goal.returns
 returns c =
     let classes = c.args.classes.now in
     let b = classes.record.bytes.now in
-    let p = counted-at b classes.usage classes.provers in
+    let p = counted-at b classes.usage.now classes.provers.now in
     let n = definitions-laid b classes.record.laid in
     every-from_all _ _ _ _ _ p p _ _ _ c.all.ensures.ran (λ x t q k. search (rules, tests, counted-read))
     refl (omega arith) (λ k l. let e : 0 + k ≡ k = omega arith in rw e)
-    ∙ ap (λ (m : ℕ). every m p) n ∙ counted-every b classes.usage classes.provers classes.record.readable classes.classified
+    ∙ ap (λ (m : ℕ). every m p) n ∙ counted-every b classes.usage.now classes.provers.now classes.record.readable classes.classified

@@ -20,9 +20,9 @@ count-requires-clause-can c =
 pub returns : goal.returns
 returns c =
     let classes = c.args.classes.now in
-    let test = used-at classes.record.readable classes.usage in
+    let test = used-at classes.record.readable classes.usage.now in
     let n = definitions-laid classes.record.bytes.now classes.record.laid in
     let range = YieldsList-from_range 0 _ classes.record.layout.definitions c.filter.ensures.source (omega arith) in
     count_from_yields_List _ _ c.count.ensures.ran
     (YieldsList-from_filter _ test range c.filter.ensures.closure (λ x t q k. search (rules, tests, used-read)))
-    ∙ ap (λ (m : ℕ). length (filter test (range_with_len 0 m))) n ∙ used_all classes.record.readable classes.usage
+    ∙ ap (λ (m : ℕ). length (filter test (range_with_len 0 m))) n ∙ used_all classes.record.readable classes.usage.now

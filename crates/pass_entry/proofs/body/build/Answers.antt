@@ -33,7 +33,7 @@ its-name : {x y : MutBor (List ℕ)} → x ≡ y → x.ghost_name ≡ y.ghost_na
 its-name e = ap (λ (m : MutBor (List ℕ)). m.ghost_name) e
 
 -- what stands in the body before the equalities
-lists : (c : After-put_provers-start) → Lists c.args.classes.now.record.bytes.now c.args.classes.now.provers c.args.body.now
+lists : (c : After-put_provers-start) → Lists c.args.classes.now.record.bytes.now c.args.classes.now.provers.now c.args.body.now
     c.put_provers-start.new.body c.put_provers-start.result
 lists c =
     let read = c.args.classes.now.record in
@@ -76,7 +76,7 @@ keep_defs-requires c =
     )
 
 -- the numbers say where the parts stand that were written
-says : (c : After-keep_defs) → Lists c.args.classes.now.record.bytes.now c.args.classes.now.provers c.args.body.now c.put_provers-start.new.body
+says : (c : After-keep_defs) → Lists c.args.classes.now.record.bytes.now c.args.classes.now.provers.now c.args.body.now c.put_provers-start.new.body
     c.put_provers-start.result → Numbers (parts c.args.classes.now.record.bytes.now c.new-subs.result.steps) c.flatten_equations.new.self.next
     c.args.classes.now.record.layout.publics c.put_provers-start.result c.flatten_equations.new.self.at c.keep_defs.new.self.at c.keep_defs.new.self.nodes
 says c l =

@@ -35,7 +35,7 @@ loop-v-preserved c =
             writing = writing-turn _ _ _ _ _ _ _ _ _ (omega (arith, i.end, c.loop-v-test.true)) (put ∙ one.0) (w.to-is ∙ one.1) long i.writing;
           }
       | else-is_prover w ↦
-          let none = left-written c.loop-v.body c.loop-v.to _ (id_left c.args.classes.now.provers c.loop-v.v (read ∙ w.if-is_prover.false)) in
+          let none = left-written c.loop-v.body c.loop-v.to _ (id_left c.args.classes.now.provers.now c.loop-v.v (read ∙ w.if-is_prover.false)) in
           record {
             end = i.end;
             writing = writing-turn _ _ _ _ _ _ _ _ _ (omega (arith, i.end, c.loop-v-test.true)) (w.body-is ∙ none.0) (w.to-is ∙ none.1)

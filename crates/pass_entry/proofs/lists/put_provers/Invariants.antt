@@ -7,4 +7,4 @@ use Rattle.pass_entry.proofs.lists.put_provers.Given as goal
 abbrev pub invariant-loop-v : goal.invariant-loop-v
 invariant-loop-v l =
     let b = l.classes.record.bytes.now in
-    record { end : l.v-end ≡ next b; writing : Writing (marked l.classes.provers) (next b) l.at l.v l.to l.body l.initial.body }
+    record { end : l.v-end ≡ next b; writing : Writing (marked l.classes.provers.now) (next b) l.at l.v l.to l.body l.initial.body }
