@@ -14,8 +14,8 @@ ghost use Rattle.records.specs.FlatRecord.{IDS};
 use constraint::Term;
 use flat::Node;
 use flat::entries::DefinitionEntry;
-use pass_classify::Classes;
 use pass_classify::record::Record;
+use pass_classify::{Usage, Usages};
 use records::flat_record::ID_COUNT;
 
 // What stands for an id.
@@ -119,12 +119,20 @@ pub fn is_dead(a: Option<Term>, b: Option<Term>) -> bool
     }
 }
 
-// How many of the record's definitions are used: the steps that suffice for every walk.
-pub fn used_definitions(classes: &Classes) -> usize
-    ensures { result ≡ length (those (λ v. not (is_never (usage_of classes.now.usage.now v))) (module_of classes.now.record.bytes.now).definitions) }
+// Whether an id is not used.
+fn is_never(usage: &Usages, v: usize) -> bool
+    requires { v < IDS }
+    ensures { result ≡ is_never (usage_of usage.now v) }
 {
-    let record = &classes.record;
+    let u = usage[v];
+    u == Usage::Never
+}
+
+// How many of the record's definitions are used, in any array of usages: after classify_defs the steps that suffice for every walk.
+pub fn used_definitions(record: &Record, usage: &Usages) -> usize
+    ensures { result ≡ length (those (λ v. not (is_never (usage_of usage.now v))) (module_of record.now.bytes.now).definitions) }
+{
     (0..record.layout.definitions)
-        .filter(|&k| !classes.is_never(record.definition(k).id as usize))
+        .filter(|&k| !is_never(usage, record.definition(k).id as usize))
         .count()
 }

@@ -87,7 +87,7 @@ pub fn build(classes: &Classes, body: &mut [u8], list: &mut [u8]) -> Built
         at: start,
         place: 0,
     };
-    let mut subs = Substitutions::new(used_definitions(classes));
+    let mut subs = Substitutions::new(used_definitions(record, classes.usage));
     writer.flatten_defs(classes, &mut subs);
     writer.flatten_equations(record, &subs);
     let Writer { body, next, at, .. } = writer;

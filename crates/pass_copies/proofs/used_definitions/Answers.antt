@@ -14,15 +14,15 @@ use Rattle.pass_copies.proofs.used_definitions.Goals as goal
 
 pub count-requires-clause-can : goal.count-requires-clause-can
 count-requires-clause-can c =
-    let n = definitions-laid _ c.args.classes.now.record.laid in
+    let n = definitions-laid _ c.args.record.now.laid in
     (tt, tt, serves_from_Range (λ x q k. search (rules, tests)) (λ x l h. search (rules, n)))
 
 pub returns : goal.returns
 returns c =
-    let classes = c.args.classes.now in
-    let test = used-at classes.record.readable classes.usage.now in
-    let n = definitions-laid classes.record.bytes.now classes.record.laid in
-    let range = YieldsList-from_range 0 _ classes.record.layout.definitions c.filter.ensures.source (omega arith) in
+    let read = c.args.record.now in
+    let test = used-at read.readable c.args.usage.now in
+    let n = definitions-laid read.bytes.now read.laid in
+    let range = YieldsList-from_range 0 _ read.layout.definitions c.filter.ensures.source (omega arith) in
     count_from_yields_List _ _ c.count.ensures.ran
     (YieldsList-from_filter _ test range c.filter.ensures.closure (λ x t q k. search (rules, tests, used-read)))
-    ∙ ap (λ (m : ℕ). length (filter test (range_with_len 0 m))) n ∙ used_all classes.record.readable classes.usage.now
+    ∙ ap (λ (m : ℕ). length (filter test (range_with_len 0 m))) n ∙ used_all read.readable c.args.usage.now
