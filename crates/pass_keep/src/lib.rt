@@ -132,6 +132,7 @@ impl Writer<'_> {
         } }
         ensures value { place_of self.new ≡ kept_from self.old.at self.old.nodes (record_kept classes.now.record.bytes.now subs.old.steps subs.old.terms) }
         ensures subs_after { subs.new.terms ≡ put_definitions subs.old.steps subs.old.terms (counted (module_of classes.now.record.bytes.now)) }
+        ensures steps { subs.new.steps ≡ subs.old.steps }
     {
         let record = &classes.record;
         for k in 0..record.layout.definitions {

@@ -43,4 +43,5 @@ returns c =
       list_after = lent-as first.list i.lent.list w.list-is;
       value = w.answer-is;
       subs_after = w.subs-are;
+      steps = i.steps;
     }
