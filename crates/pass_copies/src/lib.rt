@@ -29,7 +29,7 @@ pub enum Substitute {
 
 // What stands for each id, and by how many steps an id is followed at most.
 // Kept as it is: the record is lent beside these: the passes have it in `Classes`, and what the substitutions are is said without it.
-#[derive(Drop)]
+#[derive(Clone, Copy)]
 pub struct Substitutions {
     pub terms: [Substitute; ID_COUNT],
     pub steps: usize,
