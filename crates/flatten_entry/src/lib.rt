@@ -20,5 +20,6 @@ pub fn flatten(s: &[u8], store: &mut [u8], out: &mut [u8]) -> Result<usize, Refu
     ensures store_after { store.new ≡ replicate (length store.old) 0 }
 {
     let flat = evaluate_source(s, store);
-    passes(flat.record()?, out)
+    let record = flat.record()?;
+    passes(record, out)
 }
