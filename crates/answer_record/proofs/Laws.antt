@@ -13,7 +13,6 @@ use Rattle.std.specs.Char.{IsNotAsciiDigit}
 use Rattle.std.proofs.KnownBytes.{Appends-nil}
 use lib.Seq.{drop-cons, drop-length, length-take-le}
 use borrow.Author.Tests.{lt-ltb, le-ltb, le-leb, lt-leb, ltb-true, ltb-false}
-use Rattle.records.specs.declared.refusals.Refusal.{Refusal}
 use Rattle.streams.specs.declared.Failed.{Failed}
 use Rattle.streams.specs.Streams.{Added}
 use Rattle.answer_record.specs.Given.{at_most, number_from, number_of, Few, given_of, bytes_of}
@@ -87,27 +86,27 @@ module _ (text : List ℕ) (value k : ℕ) (so : number_from value (drop k text)
 pub range_front : (xs : List ℕ) (n : ℕ) {ys : List ℕ} → ys ≡ slice_range xs 0 n → ys ≡ take n xs
 range_front xs n e = e ∙ ap (λ (k : ℕ). take k xs) (sub-zero n)
 
-pub given-all : (a : Result ℕ Refusal) (n : ℕ) (out : List ℕ) → a ≡ Ok n → n ≤ length out → length (take n out) ≡ given_of a (length out)
+pub given-all : (a : Result ℕ ℕ) (n : ℕ) (out : List ℕ) → a ≡ Ok n → n ≤ length out → length (take n out) ≡ given_of a (length out)
 unfolding given_of
 given-all a n out e l = rw (e, le-leb n (length out) l) (length-take-le n out l)
 
-pub bytes-all : (a : Result ℕ Refusal) (n : ℕ) (out : List ℕ) → a ≡ Ok n → n ≤ length out → take n out ≡ bytes_of a out
+pub bytes-all : (a : Result ℕ ℕ) (n : ℕ) (out : List ℕ) → a ≡ Ok n → n ≤ length out → take n out ≡ bytes_of a out
 unfolding bytes_of
 bytes-all a n out e l = rw (e, le-leb n (length out) l) refl
 
-pub given-none : (a : Result ℕ Refusal) (n : ℕ) (out : List ℕ) → a ≡ Ok n → length out < n → 0 ≡ given_of a (length out)
+pub given-none : (a : Result ℕ ℕ) (n : ℕ) (out : List ℕ) → a ≡ Ok n → length out < n → 0 ≡ given_of a (length out)
 unfolding given_of
 given-none a n out e l = rw (e, lt-leb n (length out) l) refl
 
-pub bytes-none : (a : Result ℕ Refusal) (n : ℕ) (out : List ℕ) → a ≡ Ok n → length out < n → [] ≡ bytes_of a out
+pub bytes-none : (a : Result ℕ ℕ) (n : ℕ) (out : List ℕ) → a ≡ Ok n → length out < n → [] ≡ bytes_of a out
 unfolding bytes_of
 bytes-none a n out e l = rw (e, lt-leb n (length out) l) refl
 
-pub given-refused : (a : Result ℕ Refusal) (r : Refusal) (out : List ℕ) → a ≡ Err r → 0 ≡ given_of a (length out)
+pub given-refused : (a : Result ℕ ℕ) (r : ℕ) (out : List ℕ) → a ≡ Err r → 0 ≡ given_of a (length out)
 unfolding given_of
 given-refused a r out e = rw e refl
 
-pub bytes-refused : (a : Result ℕ Refusal) (r : Refusal) (out : List ℕ) → a ≡ Err r → [] ≡ bytes_of a out
+pub bytes-refused : (a : Result ℕ ℕ) (r : ℕ) (out : List ℕ) → a ≡ Err r → [] ≡ bytes_of a out
 unfolding bytes_of
 bytes-refused a r out e = rw e refl
 

@@ -1,6 +1,5 @@
 -- What an argument says to lend, and how much of an answer is given out.
 use Rattle.std.specs.Prelude.{cond, List, [], ◌∷◌, ℕ, ◌+◌, ◌-◌, ◌*◌, ◌≤◌, leb, ltb, length, take, Option, Some, None, Result, Ok, Err}
-use Rattle.records.specs.declared.refusals.Refusal.{Refusal}
 
 -- more than can matter to lend
 abbrev pub MANY : ℕ
@@ -33,11 +32,11 @@ Few (Some n) = n ≤ MANY
 Few None = Unit {0}
 
 -- the bytes of an answer that go to standard output, which has so many
-unfoldable pub given_of : Result ℕ Refusal → ℕ → ℕ
+unfoldable pub given_of : Result ℕ ℕ → ℕ → ℕ
 given_of (Ok n) len = cond (leb n len) n 0
-given_of (Err r) len = 0
+given_of (Err number) len = 0
 
 -- and these bytes
-unfoldable pub bytes_of : Result ℕ Refusal → List ℕ → List ℕ
+unfoldable pub bytes_of : Result ℕ ℕ → List ℕ → List ℕ
 bytes_of (Ok n) out = cond (leb n (length out)) (take n out) []
-bytes_of (Err r) out = []
+bytes_of (Err number) out = []

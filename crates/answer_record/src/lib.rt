@@ -6,7 +6,6 @@ ghost use Rattle.std.specs.Prelude.{◌≡◌, ◌≤◌, length};
 ghost use Rattle.streams.specs.Streams.{Whole, Added};
 ghost use Rattle.answer_record.specs.Given.{number_of, Few, given_of, bytes_of};
 
-use records::refusals::Refusal;
 use std::env::FillError;
 use std::io::Write;
 use std::rt::Env;
@@ -57,10 +56,9 @@ fn print_record<W: Write>(rt: &impl Eprint, to: &mut W, bytes: &[u8]) -> Result<
 }
 
 // "refused" with the number on standard error, and nothing on standard output.
-fn print_refused(rt: &impl Eprint, refusal: Refusal) -> Result<usize, Failed>
+fn print_refused(rt: &impl Eprint, number: u32) -> Result<usize, Failed>
     ensures { Whole result 0 }
 {
-    let number = refusal.number();
     let _ = eprintln!(rt; "refused {number}");
     Ok(0)
 }
@@ -70,7 +68,7 @@ fn print_refused(rt: &impl Eprint, refusal: Refusal) -> Result<usize, Failed>
 pub fn print_answer<W: Write>(
     rt: &impl Eprint,
     to: &mut W,
-    answer: Result<usize, Refusal>,
+    answer: Result<usize, u32>,
     out: &[u8],
 ) -> Result<usize, Failed>
     ensures whole { Whole result (given_of answer (length out.now)) }
@@ -81,6 +79,6 @@ pub fn print_answer<W: Write>(
             Some(record) => print_record(rt, to, record),
             None => Ok(0),
         },
-        Err(refusal) => print_refused(rt, refusal),
+        Err(number) => print_refused(rt, number),
     }
 }

@@ -1,6 +1,8 @@
 -- From what a printer answered to what is asked of the next one.
-use Rattle.std.proofs.Common.{◌≡◌, ℕ, ◌≤◌, ◌<◌, cond, List, [], length, take, Option, Result, Ok, Err, slice_range, sym, ap, ◌∙◌, subst}
+use Rattle.std.proofs.Common.{◌≡◌, ℕ, ◌≤◌, ◌<◌, cond, List, [], length, take, Option, Result, Ok, Err, slice_range, refl, false, sym, ap, ◌∙◌, subst}
 use Rattle.std.specs.Io.KnownBytes.{Keeps, Appends}
+use Rattle.std.specs.Result.{IsErr}
+use Rattle.std.proofs.lemmas.Bool.{both_ways}
 use Rattle.std.proofs.KnownBytes.{Appends-nil, Appends-kept}
 use native.Mathlib.Nat.{sub-zero}
 use lib.Seq.{take-length}
@@ -9,14 +11,17 @@ use Rattle.streams.specs.declared.Failed.{Failed}
 use Rattle.streams.specs.Streams.{Added}
 use Rattle.constraint_text.specs.Reading.{lines, lines_text}
 use Rattle.constraint_text.specs.Text.{refused_text}
-use Rattle.records.specs.Refusals.{refusal_number}
-use Rattle.records.specs.declared.refusals.Refusal.{Refusal}
 use Rattle.answer_text.specs.Answered.{lines_of, printed_of}
 
 -- an output that got a text and was kept then
 pub added-kept : (r : Result ℕ Failed) (old mid new : Option (List ℕ)) (text : List ℕ) → Appends old mid text → Keeps mid new → Added r old new text
 added-kept (Ok k) old mid new text h kept = Appends-kept old mid new text h kept
 added-kept (Err e) old mid new text h kept = (length text, subst (Appends old new) (sym (take-length text)) (Appends-kept old mid new text h kept))
+
+-- one that failed got a front of the text
+pub added-failed : (r : Result ℕ Failed) (old new : Option (List ℕ)) (text : List ℕ) → IsErr r → ((n : ℕ) × Appends old new (take n text)) → Added r old new text
+added-failed (Ok k) old new text e h = absurd (both_ways false refl e)
+added-failed (Err x) old new text e h = h
 
 -- one that was kept got none
 pub added_none : (r : Result ℕ Failed) (old new : Option (List ℕ)) → Keeps old new → Added r old new []
@@ -44,10 +49,10 @@ unfolding printed_of
 printed-front out n h = ap (λ b. cond b [] (lines_text (take n out) 0 (lines (take n out)))) (sym (le-ltb (length out) n h))
 
 -- a refusal
-pub lines-one : (a : Result ℕ Refusal) (r : Refusal) (out : List ℕ) → a ≡ Err r → 1 ≡ lines_of a out
+pub lines-one : (a : Result ℕ ℕ) (r : ℕ) (out : List ℕ) → a ≡ Err r → 1 ≡ lines_of a out
 unfolding lines_of
 lines-one a r out e = ap (λ x. lines_of x out) (sym e)
 
-pub printed-one : (a : Result ℕ Refusal) (r : Refusal) (out : List ℕ) → a ≡ Err r → refused_text (refusal_number r) ≡ printed_of a out
+pub printed-one : (a : Result ℕ ℕ) (r : ℕ) (out : List ℕ) → a ≡ Err r → refused_text r ≡ printed_of a out
 unfolding printed_of
 printed-one a r out e = ap (λ x. printed_of x out) (sym e)

@@ -2,14 +2,12 @@
 use Rattle.std.specs.Prelude.{ℕ, cond, List, [], ltb, length, take, Result, Ok, Err}
 use Rattle.constraint_text.specs.Reading.{lines, lines_text}
 use Rattle.constraint_text.specs.Text.{refused_text}
-use Rattle.records.specs.Refusals.{refusal_number}
-use Rattle.records.specs.declared.refusals.Refusal.{Refusal}
 
-unfoldable pub lines_of : Result ℕ Refusal → List ℕ → ℕ
+unfoldable pub lines_of : Result ℕ ℕ → List ℕ → ℕ
 lines_of (Ok n) out = cond (ltb (length out) n) 0 (lines (take n out))
-lines_of (Err r) out = 1
+lines_of (Err number) out = 1
 
 -- one line after the other
-unfoldable pub printed_of : Result ℕ Refusal → List ℕ → List ℕ
+unfoldable pub printed_of : Result ℕ ℕ → List ℕ → List ℕ
 printed_of (Ok n) out = cond (ltb (length out) n) [] (lines_text (take n out) 0 (lines (take n out)))
-printed_of (Err r) out = refused_text (refusal_number r)
+printed_of (Err number) out = refused_text number

@@ -2,14 +2,12 @@
 #![tactic(auto)]
 
 ghost use Rattle.std.specs.Prelude.{Ok};
-ghost use Rattle.records.specs.Refusals.{refusal_number};
 ghost use Rattle.constraint_text.specs.Reading.{lines, lines_text};
 ghost use Rattle.constraint_text.specs.Text.{refused_text};
 ghost use Rattle.streams.specs.Streams.{Whole, Added};
 ghost use Rattle.answer_text.specs.Answered.{lines_of, printed_of};
 
 use constraint_text::{print_equalities, print_refused};
-use records::refusals::Refusal;
 use std::io::Write;
 use streams::{Failed, close_output};
 
@@ -22,11 +20,11 @@ fn print_record<W: Write>(rt: &impl Eprint, to: &mut W, s: &[u8]) -> Result<usiz
     close_output(rt, to, lines)
 }
 
-fn print_number<W: Write>(rt: &impl Eprint, to: &mut W, refusal: Refusal) -> Result<usize, Failed>
+fn print_number<W: Write>(rt: &impl Eprint, to: &mut W, number: u32) -> Result<usize, Failed>
     ensures all { Whole result 1 }
-    ensures bytes { Added result (W.contents to.old) (W.contents to.new) (refused_text (refusal_number refusal)) }
+    ensures bytes { Added result (W.contents to.old) (W.contents to.new) (refused_text number) }
 {
-    print_refused(rt, to, refusal.number())?;
+    print_refused(rt, to, number)?;
     close_output(rt, to, 1)
 }
 
@@ -46,11 +44,11 @@ fn print_front<W: Write>(
     }
 }
 
-// Prints an answer whose record stands at the front of out, and ends standard output; gives how many lines.
+// Prints an answer whose record stands at the front of out, or whatever number it was refused by, and ends standard output; gives how many lines.
 pub fn print_answer<W: Write>(
     rt: &impl Eprint,
     to: &mut W,
-    answer: Result<usize, Refusal>,
+    answer: Result<usize, u32>,
     out: &[u8],
 ) -> Result<usize, Failed>
     ensures all { Whole result (lines_of answer out.now) }
@@ -58,6 +56,6 @@ pub fn print_answer<W: Write>(
 {
     match answer {
         Ok(n) => print_front(rt, to, out, n),
-        Err(refusal) => print_number(rt, to, refusal),
+        Err(number) => print_number(rt, to, number),
     }
 }

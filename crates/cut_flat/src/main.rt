@@ -29,7 +29,7 @@ fn output_buffer() -> [u8; OUTPUT_BYTES] {
 fn cut_input(rt: &(impl Input + Print + Eprint), out: &mut [u8]) -> Result<usize, Failed> {
     let mut record = record_buffer();
     let n = read_standard(rt, &mut record)?;
-    let answer = pass_entry::cut(&record[..n], &mut [], out);
+    let answer = pass_entry::cut(&record[..n], &mut [], out).map_err(u32::from);
     print_answer(rt, &mut io::writer(rt), answer, out)
 }
 

@@ -14,13 +14,18 @@ const LENT: usize = 65536;
 fn cut_record(rt: &(impl Print + Eprint), record: &[u8]) -> Result<usize, Failed> {
     let mut store = [0u8; LENT];
     let mut out = [0u8; LENT];
-    let answer = pass_entry::cut(record, &mut store, &mut out);
+    let answer = pass_entry::cut(record, &mut store, &mut out).map_err(u32::from);
     print_answer(rt, &mut io::writer(rt), answer, &out)
 }
 
 // A longer record is refused FlatLength.
 fn refuse_longer(rt: &(impl Print + Eprint)) -> Result<usize, Failed> {
-    print_answer(rt, &mut io::writer(rt), Err(Refusal::FlatLength), &[])
+    print_answer(
+        rt,
+        &mut io::writer(rt),
+        Err(Refusal::FlatLength.number()),
+        &[],
+    )
 }
 
 // Kept as it is: `flatten_equalities` refuses no length itself; reading and printing are one function for both already.

@@ -92,6 +92,15 @@ pub modulo-is : (a b : ℤ)
 unfolding modulo_of checked_quotient
 modulo-is a b = quotient-chosen b (whole_quotient (elem P a) (elem P b)) (λ q. difference P (elem P a) (product P (elem P b) q))
 
+-- a divisor that stands for 0
+pub int_divide-none : (a b : ℤ) → elem P b ≡ pos 0 → int_divide_of P a b ≡ None
+unfolding int_divide_of
+int_divide-none a b e = pick-zero (res P b) _ _ (zero-elem P (omega arith) b e)
+
+pub modulo-none : (a b : ℤ) → elem P b ≡ pos 0 → modulo_of P a b ≡ None
+unfolding modulo_of
+modulo-none a b e = pick-zero (res P b) _ _ (zero-elem P (omega arith) b e)
+
 pub element-small : (a : ℤ) → nat_abs (elem P a) ≤ 1073741823
 element-small = elem-range P (omega arith)
 
@@ -116,6 +125,15 @@ below-is a b e = go (elem P b) e
     go (pos n) e = absurd (omega (arith, ltb-true n 0 e))
     go (negsuc n) e = raised-below a n
 
+-- a negative power of what stands for 0
+pub below-none : (a b : ℤ) → lt_z (elem P b) (pos 0) ≡ true → res P a ≡ 0 → exponentiate_of P a b ≡ None
+unfolding exponentiate_of raised
+below-none a b e z = go (elem P b) e
+  where
+    go : (n : ℤ) → lt_z n (pos 0) ≡ true → raised P a n ≡ None
+    go (pos n) e = absurd (omega (arith, ltb-true n 0 e))
+    go (negsuc n) e = pick-zero (res P a) _ _ z
+
 pub above-is : (a b : ℤ) → lt_z (elem P b) (pos 0) ≡ false → exponentiate_of P a b ≡ Some (centre P (res P a ^ nat_abs (elem P b) % P))
 unfolding exponentiate_of raised power
 above-is a b e = go (elem P b) e
@@ -136,7 +154,10 @@ pub ruleset steps = (
   divide-is,
   int_divide-is,
   modulo-is,
+  int_divide-none,
+  modulo-none,
   element-small,
   below-is,
+  below-none,
   above-is,
 )

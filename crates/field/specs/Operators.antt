@@ -3,30 +3,57 @@ use Rattle.std.specs.Prelude.{◌≡◌, ◌<◌, ℕ, cond, eqb, Result, MatchR
 use Rattle.field.specs.declared.InfixOp.{InfixOp}
 use Rattle.field.specs.declared.operators.NoOperator.{NoOperator}
 
+abbrev pub DIVIDE : ℕ
+DIVIDE = 0
+
+abbrev pub DIVIDE-Z : ℕ
+DIVIDE-Z = 1
+
+abbrev pub MULTIPLY : ℕ
+MULTIPLY = 2
+
+abbrev pub ADD : ℕ
+ADD = 3
+
+abbrev pub SUBTRACT : ℕ
+SUBTRACT = 4
+
+abbrev pub EQUAL : ℕ
+EQUAL = 5
+
+abbrev pub EXPONENTIATE : ℕ
+EXPONENTIATE = 6
+
+abbrev pub INT-DIVIDE : ℕ
+INT-DIVIDE = 7
+
+abbrev pub MODULO : ℕ
+MODULO = 8
+
 -- the number of an operator
 abbrev pub operator_number : InfixOp → ℕ
-operator_number InfixOp.Divide = 0
-operator_number InfixOp.DivideZ = 1
-operator_number InfixOp.Multiply = 2
-operator_number InfixOp.Add = 3
-operator_number InfixOp.Subtract = 4
-operator_number InfixOp.Equal = 5
-operator_number InfixOp.Exponentiate = 6
-operator_number InfixOp.IntDivide = 7
-operator_number InfixOp.Modulo = 8
+operator_number InfixOp.Divide = DIVIDE
+operator_number InfixOp.DivideZ = DIVIDE-Z
+operator_number InfixOp.Multiply = MULTIPLY
+operator_number InfixOp.Add = ADD
+operator_number InfixOp.Subtract = SUBTRACT
+operator_number InfixOp.Equal = EQUAL
+operator_number InfixOp.Exponentiate = EXPONENTIATE
+operator_number InfixOp.IntDivide = INT-DIVIDE
+operator_number InfixOp.Modulo = MODULO
 
 -- the operator with a number, which reads as `Modulo` from 8 on
 unfoldable pub operator_of : ℕ → InfixOp
 operator_of n =
-    cond (eqb n 0) InfixOp.Divide
-    (cond (eqb n 1) InfixOp.DivideZ
-    (cond (eqb n 2) InfixOp.Multiply
-    (cond (eqb n 3) InfixOp.Add
-    (cond (eqb n 4) InfixOp.Subtract
-    (cond (eqb n 5) InfixOp.Equal
-    (cond (eqb n 6) InfixOp.Exponentiate
-    (cond (eqb n 7) InfixOp.IntDivide InfixOp.Modulo)))))))
+    cond (eqb n DIVIDE) InfixOp.Divide
+    (cond (eqb n DIVIDE-Z) InfixOp.DivideZ
+    (cond (eqb n MULTIPLY) InfixOp.Multiply
+    (cond (eqb n ADD) InfixOp.Add
+    (cond (eqb n SUBTRACT) InfixOp.Subtract
+    (cond (eqb n EQUAL) InfixOp.Equal
+    (cond (eqb n EXPONENTIATE) InfixOp.Exponentiate
+    (cond (eqb n INT-DIVIDE) InfixOp.IntDivide InfixOp.Modulo)))))))
 
 -- the result is the operator with this number, or an error with a number that no operator has
 abbrev pub Numbers : ℕ → Result InfixOp NoOperator → Type 0
-Numbers n r = MatchResult r (λ op. operator_number op ≡ n) (λ e. (e.0 ≡ n) × (8 < n))
+Numbers n r = MatchResult r (λ op. operator_number op ≡ n) (λ e. (e.0 ≡ n) × (MODULO < n))

@@ -88,28 +88,40 @@ fn divide_z(a: i64, b: i64) -> Option<i64>
     divide(a, b)
 }
 
+// A divisor that stands for 0 is answered before the dividend is worked out, here and in `modulo`.
 fn int_divide(a: i64, b: i64) -> Option<i64>
     ensures { result ≡ int_divide_of P a b }
 {
-    let q = checked_quotient(canonical(a), canonical(b))?;
+    let y = canonical(b);
+    if y == 0 {
+        return None;
+    }
+    let q = checked_quotient(canonical(a), y)?;
     Some(canonical(q))
 }
 
 fn modulo(a: i64, b: i64) -> Option<i64>
     ensures { result ≡ modulo_of P a b }
 {
-    let x = canonical(a);
     let y = canonical(b);
+    if y == 0 {
+        return None;
+    }
+    let x = canonical(a);
     let q = checked_quotient(x, y)?;
     Some(subtract(x, multiply(y, q)))
 }
 
-// The exponent is an element: a power, or the inverse of one.
+// The exponent is an element: a power, or the inverse of one. That 0 has none is answered before a power is worked out.
 fn exponentiate(a: i64, b: i64) -> Option<i64>
     ensures { result ≡ exponentiate_of P a b }
 {
+    let base = residue(a);
     let n = canonical(b);
-    let power = power_of(residue(a), n.unsigned_abs());
+    if n < 0 && base == 0 {
+        return None;
+    }
+    let power = power_of(base, n.unsigned_abs());
     if n < 0 {
         return Some(centred(checked_inverse(power)?));
     }

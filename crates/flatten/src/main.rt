@@ -22,7 +22,7 @@ fn flatten_input(
 ) -> Result<usize, Failed> {
     let mut record = record_buffer();
     let n = read_standard(rt, &mut record)?;
-    let answer = flatten_entry::flatten(&record[..n], store, out);
+    let answer = flatten_entry::flatten(&record[..n], store, out).map_err(u32::from);
     print_answer(rt, &mut io::writer(rt), answer, out)
 }
 

@@ -11,7 +11,7 @@ use streams::{Failed, open_input, read_opened};
 fn flatten_record(rt: &(impl Print + Eprint), record: &[u8]) -> Result<usize, Failed> {
     let mut store = store_buffer();
     let mut out = output_buffer();
-    let answer = flatten_entry::flatten(record, &mut store, &mut out);
+    let answer = flatten_entry::flatten(record, &mut store, &mut out).map_err(u32::from);
     print_answer(rt, &mut io::writer(rt), answer, &out)
 }
 

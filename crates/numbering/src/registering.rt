@@ -29,7 +29,7 @@ impl Scopes {
         ensures { Registered names.now.bytes.now t.now names.now.text names.now.count (id_of intrinsic) self.old self.new }
     {
         if let Some(k) = index_of(names, t) {
-            self.globals[k] = Some(intrinsic.id());
+            self.globals[k] = Some(intrinsic.id() as u16);
         }
     }
 

@@ -1,5 +1,6 @@
 // The rows: a name's id, if it has one; the undo list has each bound name, and what its row held before.
 // Kept as it is: two arrays by name, not one of pairs: the definitions have locals and globals apart, and a scope's end restores locals alone.
+// Ids and names are below 2 ^ 16, and are held so: all rows and entries are cleared at each call, which is most of the time of a small record.
 ghost use Rattle.std.specs.Prelude.{◌≡◌, ℕ, ◌≤◌, ◌<◌};
 ghost use Rattle.numbering.specs.Walks.{Sized, Chosen, depth, undone, no_scopes, bound_to, unwound_to};
 ghost use Rattle.records.specs.FlatRecord.{IDS};
@@ -12,15 +13,15 @@ use records::source_record::{NAMES, NODES};
 // A name that a pattern bound, and what its row held before.
 #[derive(Clone, Copy, Default)]
 pub struct Undo {
-    pub name: u32,
-    pub before: Option<u32>,
+    pub name: u16,
+    pub before: Option<u16>,
 }
 
 // What numbering changes: the rows of the locals and of the globals, the undo list, the id of each node, and the next free id.
 #[derive(Drop)]
 pub struct Scopes {
-    pub locals: [Option<u32>; NAMES],
-    pub globals: [Option<u32>; NAMES],
+    pub locals: [Option<u16>; NAMES],
+    pub globals: [Option<u16>; NAMES],
     pub undo: ArrayVec<Undo, NODES>,
     pub ids: [u32; NODES],
     pub next: u32,
@@ -46,11 +47,11 @@ impl Scopes {
         ensures { Chosen x self.old result self.new }
     {
         match self.locals[x].or(self.globals[x]) {
-            Some(id) => id,
+            Some(id) => u32::from(id),
             None => {
                 let id = self.next;
                 self.next += 1;
-                self.globals[x] = Some(id);
+                self.globals[x] = Some(id as u16);
                 id
             }
         }
@@ -63,11 +64,11 @@ impl Scopes {
         ensures sized { Sized self.old }
     {
         self.undo.push(Undo {
-            name: x as u32,
+            name: x as u16,
             before: self.locals[x],
         });
         self.ids[k] = self.next;
-        self.locals[x] = Some(self.next);
+        self.locals[x] = Some(self.next as u16);
         self.next += 1;
     }
 

@@ -27,15 +27,21 @@ const TEXT: &[u8] =
 // Room for every record.
 const RECORD: usize = 80000;
 
+// Whether no entry is an id.
+fn none_of(entries: &[u32]) -> bool {
+    entries.iter().all(|id| *id == 0)
+}
+
 // The place in the counts of a case: a refused one has no id in either array.
 fn judge(image: &[u8], answer: u32) -> usize {
     let expected = said(answer);
     let r = numbering::number_module_variables(image);
-    let none = r.ids.iter().chain(r.publics.iter()).all(|id| *id == 0);
     let got = r.answer.map_err(|refusal| refusal.number());
     match got {
         Ok(_) if got == expected => ACCEPTED,
-        Err(number) if got == expected && none => (number as usize).min(DIFFERENT),
+        Err(number) if got == expected && none_of(&r.ids) && none_of(&r.publics) => {
+            (number as usize).min(DIFFERENT)
+        }
         _ => DIFFERENT,
     }
 }

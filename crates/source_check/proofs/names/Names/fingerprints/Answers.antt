@@ -1,5 +1,6 @@
 -- `source_check::names::Names::fingerprints` meets its contract. Assumes nothing.
-use Rattle.std.proofs.Common.{◌∙◌, ap, ◌≢◌, ◌<◌, length, arith, get_or-set_same, get_or-set_other, length-set, below_more}
+use Rattle.std.proofs.Common.{ℕ, List, ◌∙◌, ap, ◌≢◌, ◌<◌, length, arith, get_or-set_same, get_or-set_other, length-set, below_more}
+use Rattle.source_check.proofs.Prints.{name-print}
 use Rattle.source_check.specs.Fingerprints.{fingerprint_of}
 use Rattle.source_check.proofs.names.Names.fingerprints.Goals as goal
 
@@ -9,6 +10,7 @@ loop-k-preserved c =
     record {
       each = below_more _ _
           (λ j h. let other : j ≢ c.loop-k.k = omega arith in rw get_or-set_other (c.loop-k.invariant.each j h))
-          (rw get_or-set_same (c.fingerprint.ensures ∙ ap fingerprint_of c.name.ensures));
+          (rw get_or-set_same (c.fingerprint.ensures ∙ ap (λ (t : List ℕ). fingerprint_of t 0 (length t)) c.name.ensures
+          ∙ name-print _ _ _ _ c.args.self.now.fit c.loop-k-test.true));
       long = simp length-set c.loop-k.invariant.long;
     }
