@@ -19,7 +19,8 @@ added-kept (Ok k) old mid new text h kept = Appends-kept old mid new text h kept
 added-kept (Err e) old mid new text h kept = (length text, subst (Appends old new) (sym (take-length text)) (Appends-kept old mid new text h kept))
 
 -- one that failed got a front of the text
-pub added-failed : (r : Result ℕ Failed) (old new : Option (List ℕ)) (text : List ℕ) → IsErr r → ((n : ℕ) × Appends old new (take n text)) → Added r old new text
+pub added-failed : (r : Result ℕ Failed) (old new : Option (List ℕ)) (text : List ℕ) → IsErr r → ((n : ℕ) × Appends old new (take n text))
+    → Added r old new text
 added-failed (Ok k) old new text e h = absurd (both_ways false refl e)
 added-failed (Err x) old new text e h = h
 
