@@ -1,8 +1,6 @@
 -- From what a printer answered to what is asked of the next one.
-use Rattle.std.proofs.Common.{◌≡◌, ℕ, ◌≤◌, ◌<◌, cond, List, [], length, take, Option, Result, Ok, Err, slice_range, refl, false, sym, ap, ◌∙◌, subst}
+use Rattle.std.proofs.Common.{◌≡◌, ℕ, ◌≤◌, ◌<◌, cond, List, [], length, take, Option, Result, Ok, Err, slice_range, sym, ap, ◌∙◌, subst}
 use Rattle.std.specs.Io.KnownBytes.{Keeps, Appends}
-use Rattle.std.specs.Result.{IsErr}
-use Rattle.std.proofs.lemmas.Bool.{both_ways}
 use Rattle.std.proofs.KnownBytes.{Appends-nil, Appends-kept}
 use native.Mathlib.Nat.{sub-zero}
 use lib.Seq.{take-length}
@@ -17,12 +15,6 @@ use Rattle.answer_text.specs.Answered.{lines_of, printed_of}
 pub added-kept : (r : Result ℕ Failed) (old mid new : Option (List ℕ)) (text : List ℕ) → Appends old mid text → Keeps mid new → Added r old new text
 added-kept (Ok k) old mid new text h kept = Appends-kept old mid new text h kept
 added-kept (Err e) old mid new text h kept = (length text, subst (Appends old new) (sym (take-length text)) (Appends-kept old mid new text h kept))
-
--- one that failed got a front of the text
-pub added-failed : (r : Result ℕ Failed) (old new : Option (List ℕ)) (text : List ℕ) → IsErr r → ((n : ℕ) × Appends old new (take n text))
-    → Added r old new text
-added-failed (Ok k) old new text e h = absurd (both_ways false refl e)
-added-failed (Err x) old new text e h = h
 
 -- one that was kept got none
 pub added_none : (r : Result ℕ Failed) (old new : Option (List ℕ)) → Keeps old new → Added r old new []

@@ -119,26 +119,15 @@ fn add_witnesses(usage: &Usages, next: usize, provers: &mut Provers)
 }
 
 // Usages and prover ids of a readable record, in the arrays that are lent, whatever they hold.
-pub fn classify_defs<'a>(
-    record: Record<'a>,
-    usage: &'a mut Usages,
-    provers: &'a mut Provers,
-) -> Classes<'a>
-    ensures { (result.record ≡ record.entry)
-        × (result.usage.now ≡ usages_of record.entry.bytes.now)
-        × (result.provers.now ≡ marks_of record.entry.bytes.now) }
+pub fn classify_defs(record: &Record, usage: &mut Usages, provers: &mut Provers)
+    ensures { (usage.new ≡ usages_of record.now.bytes.now) × (provers.new ≡ marks_of record.now.bytes.now) }
 {
     *usage = [Usage::Never; ID_COUNT];
     *provers = [false; ID_COUNT];
-    mark_provers(&record, provers);
-    mark_equations(&record, usage);
-    mark_definitions(&record, provers, usage);
+    mark_provers(record, provers);
+    mark_equations(record, usage);
+    mark_definitions(record, provers, usage);
     add_witnesses(usage, record.layout.next, provers);
-    Classes {
-        record,
-        usage,
-        provers,
-    }
 }
 
 // Neither `^` nor `=`.
@@ -177,6 +166,15 @@ fn cuttable_equations(record: &Record) -> bool
     (0..record.layout.equations).all(|k| cuttable_equation(record, record.equation(k)))
 }
 
+// Whether an id is not used, in any array of usages.
+pub fn is_never(usage: &Usages, v: usize) -> bool
+    requires { v < IDS }
+    ensures { result ≡ is_never (usage_of usage.now v) }
+{
+    let u = usage[v];
+    u == Usage::Never
+}
+
 // Kept as it is: each asks that its id is below IDS, which Record's methods promise of what they read; a type for ids would be made of each id that is read.
 impl Classes<'_> {
     // Whether the id is not used.
@@ -184,8 +182,7 @@ impl Classes<'_> {
         requires { v < IDS }
         ensures { result ≡ is_never (usage_of self.now.usage.now v) }
     {
-        let u = self.usage[v];
-        u == Usage::Never
+        is_never(self.usage, v)
     }
 
     // Whether the id is the prover's.

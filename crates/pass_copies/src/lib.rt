@@ -15,7 +15,7 @@ use constraint::Term;
 use flat::Node;
 use flat::entries::DefinitionEntry;
 use pass_classify::record::Record;
-use pass_classify::{Usage, Usages};
+use pass_classify::{Usages, is_never};
 use records::flat_record::ID_COUNT;
 
 // What stands for an id.
@@ -117,15 +117,6 @@ pub fn is_dead(a: Option<Term>, b: Option<Term>) -> bool
         (Some(x), Some(y)) => x == y,
         _ => false,
     }
-}
-
-// Whether an id is not used.
-fn is_never(usage: &Usages, v: usize) -> bool
-    requires { v < IDS }
-    ensures { result ≡ is_never (usage_of usage.now v) }
-{
-    let u = usage[v];
-    u == Usage::Never
 }
 
 // How many of the record's definitions are used, in any array of usages: after classify_defs the steps that suffice for every walk.

@@ -20,7 +20,7 @@ use built::Built;
 pub use lists::OUTPUT_BYTES;
 use lists::{BODY_BYTES, LIST_BYTES};
 use pass_classify::record::Record;
-use pass_classify::{Usage, classify_defs};
+use pass_classify::{Classes, Usage, classify_defs};
 use records::flat_record::ID_COUNT;
 use records::refusals::Refusal;
 use words::filled;
@@ -47,9 +47,15 @@ impl Buffers {
         ensures body_after { self.new.body ≡ body_after self.old.body (module_of s.now) }
         ensures list_after { self.new.list ≡ list_after self.old.list (module_of s.now) }
     {
+        let record = Record::new(s);
         let mut usage = [Usage::Never; ID_COUNT];
         let mut provers = [false; ID_COUNT];
-        let classes = classify_defs(Record::new(s), &mut usage, &mut provers);
+        classify_defs(&record, &mut usage, &mut provers);
+        let classes = Classes {
+            record,
+            usage: &usage,
+            provers: &provers,
+        };
         run_passes(&classes, &mut self.body, &mut self.list)
     }
 }

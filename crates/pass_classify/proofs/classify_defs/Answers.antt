@@ -1,6 +1,5 @@
 -- `pass_classify::classify_defs` meets its contract. Assumes nothing.
 use native.Mathlib.Omega.{arith}
-use mathlib.Core.Path.{refl}
 use mathlib.Core.Bool.{false}
 use lib.ListN.{replicate}
 use Rattle.pass_trees.specs.declared.Usage.TheVariants.{Never}
@@ -15,16 +14,13 @@ pub mark_definitions-requires : goal.mark_definitions-requires
 mark_definitions-requires c = provers-marked _ (replicate 65536 false) none-marked c.mark_provers.ensures
 
 pub add_witnesses-requires : goal.add_witnesses-requires
-add_witnesses-requires c = omega (arith, next-laid _ c.args.record.laid, c.args.record.readable.next_small)
+add_witnesses-requires c = omega (arith, next-laid _ c.args.record.now.laid, c.args.record.now.readable.next_small)
 
-classes : (c : After-add_witnesses) → Classified c.args.record.bytes.now c.mark_definitions.new.usage c.add_witnesses.new.provers
+classes : (c : After-add_witnesses) → Classified c.args.record.now.bytes.now c.mark_definitions.new.usage c.add_witnesses.new.provers
 classes c =
-    classified-whole (replicate 65536 Never) (replicate 65536 false) c.args.record.readable none-used none-marked
-    (next-laid _ c.args.record.laid) c.mark_provers.ensures c.mark_equations.ensures c.mark_definitions.ensures
+    classified-whole (replicate 65536 Never) (replicate 65536 false) c.args.record.now.readable none-used none-marked
+    (next-laid _ c.args.record.now.laid) c.mark_provers.ensures c.mark_equations.ensures c.mark_definitions.ensures
     c.add_witnesses.ensures
 
-pub invariant_of-result : goal.invariant_of-result
-invariant_of-result c = record { classified = classes (goal.at.invariant_of-result c).After-add_witnesses }
-
 pub returns : goal.returns
-returns c = let k = classes (goal.at.returns c).After-add_witnesses in (refl, usages-are k, marks-are k)
+returns c = let k = classes (goal.at.returns c).After-add_witnesses in (usages-are k, marks-are k)

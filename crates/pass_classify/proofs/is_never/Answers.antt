@@ -1,7 +1,7 @@
--- `pass_classify::Classes::is_never` meets its contract. Assumes nothing.
+-- `pass_classify::is_never` meets its contract. Assumes nothing.
 use borrow.Author.Rules.{rules}
 use Rattle.pass_trees.specs.Passes.{is_never}
-use Rattle.pass_classify.proofs.Classes.is_never.Goals as goal
+use Rattle.pass_classify.proofs.is_never.Goals as goal
 
 pub returns : goal.returns
 unfolding is_never
