@@ -10,11 +10,13 @@ use lib.Seq.{get_or-drop, get_or-take, length-take-le}
 use borrow.Author.Tests.{eqb-true}
 use native.Mathlib.Numerals.{add-one}
 use native.Mathlib.Omega.{arith}
-use Rattle.std.specs.List.{list_all}
+use Rattle.std.specs.List.{fold, list_all}
 use Rattle.std.proofs.Common.{ap₂}
 use Rattle.marks.specs.Indices.{every}
 use Rattle.marks.proofs.Indices.{and_left, and_right, every-front, every-same}
 use Rattle.std.proofs.lemmas.Bool.{both_ways, false_from_ne_true}
+use Rattle.std.proofs.lemmas.List.{take_all}
+use Rattle.std.proofs.lemmas.List.Sums.{fold_more}
 use Rattle.source.specs.Names.{printed, names_fit, same_bytes, same_name, name_of, offset_of, length_of}
 use Rattle.source.proofs.Names.{named-at, same_text, text_same}
 use Rattle.source_check.specs.Fingerprints.{step, fingerprint_of, Fingerprinted}
@@ -83,6 +85,27 @@ name-print b text n k h l =
     length-take-le (length_of b k) (drop from b) (simp length-drop (omega (arith, within))) in
     rw long (print-front _ b 0 from (length_of b k) (λ i g.
     let at : 0 + i ≡ i = omega arith in rw at (get_or-take (length_of b k) (drop from b) i 0 g ∙ get_or-drop from b i 0)))
+
+print-taken : (name : List ℕ) (n : ℕ) → n ≤ length name → fingerprint_of name 0 n ≡ fold step 0 (take n name)
+unfolding fingerprint_of
+print-taken name zero l = refl
+print-taken name (suc n) l =
+    let at : 0 + n ≡ n = omega arith in
+    rw at (ap (λ h. step h (get_or name n 0)) (print-taken name n (omega (arith, l))) ∙ rw add-one at (sym (fold_more step 0 name n 0 (omega (arith, l)))))
+
+-- a fingerprint is one fold over a name's bytes
+pub print-fold : (name : List ℕ) → fingerprint_of name 0 (length name) ≡ fold step 0 name
+print-fold name = print-taken name (length name) (omega arith) ∙ ap (fold step 0) (take_all (length name) name (omega arith))
+
+module _ (b : List ℕ) (text n : ℕ) (h : names_fit b text n ≡ true) where
+  -- so is that of each name that fits
+  pub name-fold : (k : ℕ) → k < n → fingerprint_of b (text + offset_of b k) (length_of b k) ≡ fold step 0 (name_of b text k)
+  name-fold k l = sym (name-print b text n k h l) ∙ print-fold (name_of b text k)
+
+  -- and names differ where an array holds different folds of them
+  pub folds-differ : {j k : ℕ} → j < n → k < n → (r : List ℕ) → ((i : ℕ) → i < n → get_or r i 0 ≡ fold step 0 (name_of b text i))
+      → (get_or r j 0 ≡ get_or r k 0 → ⊥) → same_name b text j k ≡ false
+  folds-differ {j} {k} p q r f d = sym (prints-differ b text n j k r (λ i l. f i l ∙ sym (name-fold i l)) p q d)
 
 -- bytes that a slice holds
 pub all-printed : (b : List ℕ) (from n : ℕ) → from + n ≤ length b → list_all (λ c. leb 33 c && leb c 126) (take n (drop from b)) ≡ printed b from n
